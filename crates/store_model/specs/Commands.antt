@@ -1,0 +1,74 @@
+-- The commands of a script, and the replies with their text.
+use Rattle.std.specs.Prelude.{ℕ, List, [], ◌∷◌, ◌++◌, map, Option, Some, None, codes}
+use Rattle.std.specs.Fmt.{decimal}
+use Rattle.std.specs.List.{flat_map}
+use Rattle.hex.specs.Hex.{encode_lower}
+use Rattle.store_model.specs.declared.refusal.Refusal.{Refusal}
+use Rattle.store_model.specs.declared.refusal.Refusal.TheVariants as refusals
+use Rattle.store_model.specs.Paths.{Path, Name}
+
+pub data Command : Type 0 where
+  Make : Path → Command
+  Write : Path → ℕ → List ℕ → Command
+  Cut : Path → ℕ → Command
+  Rename : Path → Path → Command
+  Remove : Path → Command
+  Prune : Path → Command
+  List_children : Path → Command
+  Read : Path → ℕ → ℕ → Command
+  Space : Command
+  Digest : Command
+
+-- a child's name, and for a file its size
+abbrev pub Child : Type 0
+Child = Name × Option ℕ
+
+pub data Reply : Type 0 where
+  Done : Reply
+  Content : List ℕ → Reply
+  Listing : List Child → Reply
+  Usage : ℕ → ℕ → Reply
+  Image_digest : List ℕ → Reply
+  Refused : Refusal → Reply
+
+-- the word that a refusal prints
+unfoldable pub refusal_text : Refusal → List ℕ
+refusal_text refusals.Long = codes "long"
+refusal_text refusals.Syntax = codes "syntax"
+refusal_text refusals.Path = codes "path"
+refusal_text refusals.Root = codes "root"
+refusal_text refusals.Parent = codes "parent"
+refusal_text refusals.Exists = codes "exists"
+refusal_text refusals.Missing = codes "missing"
+refusal_text refusals.Inside = codes "inside"
+refusal_text refusals.Kind = codes "kind"
+refusal_text refusals.Gap = codes "gap"
+refusal_text refusals.Big = codes "big"
+refusal_text refusals.NotEmpty = codes "notempty"
+refusal_text (refusals.Full need slots) = codes "full " ++ decimal need ++ codes " " ++ decimal slots
+
+-- `-` for no bytes, and else two lower-case digits a byte
+unfoldable pub content_text : List ℕ → List ℕ
+content_text [] = codes "-"
+content_text (b ∷ bytes) = encode_lower (b ∷ bytes)
+
+-- a line of text: the text and LF
+abbrev pub line : List ℕ → List ℕ
+line text = text ++ 10 ∷ []
+
+-- `d NAME` for a directory and `f NAME SIZE` for a file
+unfoldable pub child_line : Child → List ℕ
+child_line child = child_text child.0 child.1
+  where
+    child_text : Name → Option ℕ → List ℕ
+    child_text name None = line (codes "d " ++ name)
+    child_text name (Some size) = line (codes "f " ++ name ++ codes " " ++ decimal size)
+
+-- the bytes of a reply, each of its lines ended by LF
+unfoldable pub reply_text : Reply → List ℕ
+reply_text Done = line (codes "ok")
+reply_text (Content bytes) = line (codes "ok " ++ content_text bytes)
+reply_text (Listing children) = flat_map child_line children ++ line (codes "end")
+reply_text (Usage used slots) = line (codes "space " ++ decimal used ++ codes " " ++ decimal slots)
+reply_text (Image_digest digest) = line (codes "digest " ++ encode_lower digest)
+reply_text (Refused refusal) = line (codes "no " ++ refusal_text refusal)

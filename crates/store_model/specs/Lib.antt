@@ -1,0 +1,17 @@
+pub mod Lists
+pub mod Parameters
+pub mod Paths
+pub mod Trees
+pub mod Pairs
+pub mod Labels
+pub mod Draws
+pub mod Pages
+pub mod Placement
+pub mod Images
+pub mod Commands
+pub mod Steps
+pub mod Grammar
+pub mod Scripts
+pub mod Words
+pub mod Examples
+pub mod Compute

@@ -1,0 +1,33 @@
+-- The list of pairs that spells a tree: the list layer's view of it.
+use Rattle.std.specs.Prelude.{ℕ, suc, List, [], ◌∷◌, ◌++◌, map, length}
+use Rattle.std.specs.Int.{w32, to_be_bytes}
+use Rattle.std.specs.List.{flat_map, enumerate_from}
+use Rattle.store_model.specs.Lists.{runs}
+use Rattle.store_model.specs.Parameters.{Parameters}
+use Rattle.store_model.specs.Paths.{Path, key}
+use Rattle.store_model.specs.Trees.{Tree, Node}
+use Rattle.store_model.specs.Trees.Node.{Directory, File}
+
+-- a key of 124 bytes and a value of 1 to 256 bytes
+abbrev pub Pair : Type 0
+Pair = List ℕ × List ℕ
+
+-- the bytes of a file in one pair
+abbrev pub file_block : ℕ
+file_block = 256
+
+-- the value of a directory's one pair, and of the first pair of a file with n bytes
+abbrev pub directory_value : List ℕ
+directory_value = 1 ∷ []
+
+abbrev pub file_value : ℕ → List ℕ
+file_value n = 2 ∷ to_be_bytes w32 n
+
+-- the pairs of what stands at a path. The blocks of a file are numbered from 1
+unfoldable pub node_pairs : Path → Node → Parameters → List Pair
+node_pairs path Directory p = (key path 0, directory_value) ∷ []
+node_pairs path (File bytes) p = (key path 0, file_value (length bytes)) ∷ map (λ b. (key path b.0, b.1)) (enumerate_from 1 (runs file_block bytes))
+
+-- the pairs of a tree, path after path. They rise by key, since paths and keys have one order
+unfoldable pub pairs : Tree → Parameters → List Pair
+pairs t p = flat_map (λ e. node_pairs e.0 e.1 p) t

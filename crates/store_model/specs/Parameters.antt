@@ -1,0 +1,52 @@
+-- What an image is made with, and where its areas lie.
+use Rattle.std.specs.Prelude.{◌≡◌, ℕ, ◌+◌, ◌*◌, ◌/◌, ◌≤◌, List, length}
+use Rattle.store_model.specs.declared.draw_kind.DrawKind.{DrawKind}
+use Rattle.store_model.specs.Lists.{IsBytes}
+
+-- the number of table slots, the height of the lists, how starts and levels are drawn, and the seed
+pub record Parameters : Type 0 where
+  pub slots : ℕ
+  pub height : ℕ
+  pub kind : DrawKind
+  pub seed : List ℕ
+
+-- the ranges: 1 to 16,384 slots, heights 1 to 8, a seed of 32 bytes
+pub record IsParameters (p : Parameters) : Type 0 where
+  pub some_slot : 1 ≤ p.slots
+  pub slots_in_range : p.slots ≤ 16384
+  pub some_level : 1 ≤ p.height
+  pub height_in_range : p.height ≤ 8
+  pub seed_length : length p.seed ≡ 32
+  pub seed_bytes : IsBytes p.seed
+
+-- the bytes of a block, and of a slot
+abbrev pub block_len : ℕ
+block_len = 4096
+
+-- the blocks of the marks area: a byte for each slot and one that is reserved
+unfoldable pub mark_blocks : ℕ → ℕ
+mark_blocks slots = (slots + 1 + 4095) / 4096
+
+-- the first byte of the gate block
+abbrev pub gate_at : ℕ
+gate_at = 4096
+
+-- the first byte of the marks area
+abbrev pub marks_at : ℕ
+marks_at = 8192
+
+-- the mark of slot i
+abbrev pub mark_at : ℕ → ℕ
+mark_at i = 8192 + i
+
+-- the shadow block of slot i
+unfoldable pub shadow_at : ℕ → ℕ → ℕ
+shadow_at slots i = 4096 * (2 + mark_blocks slots + i)
+
+-- slot i of the table
+unfoldable pub table_at : ℕ → ℕ → ℕ
+table_at slots i = 4096 * (2 + mark_blocks slots + slots + i)
+
+-- the length of an image
+unfoldable pub image_len : ℕ → ℕ
+image_len slots = 4096 * (2 + mark_blocks slots + 2 * slots)

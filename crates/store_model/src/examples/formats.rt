@@ -1,0 +1,42 @@
+//! Lengths of images, the header, and the bytes of slots.
+#![tactic(auto, unfolding(crate::specs::Compute::everything))]
+
+ghost use Rattle.std.specs.Prelude.{◌≡◌, ℕ, ◌+◌, ◌-◌, List, [], ◌∷◌, ◌++◌, codes, take, drop, length, Some, None};
+ghost use Rattle.store_model.specs.Lists.{zeros};
+ghost use Rattle.store_model.specs.Parameters.{image_len};
+ghost use Rattle.store_model.specs.Labels.{label_bytes};
+ghost use Rattle.store_model.specs.Images.{header, slot_bytes};
+ghost use Rattle.store_model.specs.Examples.{ruler, start_label, led_label, page, directory_cell, key_cell, key_of};
+
+/// The lengths of images.
+pub fn image_lengths()
+    ensures one { image_len 1 ≡ 20480 }
+    ensures four { image_len 4 ≡ 45056 }
+    ensures one_mark_block { image_len 4095 ≡ 33558528 }
+    ensures two_mark_blocks { image_len 4096 ≡ 33570816 }
+    ensures largest { image_len 16384 ≡ 134246400 }
+{}
+
+/// The header of `format 1 1 ruler` with a seed of zeros.
+pub fn header_of_one_slot()
+    ensures front { take 16 (header (ruler 1 1)) ≡
+        0x48 ∷ 0x53 ∷ 0x54 ∷ 0x4f ∷ 0x52 ∷ 0x45 ∷ 0x30 ∷ 0x31 ∷ 0 ∷ 0 ∷ 0 ∷ 1 ∷ 1 ∷ 0 ∷ 1 ∷ 0 ∷ [] }
+    ensures behind { drop 16 (header (ruler 1 1)) ≡ zeros 4080 }
+{}
+
+/// The slot of the directory `/a` in a table of one slot.
+pub fn slot_of_one_directory()
+    ensures { slot_bytes (Some (page (start_label 0 0) (directory_cell (codes "a") ∷ []))) ≡
+        1 ∷ zeros 130 ++ 1 ∷ 0x61 ∷ zeros 123 ++ 0 ∷ 1 ∷ 1 ∷ zeros (4095 - 258) }
+{}
+
+/// The slots of `/Ua` and `/UU` in a table of four slots.
+pub fn slots_of_two_directories()
+    ensures ua { slot_bytes (Some (page (led_label 0 (codes "Ua")) (directory_cell (codes "Ua") ∷ []))) ≡
+        1 ∷ 0 ∷ 1 ∷ 0x55 ∷ 0x61 ∷ zeros 126 ++ 1 ∷ 0x55 ∷ 0x61 ∷ zeros 122 ++ 0 ∷ 1 ∷ 1 ∷ zeros (4096 - 259) }
+    ensures upper { slot_bytes (Some (page (start_label 1 0) (key_cell (codes "UU") ∷ key_cell (codes "Ua") ∷ []))) ≡
+        1 ∷ 1 ∷ zeros 129 ++ 2 ∷ 0x55 ∷ 0x55 ∷ zeros 122 ++ 0x55 ∷ 0x61 ∷ zeros (122 + 4096 - 380) }
+    ensures empty { slot_bytes None ≡ zeros 4096 }
+    ensures uu { slot_bytes (Some (page (led_label 0 (codes "UU")) (directory_cell (codes "UU") ∷ []))) ≡
+        1 ∷ 0 ∷ 1 ∷ 0x55 ∷ 0x55 ∷ zeros 126 ++ 1 ∷ 0x55 ∷ 0x55 ∷ zeros 122 ++ 0 ∷ 1 ∷ 1 ∷ zeros (4096 - 259) }
+{}

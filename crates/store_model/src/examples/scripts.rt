@@ -1,0 +1,1 @@
+#![tactic(auto, unfolding(crate::specs::Compute::everything))]

@@ -1,0 +1,8 @@
+//! Laws of the definitions, each the contract of a function with an empty body: what a reader would
+//! expect of them, proved for all values.
+
+pub mod images;
+pub mod pages;
+pub mod pairs;
+pub mod placement;
+pub mod scripts;

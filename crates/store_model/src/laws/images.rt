@@ -1,0 +1,2 @@
+//! Laws of recovery and layouts.
+#![tactic(auto)]

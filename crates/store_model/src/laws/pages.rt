@@ -1,0 +1,2 @@
+//! Laws of lists of pairs and their pages.
+#![tactic(auto)]

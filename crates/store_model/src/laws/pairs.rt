@@ -1,0 +1,2 @@
+//! Laws of the pairs of a tree.
+#![tactic(auto)]

@@ -1,0 +1,2 @@
+//! Laws of greedy placement by rank.
+#![tactic(auto)]

@@ -1,0 +1,2 @@
+//! Laws of steps and scripts.
+#![tactic(auto)]
