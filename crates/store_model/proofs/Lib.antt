@@ -1,2 +1,3 @@
 pub mod ListsLemmas
 pub mod PathsLemmas
+pub mod PairsLemmas
