@@ -1,3 +1,5 @@
 pub mod ListsLemmas
+pub mod ListsLemmasCuts
 pub mod PathsLemmas
 pub mod PairsLemmas
+pub mod PagesLemmas
