@@ -3,3 +3,4 @@ pub mod ListsLemmasCuts
 pub mod PathsLemmas
 pub mod PairsLemmas
 pub mod PagesLemmas
+pub mod PagesLemmasOrder

@@ -1,7 +1,7 @@
 -- Lemmas on lists: how they compare, and when a list rises.
 use Rattle.std.proofs.Common.{◌≡◌, ℕ, zero, suc, ◌+◌, ◌*◌, ◌/◌, ◌%◌, ◌<◌, ◌≤◌, List, [], map, ◌∷◌, ◌++◌, length, replicate, refl, sym, ap, ◌∙◌, cond, arith, ap₂, Bool, true, false, ◌&&◌, IsTrue, Ordering, Less, Equal, Greater, nat_cmp}
 use Rattle.std.specs.Ordering.{ordering_then, is_lt}
-use Rattle.std.specs.List.{AllByRecursion, list_all, flat_map, enumerate_from}
+use Rattle.std.specs.List.{AllByRecursion, list_all, flat_map, filter, enumerate_from}
 use Rattle.std.specs.List.Sorted.{IsStrictlySortedBy}
 use Rattle.std.specs.FinMap.{is_sorted}
 use Rattle.std.specs.FinMap.Entries.{below_all}
@@ -214,3 +214,48 @@ length-numbers_from first (suc count) = ap suc (length-numbers_from (suc first) 
 pub length-runs : {A : Type 0} (n : ℕ) (xs : List A) → length (runs n xs) ≡ run_count n (length xs)
 unfolding runs
 length-runs n xs = length-map (numbers_below (run_count n (length xs))) (run_at n xs) ∙ length-numbers_from 0 (run_count n (length xs))
+
+pub all_filter : {X : Type 0} (P : X → Type 0) (test : X → Bool) (xs : List X) → AllByRecursion P xs → AllByRecursion P (filter test xs)
+all_filter P test [] h = tt
+all_filter P test (x ∷ xs) h =
+    let rest = all_filter P test xs h.1 in
+    elim (test x) as (λ b. AllByRecursion P (cond b (x ∷ filter test xs) (filter test xs))) [ true ↦ (h.0, rest) | false ↦ rest ]
+
+all_from_map : {X Y : Type 0} (Q : Y → Type 0) (f : X → Y) (xs : List X) → AllByRecursion Q (map f xs) → AllByRecursion (λ x. Q (f x)) xs
+all_from_map Q f [] h = tt
+all_from_map Q f (x ∷ xs) h = (h.0, all_from_map Q f xs h.1)
+
+pub rising_from_map : {X K : Type 0} (c : K → K → Ordering) (f : X → K) (xs : List X) → IsStrictlySortedBy c (map f xs) → IsStrictlySortedBy (λ a b. c (f a) (f b)) xs
+unfolding IsStrictlySortedBy
+rising_from_map c f [] h = tt
+rising_from_map c f (x ∷ xs) h = (all_from_map _ f xs h.0, rising_from_map c f xs h.1)
+
+pub rising_to_map : {X K : Type 0} (c : K → K → Ordering) (f : X → K) (xs : List X) → IsStrictlySortedBy (λ a b. c (f a) (f b)) xs → IsStrictlySortedBy c (map f xs)
+rising_to_map c f xs h = rising_map (λ a b. c (f a) (f b)) c f (λ x. Unit {0}) (λ a b u v l. l) xs (all_none _ (λ x. tt) xs) h
+
+pub rising_nil : {K : Type 0} (c : K → K → Ordering) → IsStrictlySortedBy c []
+unfolding IsStrictlySortedBy
+rising_nil c = tt
+
+pub rising_head : {K : Type 0} (c : K → K → Ordering) (x : K) (xs : List K) → IsStrictlySortedBy c (x ∷ xs) → AllByRecursion (λ y. c x y ≡ Less) xs
+unfolding IsStrictlySortedBy
+rising_head c x xs h = h.0
+
+pub rising_tail : {K : Type 0} (c : K → K → Ordering) (x : K) (xs : List K) → IsStrictlySortedBy c (x ∷ xs) → IsStrictlySortedBy c xs
+unfolding IsStrictlySortedBy
+rising_tail c x xs h = h.1
+
+pub all_numbers_from : (first count : ℕ) → AllByRecursion (λ n. first ≤ n) (numbers_from first count)
+unfolding numbers_from
+all_numbers_from first zero = tt
+all_numbers_from first (suc count) = (omega arith, all_weaker _ _ (λ n h. omega arith) (numbers_from (suc first) count) (all_numbers_from (suc first) count))
+
+pub all_numbers_below : (first count : ℕ) → AllByRecursion (λ n. n < first + count) (numbers_from first count)
+unfolding numbers_from
+all_numbers_below first zero = tt
+all_numbers_below first (suc count) = (omega arith, all_weaker _ _ (λ n h. omega arith) (numbers_from (suc first) count) (all_numbers_below (suc first) count))
+
+pub rising_numbers_from : (first count : ℕ) → IsStrictlySortedBy nat_cmp (numbers_from first count)
+unfolding IsStrictlySortedBy numbers_from
+rising_numbers_from first zero = tt
+rising_numbers_from first (suc count) = (all_weaker _ _ (λ n h. nat_cmp-lt first n h) (numbers_from (suc first) count) (all_numbers_from (suc first) count), rising_numbers_from (suc first) count)

@@ -60,3 +60,21 @@ pub flat_map-cut_before : {A : Type 0} (cuts : A → Bool) (xs : List A) → fla
 unfolding cut_before
 flat_map-cut_before cuts [] = refl
 flat_map-cut_before cuts (x ∷ xs) = flat_map-onto_part cuts x (cut_before cuts xs) ∙ ap (λ ys. x ∷ ys) (flat_map-cut_before cuts xs)
+
+-- what holds of each element of a list that is cut holds of each element of each part
+pub all_parts : {A : Type 0} (P : A → Type 0) (parts : List (List A)) → AllByRecursion P (flat_map (λ part. part) parts) → AllByRecursion (AllByRecursion P) parts
+all_parts P [] h = tt
+all_parts P (part ∷ parts) h = (all_front P part (flat_map (λ p. p) parts) h, all_parts P parts (all_back P part (flat_map (λ p. p) parts) h))
+
+-- no part is longer than all parts together
+pub length_of_parts : {A : Type 0} (n : ℕ) (parts : List (List A)) → length (flat_map (λ part. part) parts) ≤ n → AllByRecursion (λ part. length part ≤ n) parts
+length_of_parts n [] h = tt
+length_of_parts n (part ∷ parts) h =
+    let e = length-append part (flat_map (λ p. p) parts) in
+    (omega arith, length_of_parts n parts (omega arith))
+
+pub length-filter-le : {A : Type 0} (test : A → Bool) (xs : List A) → length (filter test xs) ≤ length xs
+length-filter-le test [] = omega arith
+length-filter-le test (x ∷ xs) =
+    let rest = length-filter-le test xs in
+    elim (test x) as (λ b. length (cond b (x ∷ filter test xs) (filter test xs)) ≤ suc (length xs)) [ true ↦ omega arith | false ↦ omega arith ]
