@@ -4,3 +4,4 @@ pub mod PathsLemmas
 pub mod PairsLemmas
 pub mod PagesLemmas
 pub mod PagesLemmasOrder
+pub mod PagesLemmasSizes
