@@ -5,3 +5,4 @@ pub mod PairsLemmas
 pub mod PagesLemmas
 pub mod PagesLemmasOrder
 pub mod PagesLemmasSizes
+pub mod PagesLemmasKeys
