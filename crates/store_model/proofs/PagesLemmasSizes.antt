@@ -28,6 +28,7 @@ pub record IsPairList (s : List Pair) : Type 0 where
   pub each : AllByRecursion IsPair s
   pub few : length s ≤ 4294967296
 
+-- the part of it that the order of labels needs
 pub keyed : (s : List Pair) → IsPairList s → IsKeyed s
 keyed s h = record { sorted = h.sorted; lengths = all_weaker _ _ (λ pair g. g.0) s h.each; few = h.few }
 
@@ -39,6 +40,7 @@ cell_of_pair level pair h = go (level == 0) refl
     go true e = record { key_length = h.0; key_bytes = h.1; value = (eqb-true level 0 e, h.2) }
     go false e = record { key_length = h.0; key_bytes = h.1; value = (let apart = eqb-false level 0 e in omega arith) }
 
+-- the cells of a level's list are cells of that level
 cells_of_level_list : (d : Draw) (s : List Pair) (level : ℕ) → IsPairList s → AllByRecursion (IsCell level) (level_list d s level)
 unfolding level_list
 cells_of_level_list d s level h =
@@ -57,6 +59,7 @@ record IsCellGroup (level : ℕ) (cells : List Cell) : Type 0 where
   rising : IsStrictlySortedBy cell_cmp cells
   few : length cells ≤ 4294967296
 
+-- each group of a level is one
 all_cell_groups : (d : Draw) (s : List Pair) (level : ℕ) → IsPairList s → AllByRecursion (IsCellGroup level) (groups d s level)
 unfolding groups
 all_cell_groups d s level h =
@@ -75,6 +78,7 @@ record IsRun (level : ℕ) (run : List Cell) : Type 0 where
   each : AllByRecursion (IsCell level) run
   rising : IsStrictlySortedBy cell_cmp run
 
+-- each run of a group is one
 all_cell_runs : (level : ℕ) (cells : List Cell) → IsCellGroup level cells → AllByRecursion (IsRun level) (runs (page_room level) cells)
 all_cell_runs level cells h =
     let parts = runs (page_room level) cells in
@@ -82,6 +86,7 @@ all_cell_runs level cells h =
     (all_with _ _ _ (λ run a b. (a, b)) parts (all_runs (IsCell level) (page_room level) cells (some_room level) h.each) (rising_runs cell_cmp (page_room level) cells (some_room level) h.rising))
     (lengths_of_runs (page_room level) cells (some_room level))
 
+-- the page of a run can stand in a slot
 page_of_run : (level : ℕ) (lead : Lead) (index : ℕ) (run : List Cell) → level < 256 → IsLead lead → index < 4294967296 → IsRun level run → IsPage (page_of level lead (index, run))
 page_of_run level lead index run small l few h = record {
   label = record { level = small; lead = l; index = few };
@@ -91,6 +96,7 @@ page_of_run level lead index run small l few h = record {
   rising = rising_to_map key_cmp (λ c. c.key) run h.rising;
 }
 
+-- and so can each page of a group
 group_pages_are_pages : (level : ℕ) (lead : Lead) (cells : List Cell) → level < 256 → IsLead lead → IsCellGroup level cells → AllByRecursion IsPage (group_pages level lead cells)
 unfolding group_pages
 group_pages_are_pages level lead cells small l h =
@@ -98,6 +104,7 @@ group_pages_are_pages level lead cells small l h =
     all_map (λ run. (run.0 < 4294967296) × IsRun level run.1) IsPage (page_of level lead) (λ run g. page_of_run level lead run.0 run.1 small l g.0 g.1) (enumerate_from 0 parts)
     (all_with _ _ _ (λ run a b. (a, b)) (enumerate_from 0 parts) (run_number_in_range level cells h.few) (all_enumerate_from (IsRun level) 0 parts (all_cell_runs level cells h)))
 
+-- and of a level
 pub level_pages_are_pages : (d : Draw) (s : List Pair) (level : ℕ) → level < 256 → IsPairList s → AllByRecursion IsPage (level_pages d s level)
 unfolding level_pages
 level_pages_are_pages d s level small h =
@@ -114,6 +121,7 @@ pages_are_pages d s low h =
 
 -- ---- a tree that fits has few pairs
 
+-- no page of a group has more cells than its level allows
 room_of_group : (level : ℕ) (lead : Lead) (cells : List Cell) → AllByRecursion (λ page. length page.cells ≤ page_room level) (group_pages level lead cells)
 unfolding group_pages
 room_of_group level lead cells =
@@ -121,12 +129,14 @@ room_of_group level lead cells =
     all_map (λ run. (1 ≤ length run.1) × (length run.1 ≤ page_room level)) (λ page. length page.cells ≤ page_room level) (page_of level lead) (λ run l. l.1) (enumerate_from 0 parts)
     (all_enumerate_from (λ run. (1 ≤ length run) × (length run ≤ page_room level)) 0 parts (lengths_of_runs (page_room level) cells (some_room level)))
 
+-- nor has a page of a level
 room_of_level : (d : Draw) (s : List Pair) (level : ℕ) → AllByRecursion (λ page. length page.cells ≤ page_room level) (level_pages d s level)
 unfolding level_pages
 room_of_level d s level =
     all_flat_map (λ cells. Unit {0}) (λ page. length page.cells ≤ page_room level) (λ cells. group_pages level (lead_of d level cells) cells)
     (λ cells u. room_of_group level (lead_of d level cells) cells) (groups d s level) (all_none _ (λ cells. tt) (groups d s level))
 
+-- pages of at most n cells have at most n times as many cells as there are pages
 length_of_cells : (n : ℕ) (pages : List Page) → AllByRecursion (λ page. length page.cells ≤ n) pages → length (flat_map (λ page. page.cells) pages) ≤ n * length pages
 length_of_cells n [] h = omega arith
 length_of_cells n (page ∷ pages) h =
@@ -134,6 +144,7 @@ length_of_cells n (page ∷ pages) h =
     let first = h.0 in
     omega (arith, length-append page.cells (flat_map (λ p. p.cells) pages))
 
+-- the pages of level 0 are among all pages
 level_0_among_pages : (d : Draw) (s : List Pair) (height : ℕ) → 1 ≤ height → length (level_pages d s 0) ≤ length (flat_map (level_pages d s) (numbers_below height))
 unfolding numbers_from
 level_0_among_pages d s zero h = absurd (omega arith)
@@ -158,14 +169,17 @@ pair_list_of_tree t p h g fits =
       few = (let few = pairs_per_page (draw_of p) (pairs t p) h.some_level in let slots = h.slots_in_range in omega arith);
     }
 
+-- each page of such a tree can stand in a slot
 pub tree_pages_are_pages : (t : Tree) (p : Parameters) → IsParameters p → IsTree t → Fits t p → AllByRecursion IsPage (pages t p)
 unfolding pages draw_of
 tree_pages_are_pages t p h g fits = let low = h.height_in_range in pages_are_pages (draw_of p) (pairs t p) (omega arith) (pair_list_of_tree t p h g fits)
 
+-- the labels of its pages rise
 pub rising_tree_labels : (t : Tree) (p : Parameters) → IsParameters p → IsTree t → Fits t p → IsStrictlySortedBy label_cmp (map (λ page. page.label) (pages t p))
 unfolding pages
 rising_tree_labels t p h g fits = rising_labels (draw_of p) (pairs t p) (keyed (pairs t p) (pair_list_of_tree t p h g fits))
 
+-- and no two of them have the same bytes
 pub distinct_tree_labels : (t : Tree) (p : Parameters) → IsParameters p → IsTree t → Fits t p → IsDistinct (eq_by_cmp label_cmp) (map (λ page. page.label) (pages t p))
 unfolding pages
 distinct_tree_labels t p h g fits = distinct_labels (draw_of p) (pairs t p) (keyed (pairs t p) (pair_list_of_tree t p h g fits))
