@@ -1,1 +1,2 @@
 pub mod ScriptsLemmas
+pub mod ImagesLemmas
