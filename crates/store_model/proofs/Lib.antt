@@ -1,2 +1,3 @@
-pub mod ScriptsLemmas
+pub mod PlacementLemmas
 pub mod ImagesLemmas
+pub mod ScriptsLemmas
