@@ -1,15 +1,19 @@
 -- Where placement puts the pages: each in one slot, and nothing else.
 use Rattle.std.proofs.Common.{◌≡◌, ℕ, zero, suc, ◌+◌, ◌-◌, ◌%◌, ◌<◌, ◌≤◌, List, [], ◌∷◌, ◌++◌, Bool, true, false, cond, Option, Some, None, length, map, get_or, replicate, slice_get, slice_set, refl, ap, sym, subst, ◌∙◌, ◌⊎◌, inl, inr, ⊎_elim, arith, length-set}
-use Rattle.std.specs.List.{find, IsDistinct, AllByRecursion}
+use Rattle.std.specs.List.{find, IsDistinct, AllByRecursion, Contains}
 use Rattle.std.specs.List.Sorted.{IsPermutation}
 use Rattle.std.specs.declared.cmp.Ordering.{Ordering}
 use Rattle.std.specs.Ordering.{is_gt, is_eq, eq_by_cmp}
 use Rattle.std.specs.Cmp.{IsTotalOrder}
 use Rattle.std.proofs.Math.Nat.{mod-eq_of_lt, add-mod_left}
-use Rattle.std.proofs.lemmas.Bool.{cases_lt}
+use Rattle.std.proofs.lemmas.Bool.{cases_lt, false≢true}
+use Rattle.std.proofs.lemmas.Cmp.{tied_itself, eq_by_cmp_equiv, on_total, nat_list_cmp_total}
+use Rattle.std.proofs.lemmas.Map.Keys.{IsDistinct-head, IsDistinct-tail, IsDistinct-IsPermutation}
+use Rattle.std.proofs.lemmas.Option.{same_Some}
 use Rattle.std.proofs.lemmas.List.{length-map, length-replicate, get_or-map, append-nil}
-use Rattle.std.proofs.lemmas.List.Sorted.{IsPermutation-refl, IsPermutation-sym, IsPermutation-trans, IsPermutation-cons, IsPermutation-middle, IsPermutation-append_right, length_permutation}
+use Rattle.std.proofs.lemmas.List.Sorted.{IsPermutation-refl, IsPermutation-sym, IsPermutation-trans, IsPermutation-cons, IsPermutation-middle, IsPermutation-append_right, IsPermutation-map, length_permutation, Contains-permutation}
 use Rattle.store_model.specs.Lists.{numbers_from, numbers_below, insert_in_order, in_order}
+use Rattle.store_model.specs.Labels.{Label, label_bytes, label_cmp}
 use Rattle.store_model.specs.Draws.{Draw, IsLawful}
 use Rattle.store_model.specs.Pages.{Page}
 use Rattle.store_model.specs.Placement.{Table, probe, probes, holds_nothing, is_free, put_at, put_first_free, put_all, page_cmp, place, pages_in, HoldsPage}
@@ -163,3 +167,56 @@ IsPermutation-place d pages law room =
     let put = IsPermutation-put_all d (replicate d.slots None) (in_order page_cmp pages) law (length-replicate d.slots None) (omega (arith, length_permutation pages (in_order page_cmp pages) sorted, ap length none)) in
     IsPermutation-trans pages (in_order page_cmp pages) (pages_in (put_all d (replicate d.slots None) (in_order page_cmp pages))) sorted
     (subst (λ (ps : List Page). IsPermutation ps (pages_in (put_all d (replicate d.slots None) (in_order page_cmp pages)))) (ap (λ (ps : List Page). in_order page_cmp pages ++ ps) none ∙ append-nil (in_order page_cmp pages)) put)
+
+-- what holds of each page of a table, at a page that a slot holds
+pub held_passes : (P : Label → Type 0) (table : Table) (slot : ℕ) (page : Page) → AllByRecursion P (map (λ p. p.label) (pages_in table)) → HoldsPage table slot page → P page.label
+unfolding pages_in
+held_passes P [] slot page all e = cc
+held_passes P (None ∷ table) zero page all e = cc
+held_passes P (None ∷ table) (suc slot) page all e = held_passes P table slot page all e
+held_passes P (Some other ∷ table) zero page all e = subst (λ (p : Page). P p.label) (same_Some other page (same_Some (Some other) (Some page) e)) all.0
+held_passes P (Some other ∷ table) (suc slot) page all e = held_passes P table slot page all.1 e
+
+-- labels are in a total order
+pub label_cmp_total : IsTotalOrder label_cmp
+label_cmp_total = on_total label_bytes nat_list_cmp_total
+
+-- a label does not differ from itself
+not_itself : (k l : Label) → k ≡ l → eq_by_cmp label_cmp k l ≡ false → ⊥
+not_itself k l same e = false≢true (sym e ∙ ap (λ (m : Label). eq_by_cmp label_cmp k m) (sym same) ∙ ap is_eq (tied_itself label_cmp_total k))
+
+-- where labels differ, two slots that hold one page are one slot
+pub one_slot : (table : Table) (i j : ℕ) (page : Page) → IsDistinct (eq_by_cmp label_cmp) (map (λ p. p.label) (pages_in table)) → HoldsPage table i page → HoldsPage table j page → i ≡ j
+unfolding pages_in
+one_slot [] i j page distinct p q = cc
+one_slot (None ∷ table) zero j page distinct p q = cc
+one_slot (None ∷ table) (suc i) zero page distinct p q = cc
+one_slot (None ∷ table) (suc i) (suc j) page distinct p q = ap suc (one_slot table i j page distinct p q)
+one_slot (Some other ∷ table) zero zero page distinct p q = refl
+one_slot (Some other ∷ table) zero (suc j) page distinct p q =
+    absurd (not_itself other.label page.label (ap (λ (x : Page). x.label) (same_Some other page (same_Some (Some other) (Some page) p))) (held_passes (λ l. eq_by_cmp label_cmp other.label l ≡ false) table j page (IsDistinct-head (eq_by_cmp label_cmp) other.label (map (λ x. x.label) (pages_in table)) distinct) q))
+one_slot (Some other ∷ table) (suc i) zero page distinct p q =
+    absurd (not_itself other.label page.label (ap (λ (x : Page). x.label) (same_Some other page (same_Some (Some other) (Some page) q))) (held_passes (λ l. eq_by_cmp label_cmp other.label l ≡ false) table i page (IsDistinct-head (eq_by_cmp label_cmp) other.label (map (λ x. x.label) (pages_in table)) distinct) p))
+one_slot (Some other ∷ table) (suc i) (suc j) page distinct p q = ap suc (one_slot table i j page (IsDistinct-tail (eq_by_cmp label_cmp) other.label (map (λ x. x.label) (pages_in table)) distinct) p q)
+
+-- a page of the table stands in a slot
+pub some_slot : (table : Table) (page : Page) → Contains (pages_in table) page → (slot : ℕ) × HoldsPage table slot page
+unfolding pages_in
+some_slot [] page h = absurd (omega (arith, h.1))
+some_slot (None ∷ table) page h = let s = some_slot table page h in (suc s.0, s.1)
+some_slot (Some other ∷ table) page (zero, l, e) = (zero, ap (λ (x : Page). Some (Some x)) e)
+some_slot (Some other ∷ table) page (suc k, l, e) = let s = some_slot table page (k, omega arith, e) in (suc s.0, s.1)
+
+-- the labels of a table are as distinct as those of the pages placed
+pub IsDistinct-place : (d : Draw) (pages : List Page) → IsLawful d → length pages ≤ d.slots → IsDistinct (eq_by_cmp label_cmp) (map (λ page. page.label) pages)
+    → IsDistinct (eq_by_cmp label_cmp) (map (λ page. page.label) (pages_in (place d pages)))
+IsDistinct-place d pages law room =
+    IsDistinct-IsPermutation (eq_by_cmp label_cmp) (eq_by_cmp_equiv label_cmp_total).symm (map (λ page. page.label) pages) (map (λ page. page.label) (pages_in (place d pages)))
+    (IsPermutation-map (λ (page : Page). page.label) pages (pages_in (place d pages)) (IsPermutation-place d pages law room))
+
+-- each page placed stands in exactly one slot
+pub exactly_one_slot : (d : Draw) (pages : List Page) → IsLawful d → length pages ≤ d.slots → IsDistinct (eq_by_cmp label_cmp) (map (λ page. page.label) pages) → (page : Page) → Contains pages page
+    → (slot : ℕ) × HoldsPage (place d pages) slot page × ((other : ℕ) → HoldsPage (place d pages) other page → other ≡ slot)
+exactly_one_slot d pages law room distinct page h =
+    let s = some_slot (place d pages) page (Contains-permutation pages (pages_in (place d pages)) page (IsPermutation-place d pages law room) h) in
+    (s.0, s.1, λ other p. one_slot (place d pages) other s.0 page (IsDistinct-place d pages law room distinct) p s.1)
