@@ -1,3 +1,4 @@
 pub mod PlacementLemmas
+pub mod PlacementLemmasDraws
 pub mod ImagesLemmas
 pub mod ScriptsLemmas
