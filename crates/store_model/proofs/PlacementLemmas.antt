@@ -148,7 +148,7 @@ length-put_all d table [] = refl
 length-put_all d table (page ∷ pages) = length-put_all d (put_first_free d table page) pages ∙ length-put_first_free d table page
 
 -- empty slots hold no pages
-pages_in-replicate : (n : ℕ) → pages_in (replicate n None) ≡ []
+pub pages_in-replicate : (n : ℕ) → pages_in (replicate n None) ≡ []
 unfolding pages_in
 pages_in-replicate zero = refl
 pages_in-replicate (suc n) = pages_in-replicate n
