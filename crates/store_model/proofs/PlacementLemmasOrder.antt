@@ -8,18 +8,18 @@ use Rattle.std.specs.Ordering.{is_gt, is_eq, eq_by_cmp, ordering_reverse}
 use Rattle.std.specs.Cmp.{IsTotalOrder}
 use Rattle.std.proofs.Math.Nat.{mod-eq_of_lt, add-mod_left}
 use Rattle.std.proofs.lemmas.Bool.{cases_lt, false≢true}
-use Rattle.std.proofs.lemmas.Cmp.{tied_itself, on_total}
-use Rattle.std.proofs.lemmas.List.{length-map, length-replicate, get_or-map, append-nil}
+use Rattle.std.proofs.lemmas.Cmp.{tied_itself, on_total, eq_by_cmp_equiv}
+use Rattle.std.proofs.lemmas.List.{length-map, length-replicate, get_or-map, append-nil, get_or_default, ext_get_or}
 use Rattle.std.proofs.lemmas.List.Elements.{All-from_recursion, recursion_from_All}
-use Rattle.std.proofs.lemmas.List.Sorted.{All-permutation, length_permutation}
-use Rattle.std.proofs.lemmas.Map.Keys.{IsDistinct-head, IsDistinct-tail, IsDistinct-cons, sorted_head, sorted_tail, Less-from_sorted}
-use Rattle.std.proofs.lemmas.Option.{same_Some}
+use Rattle.std.proofs.lemmas.List.Sorted.{All-permutation, length_permutation, Contains-permutation, IsPermutation-map, IsPermutation-sym, IsPermutation-trans}
+use Rattle.std.proofs.lemmas.Map.Keys.{IsDistinct-head, IsDistinct-tail, IsDistinct-cons, IsDistinct-IsPermutation, sorted_head, sorted_tail, Less-from_sorted}
+use Rattle.std.proofs.lemmas.Option.{same_Some, slice_get_within, slice_get-get_or}
 use Rattle.store_model.specs.Lists.{numbers_from, numbers_below, insert_in_order, in_order}
 use Rattle.store_model.specs.Labels.{Label, label_bytes, label_cmp}
 use Rattle.store_model.specs.Draws.{Draw, IsLawful}
 use Rattle.store_model.specs.Pages.{Page}
 use Rattle.store_model.specs.Placement.{Table, probe, probes, holds_nothing, is_free, put_at, put_first_free, put_all, page_cmp, place, pages_in, HoldsPage, IsInOrder}
-use Rattle.store_model.proofs.PlacementLemmas.{length-numbers_from, get_or-numbers_from, IsPermutation-in_order, probe_reaches, length-place, IsPermutation-place, label_cmp_total, first_free, one_slot, some_slot, IsPermutation-put, pages_in-replicate}
+use Rattle.store_model.proofs.PlacementLemmas.{length-numbers_from, get_or-numbers_from, IsPermutation-in_order, probe_reaches, length-place, IsPermutation-place, label_cmp_total, first_free, one_slot, some_slot, IsDistinct-place, IsPermutation-put, pages_in-replicate}
 
 -- pages are in a total order, by their labels
 page_cmp_total : IsTotalOrder page_cmp
@@ -191,7 +191,7 @@ put_stands_behind d table page slot index law free smaller i within at k below =
 -- a put of a page with a greater label into its first free slot keeps a table in order
 put_in_order : (d : Draw) (table : Table) (page : Page) (slot index : ℕ) → IsLawful d → IsFirstFree d table page slot index → AllSmaller table page → IsInOrder d table → IsInOrder d (slice_set table slot (Some page))
 put_in_order d table page slot index law free smaller order p i within held k below =
-    ⊎_elim (λ same. new same.0 (same_Some page p (same_Some (Some page) (Some p) (ap (λ (o : Option Page). Some o) same.1)))) (λ old. kept (order p i within old k below)) (get_set_cases table slot (probe d.slots (d.start p.label) i) (Some page) (Some p) held)
+    ⊎_elim (λ same. new same.0 (same_Some page p same.1)) (λ old. kept (order p i within old k below)) (get_set_cases table slot (probe d.slots (d.start p.label) i) (Some page) (Some p) held)
   where
     kept : (other : Page) × HoldsPage table (probe d.slots (d.start p.label) k) other × (label_cmp other.label p.label ≡ Less) → (other : Page) × HoldsPage (slice_set table slot (Some page)) (probe d.slots (d.start p.label) k) other × (label_cmp other.label p.label ≡ Less)
     kept r = (r.0, kept_by_put table slot (probe d.slots (d.start p.label) k) page r.0 free.empty r.1, r.2)
@@ -236,3 +236,148 @@ IsInOrder-place d pages law room distinct =
     (sorted_in_order page_cmp page_cmp_total pages (distinct_pages pages distinct))
     (AllByRecursion-always (AllSmaller (replicate d.slots None)) (λ p slot other held. absurd (nothing_held d.slots slot other held)) (in_order page_cmp pages))
     (λ p i within held k below. absurd (nothing_held d.slots (probe d.slots (d.start p.label) i) p held))
+
+-- two tables in order, with the same pages, whose labels are distinct
+record HoldSame (d : Draw) (a b : Table) : Type 0 where
+  law : IsLawful d
+  length_a : length a ≡ d.slots
+  length_b : length b ≡ d.slots
+  distinct_b : IsDistinct (eq_by_cmp label_cmp) (map (λ page. page.label) (pages_in b))
+  in_b : (slot : ℕ) (page : Page) → HoldsPage a slot page → (other : ℕ) × HoldsPage b other page
+  in_a : (slot : ℕ) (page : Page) → HoldsPage b slot page → (other : ℕ) × HoldsPage a other page
+  order_a : IsInOrder d a
+  order_b : IsInOrder d b
+
+-- the second table holds the page wherever the first does
+abbrev AgreesAt : Table → Table → Page → Type 0
+AgreesAt a b page = (slot : ℕ) → HoldsPage a slot page → HoldsPage b slot page
+
+-- no page is smaller than itself
+not_below_itself : (page other : Page) → label_cmp other.label page.label ≡ Less → other ≡ page → ⊥
+not_below_itself page other less same =
+    let less' : page_cmp page page ≡ Less = subst (λ (p : Page). page_cmp p page ≡ Less) same less in
+    let tied = tied_itself page_cmp_total page in
+    cc
+
+-- one slot holds one page
+one_page : (table : Table) (slot : ℕ) (p q : Page) → HoldsPage table slot p → HoldsPage table slot q → p ≡ q
+one_page table slot p q g h = cc
+
+-- two tables agree at a page, where they do at each smaller one
+agree_step : (d : Draw) (a b : Table) → HoldSame d a b → (page : Page) → ((q : Page) → label_cmp q.label page.label ≡ Less → AgreesAt a b q) → AgreesAt a b page
+agree_step d a b h page smaller slot held = by_places (cases_lt j.0 i.0) (cases_lt i.0 j.0)
+  where
+    o : (other : ℕ) × HoldsPage b other page
+    o = h.in_b slot page held
+    i : (i : ℕ) × (i < d.slots) × (probe d.slots (d.start page.label) i ≡ slot)
+    i = probe_reaches d.slots (d.start page.label) slot (h.law.start_in_range page.label) (omega (arith, slice_get_within a slot (Some page) held, h.length_a))
+    j : (j : ℕ) × (j < d.slots) × (probe d.slots (d.start page.label) j ≡ o.0)
+    j = probe_reaches d.slots (d.start page.label) o.0 (h.law.start_in_range page.label) (omega (arith, slice_get_within b o.0 (Some page) o.1, h.length_b))
+    in_a_at_i : HoldsPage a (probe d.slots (d.start page.label) i.0) page
+    in_a_at_i = subst (λ (s : ℕ). HoldsPage a s page) (sym i.2) held
+    in_b_at_j : HoldsPage b (probe d.slots (d.start page.label) j.0) page
+    in_b_at_j = subst (λ (s : ℕ). HoldsPage b s page) (sym j.2) o.1
+    before_i : j.0 < i.0 → ⊥
+    before_i lt =
+        let r = h.order_a page i.0 i.1 in_a_at_i j.0 lt in
+        not_below_itself page r.0 r.2 (one_page b (probe d.slots (d.start page.label) j.0) r.0 page (smaller r.0 r.2 (probe d.slots (d.start page.label) j.0) r.1) in_b_at_j)
+    before_j : i.0 < j.0 → ⊥
+    before_j lt =
+        let r = h.order_b page j.0 j.1 in_b_at_j i.0 lt in
+        let s = h.in_a (probe d.slots (d.start page.label) i.0) r.0 r.1 in
+        let e : s.0 ≡ probe d.slots (d.start page.label) i.0 = one_slot b s.0 (probe d.slots (d.start page.label) i.0) r.0 h.distinct_b (smaller r.0 r.2 s.0 s.1) r.1 in
+        not_below_itself page r.0 r.2 (one_page a (probe d.slots (d.start page.label) i.0) r.0 page (subst (λ (n : ℕ). HoldsPage a n r.0) e s.1) in_a_at_i)
+    by_places : (j.0 < i.0) ⊎ (i.0 ≤ j.0) → (i.0 < j.0) ⊎ (j.0 ≤ i.0) → HoldsPage b slot page
+    by_places (inl lt) y = absurd (before_i lt)
+    by_places (inr le) (inl lt) = absurd (before_j lt)
+    by_places (inr le) (inr ge) =
+        let e : j.0 ≡ i.0 = omega arith in
+        subst (λ (s : ℕ). HoldsPage b s page) (sym j.2 ∙ ap (probe d.slots (d.start page.label)) e ∙ i.2) o.1
+
+-- what a slot holds is a page of the table
+held_contained : (table : Table) (slot : ℕ) (page : Page) → HoldsPage table slot page → Contains (pages_in table) page
+unfolding pages_in
+held_contained [] slot page e = cc
+held_contained (None ∷ table) zero page e = cc
+held_contained (None ∷ table) (suc slot) page e = held_contained table slot page e
+held_contained (Some other ∷ table) zero page e = (zero, omega arith, same_Some other page (same_Some (Some other) (Some page) e))
+held_contained (Some other ∷ table) (suc slot) page e = let c = held_contained table slot page e in (suc c.0, omega (arith, c.1), c.2)
+
+-- of two elements of a list that rises, the smaller one stands before
+place_of_smaller : {X : Type 0} (cmp : X → X → Ordering) → IsTotalOrder cmp → (xs : List X) (i j : ℕ) (x y : X) → IsStrictlySortedBy cmp xs → i < length xs → j < length xs → get_or xs i x ≡ x → get_or xs j y ≡ y → cmp y x ≡ Less → j < i
+place_of_smaller {X} cmp o xs i j x y up in_i in_j at_i at_j less = by_place (cases_lt i j) (cases_lt j i)
+  where
+    at_j' : get_or xs j x ≡ y
+    at_j' = get_or_default xs j x y in_j ∙ at_j
+    not_itself : (z : X) → cmp z z ≡ Less → ⊥
+    not_itself z e = let tied = tied_itself o z in cc
+    by_place : (i < j) ⊎ (j ≤ i) → (j < i) ⊎ (i ≤ j) → j < i
+    by_place (inl lt) q =
+        let before : cmp x y ≡ Less = sym (λ k. cmp (at_i k) (at_j' k)) ∙ Less-from_sorted cmp xs i j x up lt in_j in
+        absurd (not_itself x (o.trans x y x before less))
+    by_place (inr p) (inl lt) = lt
+    by_place (inr p) (inr q) =
+        let same : i ≡ j = omega arith in
+        let alike : x ≡ y = sym at_i ∙ ap (λ (k : ℕ). get_or xs k x) same ∙ at_j' in
+        absurd (not_itself x (subst (λ (z : X). cmp z x ≡ Less) (sym alike) less))
+
+-- two tables agree at the first n pages of the first, in the order of labels
+agree_below : (d : Draw) (a b : Table) → HoldSame d a b → (up : IsStrictlySortedBy page_cmp (in_order page_cmp (pages_in a))) → (n k : ℕ) (page : Page) → k < n
+    → k < length (in_order page_cmp (pages_in a)) → get_or (in_order page_cmp (pages_in a)) k page ≡ page → AgreesAt a b page
+agree_below d a b h up zero k page lt within at = absurd (omega arith)
+agree_below d a b h up (suc n) k page lt within at = agree_step d a b h page (λ q less slot held. at_smaller q less slot held (Contains-permutation (pages_in a) (in_order page_cmp (pages_in a)) q (IsPermutation-in_order page_cmp (pages_in a)) (held_contained a slot q held)) (agree_below d a b h up n))
+  where
+    at_smaller : (q : Page) → label_cmp q.label page.label ≡ Less → (slot : ℕ) → HoldsPage a slot q → Contains (in_order page_cmp (pages_in a)) q
+        → ((k : ℕ) (page : Page) → k < n → k < length (in_order page_cmp (pages_in a)) → get_or (in_order page_cmp (pages_in a)) k page ≡ page → AgreesAt a b page) → HoldsPage b slot q
+    at_smaller q less slot held c rest =
+        let before : c.0 < k = place_of_smaller page_cmp page_cmp_total (in_order page_cmp (pages_in a)) k c.0 page q up within c.1 at c.2 less in
+        rest c.0 q (omega arith) c.1 c.2 slot held
+
+-- two tables agree at every page
+agree_everywhere : (d : Draw) (a b : Table) → HoldSame d a b → IsStrictlySortedBy page_cmp (in_order page_cmp (pages_in a)) → (page : Page) → AgreesAt a b page
+agree_everywhere d a b h up page slot held =
+    let c = Contains-permutation (pages_in a) (in_order page_cmp (pages_in a)) page (IsPermutation-in_order page_cmp (pages_in a)) (held_contained a slot page held) in
+    agree_below d a b h up (suc c.0) c.0 page (omega arith) c.1 c.2 slot held
+
+-- so they hold the same in each slot
+same_slot : (d : Draw) (a b : Table) → HoldSame d a b → ((page : Page) → AgreesAt a b page) → (slot : ℕ) (x y : Option Page) → slice_get a slot ≡ Some x → slice_get b slot ≡ Some y → x ≡ y
+same_slot d a b h agree slot None None p q = refl
+same_slot d a b h agree slot (Some page) y p q = let r = agree page slot p in cc
+same_slot d a b h agree slot None (Some page) p q =
+    let s = h.in_a slot page q in
+    let e : s.0 ≡ slot = one_slot b s.0 slot page h.distinct_b (agree page s.0 s.1) q in
+    let r : HoldsPage a slot page = subst (λ (n : ℕ). HoldsPage a n page) e s.1 in
+    cc
+
+-- a table in order is the only one in order with its pages
+pub one_table_in_order : (d : Draw) (a b : Table) → IsLawful d → length a ≡ d.slots → length b ≡ d.slots → IsDistinct (eq_by_cmp label_cmp) (map (λ page. page.label) (pages_in a))
+    → IsPermutation (pages_in a) (pages_in b) → IsInOrder d a → IsInOrder d b → a ≡ b
+one_table_in_order d a b law length_a length_b distinct moves order_a order_b =
+    let h : HoldSame d a b = record {
+      law = law;
+      length_a = length_a;
+      length_b = length_b;
+      distinct_b = IsDistinct-IsPermutation (eq_by_cmp label_cmp) (eq_by_cmp_equiv label_cmp_total).symm (map (λ page. page.label) (pages_in a)) (map (λ page. page.label) (pages_in b)) (IsPermutation-map (λ (page : Page). page.label) (pages_in a) (pages_in b) moves) distinct;
+      in_b = λ slot page held. some_slot b page (Contains-permutation (pages_in a) (pages_in b) page moves (held_contained a slot page held));
+      in_a = λ slot page held. some_slot a page (Contains-permutation (pages_in b) (pages_in a) page (IsPermutation-sym (pages_in a) (pages_in b) moves) (held_contained b slot page held));
+      order_a = order_a;
+      order_b = order_b;
+    } in
+    let agree = agree_everywhere d a b h (sorted_in_order page_cmp page_cmp_total (pages_in a) (distinct_pages (pages_in a) distinct)) in
+    ext_get_or None a b (length_a ∙ sym length_b) (λ i within. same_slot d a b h agree i (get_or a i None) (get_or b i None) (slice_get-get_or a i None within) (slice_get-get_or b i None (omega arith)))
+
+-- a table has no more pages than slots
+length-pages_in-le : (table : Table) → length (pages_in table) ≤ length table
+unfolding pages_in
+length-pages_in-le [] = omega arith
+length-pages_in-le (None ∷ table) = omega (arith, length-pages_in-le table)
+length-pages_in-le (Some page ∷ table) = omega (arith, length-pages_in-le table)
+
+-- a table in order of pages is their placement
+pub place_is_the_only_order : (d : Draw) (table : Table) (pages : List Page) → IsLawful d → length table ≡ d.slots → IsDistinct (eq_by_cmp label_cmp) (map (λ page. page.label) pages)
+    → IsPermutation pages (pages_in table) → IsInOrder d table → table ≡ place d pages
+place_is_the_only_order d table pages law is distinct moves order =
+    let room : length pages ≤ d.slots = omega (arith, length_permutation pages (pages_in table) moves, length-pages_in-le table) in
+    sym (one_table_in_order d (place d pages) table law (length-place d pages) is (IsDistinct-place d pages law room distinct)
+    (IsPermutation-trans (pages_in (place d pages)) pages (pages_in table) (IsPermutation-sym pages (pages_in (place d pages)) (IsPermutation-place d pages law room)) moves)
+    (IsInOrder-place d pages law room distinct) order)
