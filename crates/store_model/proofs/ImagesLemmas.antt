@@ -7,7 +7,7 @@ use Rattle.std.proofs.lemmas.List.Elements.{All-from_recursion, recursion_from_A
 use Rattle.std.proofs.lemmas.List.Sorted.{All-permutation}
 use Rattle.store_model.specs.Lists.{zeros, zero_filled, numbers_from}
 use Rattle.store_model.specs.Parameters.{Parameters, IsParameters, image_len, shadow_at, table_at}
-use Rattle.store_model.specs.Trees.{Tree}
+use Rattle.store_model.specs.Trees.{Tree, IsTree}
 use Rattle.store_model.specs.Draws.{Draw, IsLawful, draw_of}
 use Rattle.store_model.specs.Labels.{Lead, Label, IsLead, IsLabel, lead_bytes, label_bytes}
 use Rattle.store_model.specs.Labels.Lead.{Start, Leader}
@@ -188,10 +188,11 @@ unfolding layout
 header-layout t p is = take_head 4096 (journal_len p.slots) (header p) (table_bytes (place (draw_of p) (pages t p))) (length-header p is)
 
 -- so a layout represents its tree
-pub Represents-layout : (t : Tree) (p : Parameters) → IsParameters p → Fits t p → AllByRecursion IsPage (pages t p) → Represents (layout t p) t p
-Represents-layout t p is fits all = record {
+pub Represents-layout : (t : Tree) (p : Parameters) → IsParameters p → IsTree t → Fits t p → AllByRecursion IsPage (pages t p) → Represents (layout t p) t p
+Represents-layout t p is tree fits all = record {
     names = record { in_range = is; header_is = header-layout t p is };
     length_is = length-layout t p is fits all;
+    tree = tree;
     fits = fits;
     layout_is = recovered-layout t p is fits all;
   }

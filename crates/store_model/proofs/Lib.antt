@@ -1,5 +1,11 @@
+pub mod ImagesLemmas
+pub mod ListsLemmas
+pub mod ListsLemmasCuts
+pub mod PagesLemmas
+pub mod PagesLemmasOrder
+pub mod PairsLemmas
+pub mod PathsLemmas
 pub mod PlacementLemmas
 pub mod PlacementLemmasDraws
 pub mod PlacementLemmasOrder
-pub mod ImagesLemmas
 pub mod ScriptsLemmas

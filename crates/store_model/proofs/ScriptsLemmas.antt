@@ -8,7 +8,7 @@ use Rattle.store_model.specs.Commands.{Command}
 use Rattle.store_model.specs.Commands.Command.{Make, Write, Cut, Rename, Remove, Prune, List_children, Read, Space, Digest}
 use Rattle.store_model.specs.Commands.Reply.{Refused}
 use Rattle.store_model.specs.Steps.{Step, step, step_to, step_by, reply_of, refusal_of, next_tree, may_fill}
-use Rattle.store_model.specs.Scripts.{answer, answer_by, line_limit, replies, tree_after}
+use Rattle.store_model.specs.Scripts.{answer, answer_by, line_limit, replies_by, tree_by, replies, tree_after}
 use Rattle.store_model.specs.Grammar.{parse}
 
 -- a command that is carried out is not refused
@@ -53,14 +53,23 @@ pub refused_answer_keeps : (t : Tree) (text : List ℕ) (p : Parameters) (r : Re
 unfolding answer
 refused_answer_keeps t text p r = picked_keeps (nat_lt line_limit (length text)) _ _ t r (λ e. refl) (answer_by_keeps t (parse text) p r)
 
--- the replies to lines and then to more lines
+-- the replies to questions and then to more questions, where each is answered by a step
+pub replies_by-append : {Q : Type 0} (answered : Tree → Q → Step) (t : Tree) (a b : List Q) → replies_by answered t (a ++ b) ≡ replies_by answered t a ++ replies_by answered (tree_by answered t a) b
+unfolding replies_by tree_by
+replies_by-append answered t [] b = refl
+replies_by-append answered t (question ∷ a) b = ap (λ rs. (answered t question).reply ∷ rs) (replies_by-append answered (answered t question).tree a b)
+
+-- the tree after questions and then after more questions
+pub tree_by-append : {Q : Type 0} (answered : Tree → Q → Step) (t : Tree) (a b : List Q) → tree_by answered t (a ++ b) ≡ tree_by answered (tree_by answered t a) b
+unfolding tree_by
+tree_by-append answered t [] b = refl
+tree_by-append answered t (question ∷ a) b = tree_by-append answered (answered t question).tree a b
+
+-- the same of the lines of scripts
 pub replies-append : (t : Tree) (a b : List (List ℕ)) (p : Parameters) → replies t (a ++ b) p ≡ replies t a p ++ replies (tree_after t a p) b p
 unfolding replies tree_after
-replies-append t [] b p = refl
-replies-append t (text ∷ a) b p = ap (λ rs. (answer t text p).reply ∷ rs) (replies-append (answer t text p).tree a b p)
+replies-append t a b p = replies_by-append (λ u text. answer u text p) t a b
 
--- the tree after lines and then after more lines
 pub tree_after-append : (t : Tree) (a b : List (List ℕ)) (p : Parameters) → tree_after t (a ++ b) p ≡ tree_after (tree_after t a p) b p
 unfolding tree_after
-tree_after-append t [] b p = refl
-tree_after-append t (text ∷ a) b p = tree_after-append (answer t text p).tree a b p
+tree_after-append t a b p = tree_by-append (λ u text. answer u text p) t a b

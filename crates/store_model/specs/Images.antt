@@ -6,7 +6,7 @@ use Rattle.store_model.specs.declared.draw_kind.DrawKind.{DrawKind}
 use Rattle.store_model.specs.declared.draw_kind.DrawKind.TheVariants.{Ruler, Sha256}
 use Rattle.store_model.specs.Lists.{zeros, zero_filled, numbers_below}
 use Rattle.store_model.specs.Parameters.{Parameters, IsParameters, mark_blocks, mark_at, shadow_at, table_at, image_len}
-use Rattle.store_model.specs.Trees.{Tree}
+use Rattle.store_model.specs.Trees.{Tree, IsTree}
 use Rattle.store_model.specs.Labels.{label_bytes}
 use Rattle.store_model.specs.Draws.{draw_of}
 use Rattle.store_model.specs.Pages.{Cell, Page, Fits, pages}
@@ -74,10 +74,11 @@ recovered_slot slots image i = bytes_at image (if is_raised image && is_marked i
 unfoldable pub recovered : ℕ → List ℕ → List ℕ
 recovered slots image = take 4096 image ++ zeros (journal_len slots) ++ flat_map (recovered_slot slots image) (numbers_below slots)
 
--- the image represents the tree: its header names the parameters, it has their length, the tree fits,
--- and recovery leaves the tree's layout
+-- the image represents the tree, which is one: its header names the parameters, it has their length, the tree
+-- fits, and recovery leaves the tree's layout
 pub record Represents (image : List ℕ) (t : Tree) (p : Parameters) : Type 0 where
   pub names : NamesParameters image p
   pub length_is : length image ≡ image_len p.slots
+  pub tree : IsTree t
   pub fits : Fits t p
   pub layout_is : recovered p.slots image ≡ layout t p

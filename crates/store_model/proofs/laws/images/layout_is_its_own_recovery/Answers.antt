@@ -5,4 +5,4 @@ pub returns-clause-recovered : goal.returns-clause-recovered
 returns-clause-recovered c t p is tree fits all = recovered-layout t p is fits all
 
 pub returns-clause-represents : goal.returns-clause-represents
-returns-clause-represents c t p is tree fits all = Represents-layout t p is fits all
+returns-clause-represents c t p is tree fits all = Represents-layout t p is tree fits all
