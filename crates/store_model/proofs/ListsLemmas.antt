@@ -6,7 +6,7 @@ use Rattle.std.specs.List.Sorted.{IsStrictlySortedBy}
 use Rattle.std.specs.FinMap.{is_sorted}
 use Rattle.std.specs.FinMap.Entries.{below_all}
 use Rattle.std.proofs.lemmas.List.{length-map}
-use Rattle.store_model.specs.Lists.{numbers_from, numbers_below, run_count, run_at, runs}
+use Rattle.store_model.specs.Lists.{IsBytes, numbers_from, numbers_below, run_count, run_at, runs}
 use Rattle.std.specs.Cmp.Lexicographic.{slice_cmp}
 use Rattle.std.specs.Int.{w32, to_be_bytes}
 use Rattle.std.proofs.lemmas.Bool.Decides.{nat_tests}
@@ -259,3 +259,30 @@ pub rising_numbers_from : (first count : ℕ) → IsStrictlySortedBy nat_cmp (nu
 unfolding IsStrictlySortedBy numbers_from
 rising_numbers_from first zero = tt
 rising_numbers_from first (suc count) = (all_weaker _ _ (λ n h. nat_cmp-lt first n h) (numbers_from (suc first) count) (all_numbers_from (suc first) count), rising_numbers_from (suc first) count)
+
+-- each element is a byte, by place and by recursion
+pub bytes_from_all : (xs : List ℕ) → AllByRecursion (λ x. x < 256) xs → IsBytes xs
+bytes_from_all [] h i = omega arith
+bytes_from_all (x ∷ xs) h zero = h.0
+bytes_from_all (x ∷ xs) h (suc i) = bytes_from_all xs h.1 i
+
+pub all_from_bytes : (xs : List ℕ) → IsBytes xs → AllByRecursion (λ x. x < 256) xs
+all_from_bytes [] h = tt
+all_from_bytes (x ∷ xs) h = (h 0, all_from_bytes xs (λ i. h (suc i)))
+
+pub all_replicate : {X : Type 0} (P : X → Type 0) (n : ℕ) (x : X) → P x → AllByRecursion P (replicate n x)
+all_replicate P zero x h = tt
+all_replicate P (suc n) x h = (h, all_replicate P n x h)
+
+pub be_bytes_are_bytes : (n : ℕ) → AllByRecursion (λ x. x < 256) (to_be_bytes w32 n)
+be_bytes_are_bytes n = (omega arith, (omega arith, (omega arith, (omega arith, tt))))
+
+pub rising_front : {K : Type 0} (c : K → K → Ordering) (xs ys : List K) → IsStrictlySortedBy c (xs ++ ys) → IsStrictlySortedBy c xs
+unfolding IsStrictlySortedBy
+rising_front c [] ys h = tt
+rising_front c (x ∷ xs) ys h = (all_front _ xs ys h.0, rising_front c xs ys h.1)
+
+pub rising_back : {K : Type 0} (c : K → K → Ordering) (xs ys : List K) → IsStrictlySortedBy c (xs ++ ys) → IsStrictlySortedBy c ys
+unfolding IsStrictlySortedBy
+rising_back c [] ys h = h
+rising_back c (x ∷ xs) ys h = rising_back c xs ys h.1

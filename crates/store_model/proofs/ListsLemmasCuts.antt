@@ -1,10 +1,11 @@
 -- Lemmas on lists that are cut: runs, and cuts before elements.
-use Rattle.std.proofs.Common.{◌≡◌, ℕ, zero, suc, ◌+◌, ◌-◌, ◌*◌, ◌/◌, ◌<◌, ◌≤◌, List, [], ◌∷◌, ◌++◌, map, length, take, drop, refl, sym, ap, ap₂, ◌∙◌, cond, arith, Bool, true, false, IsTrue, mul-zero, mul-suc, take-add}
+use Rattle.std.proofs.Common.{◌≡◌, ℕ, zero, suc, ◌+◌, ◌-◌, ◌*◌, ◌/◌, ◌<◌, ◌≤◌, List, [], ◌∷◌, ◌++◌, map, length, take, drop, refl, sym, ap, ap₂, subst, ◌∙◌, cond, arith, Bool, true, false, IsTrue, mul-zero, mul-suc, mul-le-mul_left, take-add, Ordering}
 use Rattle.std.specs.List.{AllByRecursion, flat_map, filter, enumerate_from}
+use Rattle.std.specs.List.Sorted.{IsStrictlySortedBy}
 use Rattle.std.proofs.lemmas.List.{length-take, length-drop, length-append, drop-drop, take_all}
 use Rattle.std.proofs.lemmas.List.Concat.{flat_map-append}
 use Rattle.store_model.specs.Lists.{numbers_from, numbers_below, run_count, run_at, runs, onto_part, cut_before}
-use Rattle.store_model.proofs.ListsLemmas.{all_front, all_back}
+use Rattle.store_model.proofs.ListsLemmas.{all_front, all_back, all_map, all_weaker, all_numbers_below, rising_front, rising_back}
 
 -- joining parts that are themselves joined
 pub flat_map-flat_map : {X Y Z : Type 0} (f : Y → List Z) (g : X → List Y) (xs : List X) → flat_map f (flat_map g xs) ≡ flat_map (λ x. flat_map f (g x)) xs
@@ -78,3 +79,31 @@ length-filter-le test [] = omega arith
 length-filter-le test (x ∷ xs) =
     let rest = length-filter-le test xs in
     elim (test x) as (λ b. length (cond b (x ∷ filter test xs) (filter test xs)) ≤ suc (length xs)) [ true ↦ omega arith | false ↦ omega arith ]
+
+pub rising_parts : {A : Type 0} (c : A → A → Ordering) (parts : List (List A)) → IsStrictlySortedBy c (flat_map (λ part. part) parts) → AllByRecursion (IsStrictlySortedBy c) parts
+rising_parts c [] h = tt
+rising_parts c (part ∷ parts) h = (rising_front c part (flat_map (λ p. p) parts) h, rising_parts c parts (rising_back c part (flat_map (λ p. p) parts) h))
+
+-- a run has an element, and no more than it may have
+run_lengths_from : {A : Type 0} (n : ℕ) (xs : List A) → 1 ≤ n → (i : ℕ) → i < run_count n (length xs) → (1 ≤ length (run_at n xs i)) × (length (run_at n xs i) ≤ n)
+run_lengths_from n xs h i l =
+    let taken = length-take n (drop (n * i) xs) in
+    let left = length-drop (n * i) xs in
+    let within : n * suc i ≤ n * run_count n (length xs) = mul-le-mul_left n l in
+    (omega arith, omega arith)
+
+pub lengths_of_runs : {A : Type 0} (n : ℕ) (xs : List A) → 1 ≤ n → AllByRecursion (λ run. (1 ≤ length run) × (length run ≤ n)) (runs n xs)
+unfolding runs
+lengths_of_runs n xs h = all_map (λ i. i < run_count n (length xs)) _ (run_at n xs) (λ i l. run_lengths_from n xs h i l) (numbers_below (run_count n (length xs))) (all_weaker _ _ (λ i l. omega arith) (numbers_below (run_count n (length xs))) (all_numbers_below 0 (run_count n (length xs))))
+
+-- what holds of each element holds of each element of each run
+pub all_runs : {A : Type 0} (P : A → Type 0) (n : ℕ) (xs : List A) → 1 ≤ n → AllByRecursion P xs → AllByRecursion (AllByRecursion P) (runs n xs)
+all_runs P n xs h g = all_parts P (runs n xs) (subst (AllByRecursion P) (sym (flat_map-runs n xs h)) g)
+
+pub rising_runs : {A : Type 0} (c : A → A → Ordering) (n : ℕ) (xs : List A) → 1 ≤ n → IsStrictlySortedBy c xs → AllByRecursion (IsStrictlySortedBy c) (runs n xs)
+rising_runs c n xs h g = rising_parts c (runs n xs) (subst (IsStrictlySortedBy c) (sym (flat_map-runs n xs h)) g)
+
+-- what holds of each element of a list holds behind its numbers
+pub all_enumerate_from : {A : Type 0} (P : A → Type 0) (n : ℕ) (xs : List A) → AllByRecursion P xs → AllByRecursion (λ e. P e.1) (enumerate_from n xs)
+all_enumerate_from P n [] h = tt
+all_enumerate_from P n (x ∷ xs) h = (h.0, all_enumerate_from P (n + 1) xs h.1)

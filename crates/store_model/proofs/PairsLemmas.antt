@@ -6,14 +6,16 @@ use Rattle.std.specs.List.Sorted.{IsStrictlySortedBy}
 use Rattle.std.specs.FinMap.{is_sorted}
 use Rattle.std.specs.Cmp.{tied_itself}
 use Rattle.std.specs.Cmp.Lexicographic.{nat_list_cmp_total, lists_total}
-use Rattle.store_model.specs.Lists.{runs, run_count}
+use Rattle.store_model.specs.Lists.{IsBytes, runs, run_count}
 use Rattle.store_model.specs.Parameters.{Parameters}
 use Rattle.store_model.specs.Paths.{Path, is_path, key, path_cmp, key_cmp}
 use Rattle.store_model.specs.Pairs.{Pair, file_block, directory_value, file_value, node_pairs, pairs}
+use Rattle.store_model.specs.Pages.{IsValue}
 use Rattle.store_model.specs.Trees.{Tree, Node, IsNode, IsEntry, IsTree}
 use Rattle.store_model.specs.Trees.Node.{Directory, File}
-use Rattle.store_model.proofs.ListsLemmas.{all_none, all_weaker, all_with, all_map, all_flat_map, IsBelow, rising_cons, rising_one, rising_map, rising_flat_map, rising_from_is_sorted, is_sorted_from_rising, numbers_in_range, numbers_rise, less_from_nat_cmp, nat_cmp-lt, length-runs}
-use Rattle.store_model.proofs.PathsLemmas.{order_of_keys, length-key}
+use Rattle.store_model.proofs.ListsLemmas.{all_none, all_weaker, all_with, all_map, all_flat_map, IsBelow, rising_cons, rising_one, rising_map, rising_flat_map, rising_from_is_sorted, is_sorted_from_rising, numbers_in_range, numbers_rise, less_from_nat_cmp, nat_cmp-lt, length-runs, bytes_from_all, all_from_bytes, be_bytes_are_bytes}
+use Rattle.store_model.proofs.ListsLemmasCuts.{lengths_of_runs, all_runs, all_enumerate_from}
+use Rattle.store_model.proofs.PathsLemmas.{order_of_keys, length-key, bytes_of_key}
 
 -- pairs are compared by their keys, and entries by their paths
 abbrev pub pair_cmp : Pair → Pair → Ordering
@@ -84,3 +86,37 @@ is_sorted-pairs t p h = is_sorted_from_rising key_cmp (pairs t p) (rising_pairs 
 
 pub rising_keys : (t : Tree) (p : Parameters) → IsTree t → IsStrictlySortedBy key_cmp (map (λ pair. pair.0) (pairs t p))
 rising_keys t p h = rising_map pair_cmp key_cmp (λ pair. pair.0) (λ pair. Unit {0}) (λ a b u v l. l) (pairs t p) (all_none _ (λ pair. tt) (pairs t p)) (rising_pairs t p h)
+
+-- ---- each pair has a key of 124 bytes and a value of 1 to 256
+
+-- the pair has a key and a value of the sizes that a slot holds
+abbrev pub IsPair : Pair → Type 0
+IsPair pair = (length pair.0 ≡ 124) × IsBytes pair.0 × IsValue pair.1
+
+key_pair : (path : Path) (block : ℕ) (value : List ℕ) → IsTrue (is_path path) → IsValue value → IsPair (key path block, value)
+key_pair path block value h v = (length-key path block h, bytes_of_key path block h, v)
+
+directory_value_is_value : IsValue directory_value
+directory_value_is_value = (omega arith, omega arith, bytes_from_all directory_value (omega arith, tt))
+
+file_value_is_value : (n : ℕ) → IsValue (file_value n)
+file_value_is_value n = (omega arith, omega arith, bytes_from_all (file_value n) (omega arith, be_bytes_are_bytes n))
+
+-- the blocks of a file are values
+blocks_are_values : (bytes : List ℕ) → IsBytes bytes → AllByRecursion IsValue (runs file_block bytes)
+blocks_are_values bytes h =
+    all_with _ _ _ (λ run l b. (l.0, l.1, bytes_from_all run b)) (runs file_block bytes) (lengths_of_runs file_block bytes (omega arith))
+    (all_runs (λ c. c < 256) file_block bytes (omega arith) (all_from_bytes bytes h))
+
+node_pairs_are_pairs : (path : Path) (node : Node) (p : Parameters) → IsTrue (is_path path) → IsNode node → AllByRecursion IsPair (node_pairs path node p)
+unfolding node_pairs
+node_pairs_are_pairs path Directory p h g = (key_pair path 0 directory_value h directory_value_is_value, tt)
+node_pairs_are_pairs path (File bytes) p h g = (
+  key_pair path 0 (file_value (length bytes)) h (file_value_is_value (length bytes)),
+  all_map (λ b. IsValue b.1) IsPair (block_pair path) (λ b v. key_pair path b.0 b.1 h v) (enumerate_from 1 (runs file_block bytes))
+      (all_enumerate_from IsValue 1 (runs file_block bytes) (blocks_are_values bytes g.1)),
+)
+
+pub pairs_are_pairs : (t : Tree) (p : Parameters) → IsTree t → AllByRecursion IsPair (pairs t p)
+unfolding pairs
+pairs_are_pairs t p h = all_flat_map (IsEntry t) IsPair (λ e. node_pairs e.0 e.1 p) (λ e g. node_pairs_are_pairs e.0 e.1 p g.path g.node) t h.entries

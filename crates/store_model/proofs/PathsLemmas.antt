@@ -1,5 +1,5 @@
 -- Lemmas on the keys of paths: they have the order of paths.
-use Rattle.std.proofs.Common.{◌≡◌, ℕ, ◌+◌, ◌-◌, ◌<◌, ◌≤◌, zero, suc, List, [], ◌∷◌, ◌++◌, length, replicate, refl, sym, ap, ap₂, ◌∙◌, subst, arith, Bool, IsTrue, append_assoc, leb-true, Ordering, Less, Equal, Greater, nat_cmp}
+use Rattle.std.proofs.Common.{◌≡◌, ℕ, ◌+◌, ◌-◌, ◌<◌, ◌≤◌, zero, suc, List, [], ◌∷◌, ◌++◌, length, replicate, refl, sym, ap, ap₂, ◌∙◌, subst, arith, Bool, ◌&&◌, IsTrue, append_assoc, leb-true, nat_le, Ordering, Less, Equal, Greater, nat_cmp}
 use Rattle.std.proofs.lemmas.List.{length-append, length-replicate}
 use Rattle.std.specs.Ordering.{ordering_then}
 use Rattle.std.specs.List.{AllByRecursion, list_all}
@@ -7,9 +7,9 @@ use Rattle.std.specs.Cmp.{tied_itself}
 use Rattle.std.specs.Cmp.Lexicographic.{slice_cmp, nat_list_cmp_total}
 use Rattle.std.specs.FinMap.{slice_cmp-IsAntisymmetric, nat_cmp-IsAntisymmetric}
 use Rattle.std.specs.Int.{w32, to_be_bytes}
-use Rattle.store_model.specs.Lists.{zeros, zero_filled}
+use Rattle.store_model.specs.Lists.{IsBytes, zeros, zero_filled}
 use Rattle.store_model.specs.Paths.{Path, is_name, is_name_byte, is_path, name_bytes, field_len, field, key, name_cmp, path_cmp, key_cmp}
-use Rattle.store_model.proofs.ListsLemmas.{then_assoc, slice_cmp-append, nat_cmp-lt, nat_cmp-gt, be_bytes_order, then_same, first_true, second_true, all_from_test}
+use Rattle.store_model.proofs.ListsLemmas.{then_assoc, slice_cmp-append, nat_cmp-lt, nat_cmp-gt, be_bytes_order, then_same, first_true, second_true, all_from_test, all_append, all_flat_map, all_replicate, bytes_from_all, be_bytes_are_bytes}
 
 -- a byte string that is not empty and has no byte 0
 record IsZeroFree (n : List ℕ) : Type 0 where
@@ -100,3 +100,21 @@ order_of_keys p q i j hp hq hi hj =
 pub length-key : (p : Path) (i : ℕ) → IsTrue (is_path p) → length (key p i) ≡ 124
 unfolding key
 length-key p i h = length-append (field p) (to_be_bytes w32 i) ∙ ap (λ n. n + 4) (length-field p h)
+
+bytes_of_name : (n : List ℕ) → IsTrue (is_name n) → AllByRecursion (λ c. c < 256) (n ++ 0 ∷ [])
+bytes_of_name n h =
+    let front : IsTrue (nat_le 1 (length n) && list_all is_name_byte n) = first_true _ _ (first_true _ _ h) in
+    all_append _ n (0 ∷ [])
+    (all_from_test is_name_byte (λ c. c < 256) (λ c t. let l = leb-true c 0x7e (second_true (nat_le 0x21 c) _ (first_true _ _ t)) in omega arith) n (second_true _ _ front))
+    (omega arith, tt)
+
+-- a key is made of bytes
+pub bytes_of_key : (p : Path) (block : ℕ) → IsTrue (is_path p) → IsBytes (key p block)
+unfolding key field zero_filled name_bytes
+bytes_of_key p block h =
+    let names = all_from_test is_name (λ n. IsTrue (is_name n)) (λ n t. t) p (first_true _ _ h) in
+    let names_bytes = all_flat_map _ (λ c. c < 256) (λ n. n ++ 0 ∷ []) bytes_of_name p names in
+    bytes_from_all (key p block)
+    (all_append _ (field p) (to_be_bytes w32 block)
+    (all_append _ (name_bytes p) (zeros (120 - field_len p)) names_bytes (all_replicate _ (120 - field_len p) 0 (omega arith)))
+    (be_bytes_are_bytes block))
