@@ -1,7 +1,7 @@
 //! Laws of recovery and layouts.
 #![tactic(auto)]
 
-ghost use Rattle.std.specs.Prelude.{◌≡◌, List, length, Some, None};
+ghost use Rattle.std.specs.Prelude.{◌≡◌, ℕ, List, length, Some, None};
 ghost use Rattle.std.specs.List.{AllByRecursion};
 ghost use Rattle.store_model.specs.Parameters.{Parameters, IsParameters, image_len};
 ghost use Rattle.store_model.specs.Trees.{Tree, IsTree};
@@ -21,10 +21,22 @@ pub fn layout_has_the_image_length()
         length (layout t p) ≡ image_len p.slots }
 {}
 
-/// Recovery leaves the layout of a tree that fits as it is, and the layout represents the tree.
+/// Recovery leaves the layout of a tree that fits as it is, and the layout represents the tree. An image that
+/// represents a tree still does so once recovered.
 pub fn layout_is_its_own_recovery()
     ensures recovered { (t : Tree) (p : Parameters) → IsParameters p → IsTree t → Fits t p → AllByRecursion IsPage (pages t p) →
         recovered p.slots (layout t p) ≡ layout t p }
     ensures represents { (t : Tree) (p : Parameters) → IsParameters p → IsTree t → Fits t p → AllByRecursion IsPage (pages t p) →
         Represents (layout t p) t p }
+    ensures represented { (image : List ℕ) (t : Tree) (p : Parameters) → IsTree t → AllByRecursion IsPage (pages t p) →
+        Represents image t p → Represents (recovered p.slots image) t p }
+{}
+
+/// Recovery keeps the length of an image, and an image that is recovered stays as it is when it is recovered
+/// again.
+pub fn recovery_twice_is_recovery_once()
+    ensures length { (slots : ℕ) (image : List ℕ) → length image ≡ image_len slots →
+        length (recovered slots image) ≡ image_len slots }
+    ensures same { (slots : ℕ) (image : List ℕ) → length image ≡ image_len slots →
+        recovered slots (recovered slots image) ≡ recovered slots image }
 {}
