@@ -7,13 +7,14 @@ use Rattle.std.proofs.lemmas.List.Elements.{All-from_recursion, recursion_from_A
 use Rattle.std.proofs.lemmas.List.Sorted.{All-permutation}
 use Rattle.store_model.specs.Lists.{zeros, zero_filled, numbers_from}
 use Rattle.store_model.specs.Parameters.{Parameters, IsParameters, image_len, shadow_at, table_at}
-use Rattle.store_model.specs.Trees.{Tree}
+use Rattle.store_model.specs.Trees.{Tree, IsTree}
 use Rattle.store_model.specs.Draws.{Draw, IsLawful, draw_of}
 use Rattle.store_model.specs.Labels.{Lead, Label, IsLead, IsLabel, lead_bytes, label_bytes}
 use Rattle.store_model.specs.Labels.Lead.{Start, Leader}
 use Rattle.store_model.specs.Pages.{Cell, IsCell, IsCellValue, Page, IsPage, Fits, pages}
 use Rattle.store_model.specs.Placement.{Table, place, pages_in}
 use Rattle.store_model.specs.Images.{header, value_bytes, cell_bytes, page_bytes, slot_bytes, table_bytes, journal_len, layout, bytes_at, is_raised, is_marked, recovered_slot, recovered, Represents}
+use Rattle.store_model.proofs.PagesLemmasSizes.{tree_pages_are_pages}
 use Rattle.store_model.proofs.PlacementLemmas.{length-numbers_from, length-place, IsPermutation-place}
 use Rattle.store_model.proofs.PlacementLemmasDraws.{IsLawful-draw_of}
 
@@ -124,9 +125,9 @@ unfolding journal_len image_len
 length-areas slots head table h t = omega (arith, length-append (head ++ zeros (journal_len slots)) table, length-append head (zeros (journal_len slots)), length-replicate {A = ℕ} (journal_len slots) 0)
 
 -- a layout has the length of an image
-pub length-layout : (t : Tree) (p : Parameters) → IsParameters p → Fits t p → AllByRecursion IsPage (pages t p) → length (layout t p) ≡ image_len p.slots
+pub length-layout : (t : Tree) (p : Parameters) → IsParameters p → IsTree t → Fits t p → length (layout t p) ≡ image_len p.slots
 unfolding layout draw_of
-length-layout t p is fits all = length-areas p.slots (header p) (table_bytes (place (draw_of p) (pages t p))) (length-header p is) (length-place_bytes (draw_of p) (pages t p) (IsLawful-draw_of p is) fits all)
+length-layout t p is tree fits = length-areas p.slots (header p) (table_bytes (place (draw_of p) (pages t p))) (length-header p is) (length-place_bytes (draw_of p) (pages t p) (IsLawful-draw_of p is) fits (tree_pages_are_pages t p is tree fits))
 
 -- runs of n elements, one after another from a run on, make the list from there on
 runs_join : (n first count : ℕ) (xs : List ℕ) → length xs ≡ n * (first + count) → flat_map (λ i. take n (drop (n * i) xs)) (numbers_from first count) ≡ drop (n * first) xs
@@ -186,9 +187,9 @@ recovered-at_rest slots head table h t =
     λ i. front i ++ zeros (journal_len slots) ++ slots_are i
 
 -- a layout is its own recovery
-pub recovered-layout : (t : Tree) (p : Parameters) → IsParameters p → Fits t p → AllByRecursion IsPage (pages t p) → recovered p.slots (layout t p) ≡ layout t p
+pub recovered-layout : (t : Tree) (p : Parameters) → IsParameters p → IsTree t → Fits t p → recovered p.slots (layout t p) ≡ layout t p
 unfolding layout draw_of
-recovered-layout t p is fits all = recovered-at_rest p.slots (header p) (table_bytes (place (draw_of p) (pages t p))) (length-header p is) (length-place_bytes (draw_of p) (pages t p) (IsLawful-draw_of p is) fits all)
+recovered-layout t p is tree fits = recovered-at_rest p.slots (header p) (table_bytes (place (draw_of p) (pages t p))) (length-header p is) (length-place_bytes (draw_of p) (pages t p) (IsLawful-draw_of p is) fits (tree_pages_are_pages t p is tree fits))
 
 -- a layout begins with its header
 pub header-layout : (t : Tree) (p : Parameters) → IsParameters p → take 4096 (layout t p) ≡ header p
@@ -196,17 +197,17 @@ unfolding layout
 header-layout t p is = take_head 4096 (journal_len p.slots) (header p) (table_bytes (place (draw_of p) (pages t p))) (length-header p is)
 
 -- so a layout represents its tree
-pub Represents-layout : (t : Tree) (p : Parameters) → IsParameters p → Fits t p → AllByRecursion IsPage (pages t p) → Represents (layout t p) t p
-Represents-layout t p is fits all = record {
+pub Represents-layout : (t : Tree) (p : Parameters) → IsParameters p → IsTree t → Fits t p → Represents (layout t p) t p
+Represents-layout t p is tree fits = record {
   names = record { in_range = is; header_is = header-layout t p is };
-  length_is = length-layout t p is fits all;
+  length_is = length-layout t p is tree fits;
   fits = fits;
-  layout_is = recovered-layout t p is fits all;
+  layout_is = recovered-layout t p is tree fits;
 }
 
 -- an image that represents a tree represents it once recovered
-pub Represents-recovered : (image : List ℕ) (t : Tree) (p : Parameters) → AllByRecursion IsPage (pages t p) → Represents image t p → Represents (recovered p.slots image) t p
-Represents-recovered image t p all r = subst (λ (x : List ℕ). Represents x t p) (sym r.layout_is) (Represents-layout t p r.names.in_range r.fits all)
+pub Represents-recovered : (image : List ℕ) (t : Tree) (p : Parameters) → IsTree t → Represents image t p → Represents (recovered p.slots image) t p
+Represents-recovered image t p tree r = subst (λ (x : List ℕ). Represents x t p) (sym r.layout_is) (Represents-layout t p r.names.in_range tree r.fits)
 
 -- bytes that lie in an image are as many as are asked for
 length-bytes_at : (image : List ℕ) (at n : ℕ) → at + n ≤ length image → length (bytes_at image at n) ≡ n

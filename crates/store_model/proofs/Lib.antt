@@ -8,5 +8,6 @@ pub mod PagesLemmasSizes
 pub mod PlacementLemmas
 pub mod PlacementLemmasDraws
 pub mod PlacementLemmasOrder
+pub mod PlacementLemmasTrees
 pub mod ImagesLemmas
 pub mod ScriptsLemmas

@@ -390,7 +390,7 @@ one_table_in_order d a b law length_a length_b distinct moves order_a order_b =
     ext_get_or None a b (length_a ∙ sym length_b) (λ i within. same_slot d a b h agree i (get_or a i None) (get_or b i None) (slice_get-get_or a i None within) (slice_get-get_or b i None (omega arith)))
 
 -- a table has no more pages than slots
-length-pages_in-le : (table : Table) → length (pages_in table) ≤ length table
+pub length-pages_in-le : (table : Table) → length (pages_in table) ≤ length table
 unfolding pages_in
 length-pages_in-le [] = omega arith
 length-pages_in-le (None ∷ table) = omega (arith, length-pages_in-le table)
