@@ -1,8 +1,8 @@
 -- The lengths of blocks and images, and that a layout is its own recovery.
-use Rattle.std.proofs.Common.{◌≡◌, ℕ, zero, suc, ◌+◌, ◌-◌, ◌*◌, ◌<◌, ◌≤◌, List, [], ◌∷◌, ◌++◌, Bool, true, false, not, ◌&&◌, Option, Some, None, length, map, take, drop, get_or, replicate, refl, ap, sym, ◌∙◌, subst, if◌then◌else◌, ◌==◌, arith, append_assoc, length-append}
+use Rattle.std.proofs.Common.{◌≡◌, ℕ, zero, suc, ◌+◌, ◌-◌, ◌*◌, ◌<◌, ◌≤◌, List, [], ◌∷◌, ◌++◌, Bool, true, false, not, ◌&&◌, Option, Some, None, length, take, drop, get_or, refl, ap, sym, ◌∙◌, subst, if◌then◌else◌, ◌==◌, arith, append_assoc, length-append}
 use Rattle.std.specs.Int.{w32, to_be_bytes}
 use Rattle.std.specs.List.{flat_map, AllByRecursion}
-use Rattle.std.proofs.lemmas.List.{length-replicate, drop_all, drop-drop, drop_at, take_at, take-append-drop, get_or_at}
+use Rattle.std.proofs.lemmas.List.{length-replicate, drop_all, drop-drop, drop_at, take_at, take-append-drop, get_or_at, length-take, length-drop, length-take-le}
 use Rattle.std.proofs.lemmas.List.Elements.{All-from_recursion, recursion_from_All}
 use Rattle.std.proofs.lemmas.List.Sorted.{All-permutation}
 use Rattle.store_model.specs.Lists.{zeros, zero_filled, numbers_from}
@@ -11,10 +11,11 @@ use Rattle.store_model.specs.Trees.{Tree, IsTree}
 use Rattle.store_model.specs.Draws.{Draw, IsLawful, draw_of}
 use Rattle.store_model.specs.Labels.{Lead, Label, IsLead, IsLabel, lead_bytes, label_bytes}
 use Rattle.store_model.specs.Labels.Lead.{Start, Leader}
-use Rattle.store_model.specs.Pages.{Cell, IsCell, IsCellValue, Page, IsPage, page_room, Fits, pages}
+use Rattle.store_model.specs.Pages.{Cell, IsCell, IsCellValue, Page, IsPage, Fits, pages}
 use Rattle.store_model.specs.Placement.{Table, place, pages_in}
-use Rattle.store_model.specs.Images.{header, value_bytes, cell_bytes, page_bytes, slot_bytes, table_bytes, journal_len, layout, NamesParameters, bytes_at, is_raised, is_marked, recovered_slot, recovered, Represents}
-use Rattle.store_model.proofs.PlacementLemmas.{length-place, IsPermutation-place}
+use Rattle.store_model.specs.Images.{header, value_bytes, cell_bytes, page_bytes, slot_bytes, table_bytes, journal_len, layout, bytes_at, is_raised, is_marked, recovered_slot, recovered, Represents}
+use Rattle.store_model.proofs.PagesLemmasSizes.{tree_pages_are_pages}
+use Rattle.store_model.proofs.PlacementLemmas.{length-numbers_from, length-place, IsPermutation-place}
 use Rattle.store_model.proofs.PlacementLemmasDraws.{IsLawful-draw_of}
 
 -- what is zero-filled has the length that it is filled to
@@ -27,6 +28,7 @@ pub length-header : (p : Parameters) → IsParameters p → length (header p) �
 unfolding header
 length-header p is = length-zero_filled 4096 _ (omega (arith, is.seed_length))
 
+-- what leads a group takes 125 bytes of a label
 length-lead_bytes : (l : Lead) → IsLead l → length (lead_bytes l) ≡ 125
 length-lead_bytes Start is = refl
 length-lead_bytes (Leader k) is = ap suc is.0
@@ -55,14 +57,17 @@ AllByRecursion-weaker P Q f (x ∷ xs) all = (f x all.0, AllByRecursion-weaker P
 abbrev cell_room : ℕ → ℕ
 cell_room level = if level == 0 then 382 else 124
 
+-- each level leaves room for a key
 cell_room_above : (b : Bool) → 124 ≤ (if b then 382 else 124)
 cell_room_above true = omega arith
 cell_room_above false = omega arith
 
+-- a key and the value of a level need no more
 length-value_bytes : (level : ℕ) (value : Option (List ℕ)) → IsCellValue level value → 124 + length (value_bytes value) ≤ cell_room level
 length-value_bytes level None is = cell_room_above (level == 0)
 length-value_bytes level (Some v) is = subst (λ n. 124 + length (value_bytes (Some v)) ≤ cell_room n) (sym is.0) (omega (arith, length-zero_filled 256 v is.1.1))
 
+-- a cell needs no more
 length-cell_bytes : (level : ℕ) (cell : Cell) → IsCell level cell → length (cell_bytes cell) ≤ cell_room level
 unfolding cell_bytes
 length-cell_bytes level cell is = omega (arith, length-append cell.key (value_bytes cell.value), is.key_length, length-value_bytes level cell.value is.value)
@@ -75,11 +80,13 @@ cells_fit false n h = omega arith
 -- a page is a block
 pub length-page_bytes : (page : Page) → IsPage page → length (page_bytes page) ≡ 4096
 unfolding page_bytes
-length-page_bytes page is = length-zero_filled 4096 _ (omega (arith,
-    length-append (label_bytes page.label) (length page.cells ∷ flat_map cell_bytes page.cells),
-    length-label_bytes page.label is.label,
-    length-flat_map-le cell_bytes (cell_room page.label.level) page.cells (AllByRecursion-weaker _ _ (length-cell_bytes page.label.level) page.cells is.cells),
-    cells_fit (page.label.level == 0) (length page.cells) is.room))
+length-page_bytes page is = length-zero_filled 4096 _ (omega (
+  arith,
+  length-append (label_bytes page.label) (length page.cells ∷ flat_map cell_bytes page.cells),
+  length-label_bytes page.label is.label,
+  length-flat_map-le cell_bytes (cell_room page.label.level) page.cells (AllByRecursion-weaker _ _ (length-cell_bytes page.label.level) page.cells is.cells),
+  cells_fit (page.label.level == 0) (length page.cells) is.room,
+))
 
 -- what a slot may hold: nothing, or a page
 abbrev pub IsSlot : Option Page → Type 0
@@ -118,9 +125,9 @@ unfolding journal_len image_len
 length-areas slots head table h t = omega (arith, length-append (head ++ zeros (journal_len slots)) table, length-append head (zeros (journal_len slots)), length-replicate {A = ℕ} (journal_len slots) 0)
 
 -- a layout has the length of an image
-pub length-layout : (t : Tree) (p : Parameters) → IsParameters p → Fits t p → AllByRecursion IsPage (pages t p) → length (layout t p) ≡ image_len p.slots
+pub length-layout : (t : Tree) (p : Parameters) → IsParameters p → IsTree t → Fits t p → length (layout t p) ≡ image_len p.slots
 unfolding layout draw_of
-length-layout t p is fits all = length-areas p.slots (header p) (table_bytes (place (draw_of p) (pages t p))) (length-header p is) (length-place_bytes (draw_of p) (pages t p) (IsLawful-draw_of p is) fits all)
+length-layout t p is tree fits = length-areas p.slots (header p) (table_bytes (place (draw_of p) (pages t p))) (length-header p is) (length-place_bytes (draw_of p) (pages t p) (IsLawful-draw_of p is) fits (tree_pages_are_pages t p is tree fits))
 
 -- runs of n elements, one after another from a run on, make the list from there on
 runs_join : (n first count : ℕ) (xs : List ℕ) → length xs ≡ n * (first + count) → flat_map (λ i. take n (drop (n * i) xs)) (numbers_from first count) ≡ drop (n * first) xs
@@ -144,10 +151,12 @@ take_head n m head rest h = ap (take n) (append_assoc head (zeros m) rest) ∙ t
 drop_past : (front rest : List ℕ) (n m at : ℕ) → length front ≡ n → at ≡ n + m → drop at (front ++ rest) ≡ drop m rest
 drop_past front rest n m at h e = ap (λ (k : ℕ). drop k (front ++ rest)) e ∙ sym (drop-drop m n (front ++ rest)) ∙ ap (drop m) (drop_at front rest n h)
 
+-- there are bytes between header and table
 journal_some : (slots : ℕ) → 0 < journal_len slots
 unfolding journal_len
 journal_some slots = omega arith
 
+-- the slots stand behind the header and what follows it
 table_at_is : (slots i : ℕ) → table_at slots i ≡ 4096 + journal_len slots + 4096 * i
 unfolding table_at journal_len
 table_at_is slots i = omega arith
@@ -178,9 +187,9 @@ recovered-at_rest slots head table h t =
     λ i. front i ++ zeros (journal_len slots) ++ slots_are i
 
 -- a layout is its own recovery
-pub recovered-layout : (t : Tree) (p : Parameters) → IsParameters p → Fits t p → AllByRecursion IsPage (pages t p) → recovered p.slots (layout t p) ≡ layout t p
+pub recovered-layout : (t : Tree) (p : Parameters) → IsParameters p → IsTree t → Fits t p → recovered p.slots (layout t p) ≡ layout t p
 unfolding layout draw_of
-recovered-layout t p is fits all = recovered-at_rest p.slots (header p) (table_bytes (place (draw_of p) (pages t p))) (length-header p is) (length-place_bytes (draw_of p) (pages t p) (IsLawful-draw_of p is) fits all)
+recovered-layout t p is tree fits = recovered-at_rest p.slots (header p) (table_bytes (place (draw_of p) (pages t p))) (length-header p is) (length-place_bytes (draw_of p) (pages t p) (IsLawful-draw_of p is) fits (tree_pages_are_pages t p is tree fits))
 
 -- a layout begins with its header
 pub header-layout : (t : Tree) (p : Parameters) → IsParameters p → take 4096 (layout t p) ≡ header p
@@ -188,11 +197,72 @@ unfolding layout
 header-layout t p is = take_head 4096 (journal_len p.slots) (header p) (table_bytes (place (draw_of p) (pages t p))) (length-header p is)
 
 -- so a layout represents its tree
-pub Represents-layout : (t : Tree) (p : Parameters) → IsParameters p → IsTree t → Fits t p → AllByRecursion IsPage (pages t p) → Represents (layout t p) t p
-Represents-layout t p is tree fits all = record {
-    names = record { in_range = is; header_is = header-layout t p is };
-    length_is = length-layout t p is fits all;
-    tree = tree;
-    fits = fits;
-    layout_is = recovered-layout t p is fits all;
-  }
+pub Represents-layout : (t : Tree) (p : Parameters) → IsParameters p → IsTree t → Fits t p → Represents (layout t p) t p
+Represents-layout t p is tree fits = record {
+  names = record { in_range = is; header_is = header-layout t p is };
+  length_is = length-layout t p is tree fits;
+  tree = tree;
+  fits = fits;
+  layout_is = recovered-layout t p is tree fits;
+}
+
+-- an image that represents a tree represents it once recovered
+pub Represents-recovered : (image : List ℕ) (t : Tree) (p : Parameters) → IsTree t → Represents image t p → Represents (recovered p.slots image) t p
+Represents-recovered image t p tree r = subst (λ (x : List ℕ). Represents x t p) (sym r.layout_is) (Represents-layout t p r.names.in_range tree r.fits)
+
+-- bytes that lie in an image are as many as are asked for
+length-bytes_at : (image : List ℕ) (at n : ℕ) → at + n ≤ length image → length (bytes_at image at n) ≡ n
+length-bytes_at image at n h = omega (arith, length-take n (drop at image), length-drop at image)
+
+-- a shadow block lies in the image
+shadow_in_image : (slots i : ℕ) → i < slots → shadow_at slots i + 4096 ≤ image_len slots
+unfolding shadow_at image_len
+shadow_in_image slots i h = omega arith
+
+-- a slot lies in the image
+table_in_image : (slots i : ℕ) → i < slots → table_at slots i + 4096 ≤ image_len slots
+unfolding table_at image_len
+table_in_image slots i h = omega arith
+
+-- what recovery leaves in a slot is a block
+length-recovered_slot : (slots : ℕ) (image : List ℕ) (i : ℕ) → length image ≡ image_len slots → i < slots → length (recovered_slot slots image i) ≡ 4096
+unfolding recovered_slot
+length-recovered_slot slots image i h lt = either (is_raised image && is_marked image i)
+  where
+    either : (b : Bool) → length (bytes_at image (if b then shadow_at slots i else table_at slots i) 4096) ≡ 4096
+    either true = length-bytes_at image (shadow_at slots i) 4096 (omega (arith, shadow_in_image slots i lt))
+    either false = length-bytes_at image (table_at slots i) 4096 (omega (arith, table_in_image slots i lt))
+
+-- what holds of each number of a range holds of each of its list
+AllByRecursion-numbers_from : (P : ℕ → Type 0) (first count : ℕ) → ((i : ℕ) → i < first + count → P i) → AllByRecursion P (numbers_from first count)
+unfolding numbers_from
+AllByRecursion-numbers_from P first zero f = tt
+AllByRecursion-numbers_from P first (suc count) f = (f first (omega arith), AllByRecursion-numbers_from P (suc first) count (λ i h. f i (omega arith)))
+
+-- the slots that recovery leaves are as many blocks
+length-recovered_slots : (slots : ℕ) (image : List ℕ) → length image ≡ image_len slots → length (flat_map (recovered_slot slots image) (numbers_from 0 slots)) ≡ 4096 * slots
+length-recovered_slots slots image h =
+    length-flat_map_same (recovered_slot slots image) 4096 (numbers_from 0 slots) (AllByRecursion-numbers_from (λ i. length (recovered_slot slots image i) ≡ 4096) 0 slots (λ i lt. length-recovered_slot slots image i h (omega arith)))
+    ∙ ap (λ n. 4096 * n) (length-numbers_from 0 slots)
+
+-- the header lies in the image
+header_in_image : (slots : ℕ) → 4096 ≤ image_len slots
+unfolding image_len
+header_in_image slots = omega arith
+
+-- recovery keeps the length of an image
+pub length-recovered : (slots : ℕ) (image : List ℕ) → length image ≡ image_len slots → length (recovered slots image) ≡ image_len slots
+unfolding recovered
+length-recovered slots image h = length-areas slots (take 4096 image) (flat_map (recovered_slot slots image) (numbers_from 0 slots)) (length-take-le 4096 image (omega (arith, header_in_image slots))) (length-recovered_slots slots image h)
+
+-- the areas that recovery leaves
+recovered_areas : (slots : ℕ) (image : List ℕ) → recovered slots image ≡ take 4096 image ++ zeros (journal_len slots) ++ flat_map (recovered_slot slots image) (numbers_from 0 slots)
+unfolding recovered
+recovered_areas slots image = refl
+
+-- recovery of what recovery left leaves the same
+pub recovered-recovered : (slots : ℕ) (image : List ℕ) → length image ≡ image_len slots → recovered slots (recovered slots image) ≡ recovered slots image
+recovered-recovered slots image h =
+    ap (recovered slots) (recovered_areas slots image)
+    ∙ recovered-at_rest slots (take 4096 image) (flat_map (recovered_slot slots image) (numbers_from 0 slots)) (length-take-le 4096 image (omega (arith, header_in_image slots))) (length-recovered_slots slots image h)
+    ∙ sym (recovered_areas slots image)

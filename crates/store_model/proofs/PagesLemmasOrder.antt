@@ -61,14 +61,14 @@ record IsPageOn (level : ℕ) (page : Page) : Type 0 where
 run_count_below : (level count : ℕ) → run_count (page_room level) count ≤ count
 run_count_below level count = elim (level == 0) as (λ b. run_count (cond b 10 31) count ≤ count) [ true ↦ omega arith | false ↦ omega arith ]
 
-run_number_in_range : (level : ℕ) (cells : List Cell) → length cells ≤ 4294967296 → AllByRecursion (λ run. run.0 < 4294967296) (enumerate_from 0 (runs (page_room level) cells))
+pub run_number_in_range : (level : ℕ) (cells : List Cell) → length cells ≤ 4294967296 → AllByRecursion (λ run. run.0 < 4294967296) (enumerate_from 0 (runs (page_room level) cells))
 run_number_in_range level cells h =
     let few = run_count_below level (length cells) in
     let counted = length-runs (page_room level) cells in
     all_weaker _ _ (λ run r. omega arith) (enumerate_from 0 (runs (page_room level) cells)) (numbers_in_range 0 (runs (page_room level) cells))
 
 -- the page of one run
-abbrev page_of : ℕ → Lead → ℕ × List Cell → Page
+abbrev pub page_of : ℕ → Lead → ℕ × List Cell → Page
 page_of level lead run = record { label = record { level = level; lead = lead; index = run.0 }; cells = run.1 }
 
 -- the pages of a group are the group's, and rise by label
@@ -202,7 +202,7 @@ pub record IsKeyed (s : List Pair) : Type 0 where
 cell_on-key : (level : ℕ) (pair : Pair) → (cell_on level pair).key ≡ pair.0
 cell_on-key level pair = elim (level == 0) as (λ b. (cond {A = Cell} b (record { key = pair.0; value = Some pair.1 }) (record { key = pair.0; value = None })).key ≡ pair.0) [ true ↦ refl | false ↦ refl ]
 
-rising_level_list : (d : Draw) (s : List Pair) (level : ℕ) → IsKeyed s → IsStrictlySortedBy cell_cmp (level_list d s level)
+pub rising_level_list : (d : Draw) (s : List Pair) (level : ℕ) → IsKeyed s → IsStrictlySortedBy cell_cmp (level_list d s level)
 unfolding level_list
 rising_level_list d s level h =
     let stays = λ (pair : Pair). nat_le level (d.level pair.0) in
@@ -215,7 +215,7 @@ lengths_of_level_list d s level h =
     let stays = λ (pair : Pair). nat_le level (d.level pair.0) in
     all_map (λ pair. length pair.0 ≡ 124) (λ cell. length cell.key ≡ 124) (cell_on level) (λ pair e. ap length (cell_on-key level pair) ∙ e) (filter stays s) (all_filter _ stays s h.lengths)
 
-few_cells : (d : Draw) (s : List Pair) (level : ℕ) → IsKeyed s → length (level_list d s level) ≤ 4294967296
+pub few_cells : (d : Draw) (s : List Pair) (level : ℕ) → IsKeyed s → length (level_list d s level) ≤ 4294967296
 unfolding level_list
 few_cells d s level h =
     let stays = λ (pair : Pair). nat_le level (d.level pair.0) in

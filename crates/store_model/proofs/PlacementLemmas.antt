@@ -1,5 +1,5 @@
 -- Where placement puts the pages: each in one slot, and nothing else.
-use Rattle.std.proofs.Common.{◌≡◌, ℕ, zero, suc, ◌+◌, ◌-◌, ◌%◌, ◌<◌, ◌≤◌, List, [], ◌∷◌, ◌++◌, Bool, true, false, cond, Option, Some, None, length, map, get_or, replicate, slice_get, slice_set, refl, ap, sym, subst, ◌∙◌, ◌⊎◌, inl, inr, ⊎_elim, arith, length-set}
+use Rattle.std.proofs.Common.{◌≡◌, ℕ, zero, suc, ◌+◌, ◌-◌, ◌%◌, ◌<◌, ◌≤◌, List, [], ◌∷◌, ◌++◌, Bool, true, false, cond, Option, Some, None, length, map, get_or, replicate, slice_get, slice_set, refl, ap, sym, subst, ◌∙◌, ⊎_elim, arith, length-set}
 use Rattle.std.specs.List.{find, IsDistinct, AllByRecursion, Contains}
 use Rattle.std.specs.List.Sorted.{IsPermutation}
 use Rattle.std.specs.declared.cmp.Ordering.{Ordering}
@@ -35,6 +35,7 @@ get_or-numbers_from first (suc count) (suc i) d h = omega (arith, get_or-numbers
 IsPermutation-first_two : {X : Type 0} (x y : X) (xs : List X) → IsPermutation (x ∷ y ∷ xs) (y ∷ x ∷ xs)
 IsPermutation-first_two x y xs = IsPermutation-middle (x ∷ []) y xs
 
+-- the list that a test picks has the elements that both lists have
 IsPermutation-picked : {X : Type 0} (b : Bool) (xs ys zs : List X) → IsPermutation xs ys → IsPermutation xs zs → IsPermutation xs (cond b ys zs)
 IsPermutation-picked true xs ys zs p q = p
 IsPermutation-picked false xs ys zs p q = q
@@ -77,12 +78,11 @@ probe_reaches slots start k s h = ⊎_elim (λ (below : k < start). (slots - sta
   where
     below_start : k < start → (start + (slots - start + k)) % slots ≡ k
     below_start below = let e : start + (slots - start + k) ≡ slots + k = omega arith in ap (λ n. n % slots) e ∙ add-mod_left slots k ∙ mod-eq_of_lt h
+
     from_start : start ≤ k → (start + (k - start)) % slots ≡ k
     from_start above = let e : start + (k - start) ≡ k = omega arith in ap (λ n. n % slots) e ∙ mod-eq_of_lt h
 
-empty_is_free : (o : Option (Option Page)) → o ≡ Some None → holds_nothing o ≡ true
-empty_is_free o e = ap holds_nothing e
-
+-- a slot is free where it is in the table and holds nothing
 free_is_empty : (o : Option (Option Page)) → holds_nothing o ≡ true → o ≡ Some None
 free_is_empty None e = cc
 free_is_empty (Some None) e = refl

@@ -1,5 +1,5 @@
 -- The table of a placement is in order, and is the only table in order of its pages.
-use Rattle.std.proofs.Common.{◌≡◌, ◌≢◌, ℕ, zero, suc, ◌+◌, ◌-◌, ◌%◌, ◌<◌, ◌≤◌, List, [], ◌∷◌, ◌++◌, Bool, true, false, cond, Option, Some, None, length, map, get_or, replicate, slice_get, slice_set, refl, ap, sym, subst, ◌∙◌, ◌⊎◌, inl, inr, ⊎_elim, arith, length-set}
+use Rattle.std.proofs.Common.{◌≡◌, ◌≢◌, ℕ, zero, suc, ◌+◌, ◌-◌, ◌%◌, ◌<◌, ◌≤◌, List, [], ◌∷◌, Bool, true, false, cond, Option, Some, None, length, map, get_or, replicate, slice_get, slice_set, refl, ap, sym, subst, ◌∙◌, ◌⊎◌, inl, inr, ⊎_elim, arith, length-set}
 use Rattle.std.specs.List.{find, IsDistinct, AllByRecursion, Contains}
 use Rattle.std.specs.List.Sorted.{IsPermutation, IsStrictlySortedBy}
 use Rattle.std.specs.declared.cmp.Ordering.{Ordering}
@@ -7,18 +7,18 @@ use Rattle.std.specs.declared.cmp.Ordering.TheVariants.{Less, Equal, Greater}
 use Rattle.std.specs.Ordering.{is_gt, is_eq, eq_by_cmp, ordering_reverse}
 use Rattle.std.specs.Cmp.{IsTotalOrder}
 use Rattle.std.proofs.Math.Nat.{mod-eq_of_lt, add-mod_left}
-use Rattle.std.proofs.lemmas.Bool.{cases_lt, false≢true}
+use Rattle.std.proofs.lemmas.Bool.{cases_lt}
 use Rattle.std.proofs.lemmas.Cmp.{tied_itself, on_total, eq_by_cmp_equiv}
-use Rattle.std.proofs.lemmas.List.{length-map, length-replicate, get_or-map, append-nil, get_or_default, ext_get_or}
+use Rattle.std.proofs.lemmas.List.{length-map, length-replicate, get_or-map, get_or_default, ext_get_or}
 use Rattle.std.proofs.lemmas.List.Elements.{All-from_recursion, recursion_from_All}
 use Rattle.std.proofs.lemmas.List.Sorted.{All-permutation, length_permutation, Contains-permutation, IsPermutation-map, IsPermutation-sym, IsPermutation-trans}
-use Rattle.std.proofs.lemmas.Map.Keys.{IsDistinct-head, IsDistinct-tail, IsDistinct-cons, IsDistinct-IsPermutation, sorted_head, sorted_tail, Less-from_sorted}
+use Rattle.std.proofs.lemmas.Map.Keys.{IsDistinct-IsPermutation, Less-from_sorted}
 use Rattle.std.proofs.lemmas.Option.{same_Some, slice_get_within, slice_get-get_or}
-use Rattle.store_model.specs.Lists.{numbers_from, numbers_below, insert_in_order, in_order}
-use Rattle.store_model.specs.Labels.{Label, label_bytes, label_cmp}
+use Rattle.store_model.specs.Lists.{numbers_below, insert_in_order, in_order}
+use Rattle.store_model.specs.Labels.{Label, label_cmp}
 use Rattle.store_model.specs.Draws.{Draw, IsLawful}
 use Rattle.store_model.specs.Pages.{Page}
-use Rattle.store_model.specs.Placement.{Table, probe, probes, holds_nothing, is_free, put_at, put_first_free, put_all, page_cmp, place, pages_in, HoldsPage, IsInOrder}
+use Rattle.store_model.specs.Placement.{Table, probe, probes, is_free, put_at, put_first_free, put_all, page_cmp, place, pages_in, HoldsPage, IsInOrder}
 use Rattle.store_model.proofs.PlacementLemmas.{length-numbers_from, get_or-numbers_from, IsPermutation-in_order, probe_reaches, length-place, IsPermutation-place, label_cmp_total, first_free, one_slot, some_slot, IsDistinct-place, IsPermutation-put, pages_in-replicate}
 
 -- pages are in a total order, by their labels
@@ -30,10 +30,12 @@ AllByRecursion-both : {X : Type 0} (P Q R : X → Type 0) → ((x : X) → P x �
 AllByRecursion-both P Q R f [] p q = tt
 AllByRecursion-both P Q R f (x ∷ xs) p q = (f x p.0 q.0, AllByRecursion-both P Q R f xs p.1 q.1)
 
+-- what holds of each image holds of each element by its image
 AllByRecursion-unmap : {X Y : Type 0} (P : Y → Type 0) (f : X → Y) (xs : List X) → AllByRecursion P (map f xs) → AllByRecursion (λ x. P (f x)) xs
 AllByRecursion-unmap P f [] all = tt
 AllByRecursion-unmap P f (x ∷ xs) all = (all.0, AllByRecursion-unmap P f xs all.1)
 
+-- what holds of each element holds of each in another order
 AllByRecursion-permutation : {X : Type 0} (P : X → Type 0) (xs ys : List X) → IsPermutation xs ys → AllByRecursion P xs → AllByRecursion P ys
 AllByRecursion-permutation P xs ys moves all = recursion_from_All P ys (All-permutation P xs ys moves (All-from_recursion P xs all))
 
@@ -43,12 +45,13 @@ unfolding IsDistinct
 distinct_pages [] distinct = tt
 distinct_pages (page ∷ pages) distinct = (AllByRecursion-unmap (λ l. eq_by_cmp label_cmp page.label l ≡ false) (λ p. p.label) pages distinct.0, distinct_pages pages distinct.1)
 
--- what is greater is followed by the other way round
+-- what is greater one way is less the other way round
 less_from_greater : (o : Ordering) → is_gt o ≡ true → ordering_reverse o ≡ Less
 less_from_greater Less e = cc
 less_from_greater Equal e = cc
 less_from_greater Greater e = refl
 
+-- what is neither greater nor equal is less
 less_from_others : (o : Ordering) → is_gt o ≡ false → is_eq o ≡ false → o ≡ Less
 less_from_others Less e f = refl
 less_from_others Equal e f = cc
@@ -89,6 +92,7 @@ record IsFirst {X : Type 0} (test : X → Bool) (xs : List X) (x : X) (i : ℕ) 
   passes : test x ≡ true
   before : (k : ℕ) (d : X) → k < i → test (get_or xs k d) ≡ false
 
+-- what a search finds is the first that passes
 first_found : {X : Type 0} (test : X → Bool) (xs : List X) (x : X) → find test xs ≡ Some x → (i : ℕ) × IsFirst test xs x i
 first_found test [] x e = cc
 first_found {X} test (y ∷ ys) x e = picked (test y) refl e (first_found test ys x)
@@ -101,6 +105,7 @@ first_found {X} test (y ∷ ys) x e = picked (test y) refl e (first_found test y
         before_suc i f zero d h = t
         before_suc i f (suc k) d h = f k d (omega arith)
 
+-- slot number i of a probe sequence is i behind the start, once round at most
 probe_value : (slots start i : ℕ) → start < slots → i < slots → ((probe slots start i ≡ start + i) × (start + i < slots)) ⊎ (probe slots start i + slots ≡ start + i)
 probe_value slots start i s h = ⊎_elim (λ (low : start + i < slots). inl (mod-eq_of_lt low, low)) (λ (high : slots ≤ start + i). inr (round high)) (cases_lt (start + i) slots)
   where
@@ -119,6 +124,7 @@ get_or-probes : (d : Draw) (l : Label) (k e : ℕ) → k < d.slots → get_or (p
 unfolding probes
 get_or-probes d l k e h = get_or-map (probe d.slots (d.start l)) (numbers_below d.slots) k 0 e (omega (arith, length-numbers_from 0 d.slots)) ∙ ap (probe d.slots (d.start l)) (get_or-numbers_from 0 d.slots k 0 h ∙ omega arith)
 
+-- a probe sequence has as many slots as the table
 length-probes : (d : Draw) (l : Label) → length (probes d l) ≡ d.slots
 unfolding probes
 length-probes d l = length-map (numbers_below d.slots) (probe d.slots (d.start l)) ∙ length-numbers_from 0 d.slots
@@ -138,18 +144,22 @@ record IsFirstFree (d : Draw) (table : Table) (page : Page) (slot index : ℕ) :
   is : probe d.slots (d.start page.label) index ≡ slot
   before : (k : ℕ) → k < index → (other : Page) × HoldsPage table (probe d.slots (d.start page.label) k) other
 
+-- a table with room has such a slot
 first_free_slot : (d : Draw) (table : Table) (page : Page) → IsLawful d → length table ≡ d.slots → length (pages_in table) < d.slots → (slot : ℕ) × (index : ℕ) × IsFirstFree d table page slot index
 first_free_slot d table page law is room =
     let f = first_free d table page law is room in
     let first = first_found (is_free table) (probes d page.label) f.0 f.1 in
-    let inside : first.0 < d.slots = omega (arith, first.1.within, length-probes d page.label) in
-    (f.0, first.0, record {
-      at = f.1;
-      empty = f.2;
-      within = inside;
-      is = sym (get_or-probes d page.label first.0 0 inside) ∙ first.1.is 0;
-      before = λ k h. taken_holds table (probe d.slots (d.start page.label) k) (omega (arith, law.start_in_range page.label)) (ap (is_free table) (sym (get_or-probes d page.label k 0 (omega arith))) ∙ first.1.before k 0 h);
-    })
+    let inside : first.0 < d.slots = omega (arith, first.1.within, length-probes d page.label) in (
+      f.0,
+      first.0,
+      record {
+        at = f.1;
+        empty = f.2;
+        within = inside;
+        is = sym (get_or-probes d page.label first.0 0 inside) ∙ first.1.is 0;
+        before = λ k h. taken_holds table (probe d.slots (d.start page.label) k) (omega (arith, law.start_in_range page.label)) (ap (is_free table) (sym (get_or-probes d page.label k 0 (omega arith))) ∙ first.1.before k 0 h);
+      },
+    )
 
 -- what a slot holds after a put into a slot
 get_set_cases : {X : Type 0} (xs : List X) (i j : ℕ) (y z : X) → slice_get (slice_set xs i y) j ≡ Some z → ((j ≡ i) × (y ≡ z)) ⊎ (slice_get xs j ≡ Some z)
@@ -159,6 +169,7 @@ get_set_cases (x ∷ xs) zero (suc j) y z e = inr e
 get_set_cases (x ∷ xs) (suc i) zero y z e = inr e
 get_set_cases (x ∷ xs) (suc i) (suc j) y z e = ⊎_elim (λ p. inl (ap suc p.0, p.1)) (λ p. inr p) (get_set_cases xs i j y z e)
 
+-- a put into a slot keeps what the others hold
 get_set_other : {X : Type 0} (xs : List X) (i j : ℕ) (y : X) → j ≢ i → slice_get (slice_set xs i y) j ≡ slice_get xs j
 get_set_other [] i j y n = refl
 get_set_other (x ∷ xs) zero zero y n = absurd (n refl)
@@ -182,6 +193,7 @@ abbrev StandsBehindSmaller : Draw → Table → ℕ → Page → Type 0
 StandsBehindSmaller d table slot page = (i : ℕ) → i < d.slots → probe d.slots (d.start page.label) i ≡ slot
     → (k : ℕ) → k < i → (other : Page) × HoldsPage table (probe d.slots (d.start page.label) k) other × (label_cmp other.label page.label ≡ Less)
 
+-- a page of greater label stands so in its first free slot
 put_stands_behind : (d : Draw) (table : Table) (page : Page) (slot index : ℕ) → IsLawful d → IsFirstFree d table page slot index → AllSmaller table page → StandsBehindSmaller d table slot page
 put_stands_behind d table page slot index law free smaller i within at k below =
     let same : i ≡ index = probe_once d.slots (d.start page.label) i index (law.start_in_range page.label) within free.within (at ∙ sym free.is) in
@@ -195,6 +207,7 @@ put_in_order d table page slot index law free smaller order p i within held k be
   where
     kept : (other : Page) × HoldsPage table (probe d.slots (d.start p.label) k) other × (label_cmp other.label p.label ≡ Less) → (other : Page) × HoldsPage (slice_set table slot (Some page)) (probe d.slots (d.start p.label) k) other × (label_cmp other.label p.label ≡ Less)
     kept r = (r.0, kept_by_put table slot (probe d.slots (d.start p.label) k) page r.0 free.empty r.1, r.2)
+
     new : probe d.slots (d.start p.label) i ≡ slot → page ≡ p → (other : Page) × HoldsPage (slice_set table slot (Some page)) (probe d.slots (d.start p.label) k) other × (label_cmp other.label p.label ≡ Less)
     new at e = kept (subst (StandsBehindSmaller d table slot) e (put_stands_behind d table page slot index law free smaller) i within at k below)
 
@@ -217,6 +230,7 @@ put_all_in_order d table (page ∷ pages) law is room up smaller order =
     (AllByRecursion-both (λ p. page_cmp page p ≡ Less) (AllSmaller table) (AllSmaller (slice_set table f.0 (Some page))) (smaller_after_put table f.0 page) pages up.0 smaller.1)
     (put_in_order d table page f.0 f.1 law f.2 smaller.0 order))
 
+-- what holds of everything holds of each element
 AllByRecursion-always : {X : Type 0} (P : X → Type 0) → ((x : X) → P x) → (xs : List X) → AllByRecursion P xs
 AllByRecursion-always P f [] = tt
 AllByRecursion-always P f (x ∷ xs) = (f x, AllByRecursion-always P f xs)
@@ -269,24 +283,31 @@ agree_step d a b h page smaller slot held = by_places (cases_lt j.0 i.0) (cases_
   where
     o : (other : ℕ) × HoldsPage b other page
     o = h.in_b slot page held
+
     i : (i : ℕ) × (i < d.slots) × (probe d.slots (d.start page.label) i ≡ slot)
     i = probe_reaches d.slots (d.start page.label) slot (h.law.start_in_range page.label) (omega (arith, slice_get_within a slot (Some page) held, h.length_a))
+
     j : (j : ℕ) × (j < d.slots) × (probe d.slots (d.start page.label) j ≡ o.0)
     j = probe_reaches d.slots (d.start page.label) o.0 (h.law.start_in_range page.label) (omega (arith, slice_get_within b o.0 (Some page) o.1, h.length_b))
+
     in_a_at_i : HoldsPage a (probe d.slots (d.start page.label) i.0) page
     in_a_at_i = subst (λ (s : ℕ). HoldsPage a s page) (sym i.2) held
+
     in_b_at_j : HoldsPage b (probe d.slots (d.start page.label) j.0) page
     in_b_at_j = subst (λ (s : ℕ). HoldsPage b s page) (sym j.2) o.1
+
     before_i : j.0 < i.0 → ⊥
     before_i lt =
         let r = h.order_a page i.0 i.1 in_a_at_i j.0 lt in
         not_below_itself page r.0 r.2 (one_page b (probe d.slots (d.start page.label) j.0) r.0 page (smaller r.0 r.2 (probe d.slots (d.start page.label) j.0) r.1) in_b_at_j)
+
     before_j : i.0 < j.0 → ⊥
     before_j lt =
         let r = h.order_b page j.0 j.1 in_b_at_j i.0 lt in
         let s = h.in_a (probe d.slots (d.start page.label) i.0) r.0 r.1 in
         let e : s.0 ≡ probe d.slots (d.start page.label) i.0 = one_slot b s.0 (probe d.slots (d.start page.label) i.0) r.0 h.distinct_b (smaller r.0 r.2 s.0 s.1) r.1 in
         not_below_itself page r.0 r.2 (one_page a (probe d.slots (d.start page.label) i.0) r.0 page (subst (λ (n : ℕ). HoldsPage a n r.0) e s.1) in_a_at_i)
+
     by_places : (j.0 < i.0) ⊎ (i.0 ≤ j.0) → (i.0 < j.0) ⊎ (j.0 ≤ i.0) → HoldsPage b slot page
     by_places (inl lt) y = absurd (before_i lt)
     by_places (inr le) (inl lt) = absurd (before_j lt)
@@ -309,8 +330,10 @@ place_of_smaller {X} cmp o xs i j x y up in_i in_j at_i at_j less = by_place (ca
   where
     at_j' : get_or xs j x ≡ y
     at_j' = get_or_default xs j x y in_j ∙ at_j
+
     not_itself : (z : X) → cmp z z ≡ Less → ⊥
     not_itself z e = let tied = tied_itself o z in cc
+
     by_place : (i < j) ⊎ (j ≤ i) → (j < i) ⊎ (i ≤ j) → j < i
     by_place (inl lt) q =
         let before : cmp x y ≡ Less = sym (λ k. cmp (at_i k) (at_j' k)) ∙ Less-from_sorted cmp xs i j x up lt in_j in
@@ -367,7 +390,7 @@ one_table_in_order d a b law length_a length_b distinct moves order_a order_b =
     ext_get_or None a b (length_a ∙ sym length_b) (λ i within. same_slot d a b h agree i (get_or a i None) (get_or b i None) (slice_get-get_or a i None within) (slice_get-get_or b i None (omega arith)))
 
 -- a table has no more pages than slots
-length-pages_in-le : (table : Table) → length (pages_in table) ≤ length table
+pub length-pages_in-le : (table : Table) → length (pages_in table) ≤ length table
 unfolding pages_in
 length-pages_in-le [] = omega arith
 length-pages_in-le (None ∷ table) = omega (arith, length-pages_in-le table)

@@ -35,6 +35,7 @@ picked_keeps false x y t r f g = g
 step_to_keeps : (t : Tree) (c : Command) (p : Parameters) (next : Tree) (r : Refusal) → (step_to t c p next).reply ≡ Refused r → (step_to t c p next).tree ≡ t
 step_to_keeps t c p next r = picked_keeps (may_fill c && nat_lt p.slots (page_count next p)) _ _ t r (λ e. refl) (λ e. absurd (reply_of-not_refused t c p r e))
 
+-- a step keeps the tree where it refuses, by whichever refusal
 step_by_keeps : (t : Tree) (c : Command) (p : Parameters) (o : Option Refusal) (r : Refusal) → (step_by t c p o).reply ≡ Refused r → (step_by t c p o).tree ≡ t
 step_by_keeps t c p (Some x) r e = refl
 step_by_keeps t c p None r e = step_to_keeps t c p (next_tree t c) r e
@@ -44,6 +45,7 @@ pub refused_step_keeps : (t : Tree) (c : Command) (p : Parameters) (r : Refusal)
 unfolding step
 refused_step_keeps t c p r e = step_by_keeps t c p (refusal_of t c) r e
 
+-- so does the answer to a line that was parsed
 answer_by_keeps : (t : Tree) (parsed : Result Command Refusal) (p : Parameters) (r : Refusal) → (answer_by t parsed p).reply ≡ Refused r → (answer_by t parsed p).tree ≡ t
 answer_by_keeps t (Err x) p r e = refl
 answer_by_keeps t (Ok c) p r e = refused_step_keeps t c p r e
@@ -53,7 +55,7 @@ pub refused_answer_keeps : (t : Tree) (text : List ℕ) (p : Parameters) (r : Re
 unfolding answer
 refused_answer_keeps t text p r = picked_keeps (nat_lt line_limit (length text)) _ _ t r (λ e. refl) (answer_by_keeps t (parse text) p r)
 
--- the replies to questions and then to more questions, where each is answered by a step
+-- the replies to questions and then to more questions, whatever answers them
 pub replies_by-append : {Q : Type 0} (answered : Tree → Q → Step) (t : Tree) (a b : List Q) → replies_by answered t (a ++ b) ≡ replies_by answered t a ++ replies_by answered (tree_by answered t a) b
 unfolding replies_by tree_by
 replies_by-append answered t [] b = refl
@@ -65,11 +67,12 @@ unfolding tree_by
 tree_by-append answered t [] b = refl
 tree_by-append answered t (question ∷ a) b = tree_by-append answered (answered t question).tree a b
 
--- the same of the lines of scripts
+-- the replies to lines and then to more lines
 pub replies-append : (t : Tree) (a b : List (List ℕ)) (p : Parameters) → replies t (a ++ b) p ≡ replies t a p ++ replies (tree_after t a p) b p
 unfolding replies tree_after
 replies-append t a b p = replies_by-append (λ u text. answer u text p) t a b
 
+-- the tree after lines and then after more lines
 pub tree_after-append : (t : Tree) (a b : List (List ℕ)) (p : Parameters) → tree_after t (a ++ b) p ≡ tree_after (tree_after t a p) b p
 unfolding tree_after
 tree_after-append t a b p = tree_by-append (λ u text. answer u text p) t a b

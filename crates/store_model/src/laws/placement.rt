@@ -6,9 +6,10 @@ ghost use Rattle.std.specs.List.{Contains, IsDistinct};
 ghost use Rattle.std.specs.List.Sorted.{IsPermutation};
 ghost use Rattle.std.specs.Ordering.{eq_by_cmp};
 ghost use Rattle.store_model.specs.Parameters.{Parameters, IsParameters};
+ghost use Rattle.store_model.specs.Trees.{Tree, IsTree};
 ghost use Rattle.store_model.specs.Labels.{label_cmp};
 ghost use Rattle.store_model.specs.Draws.{Draw, IsLawful, draw_of};
-ghost use Rattle.store_model.specs.Pages.{Page};
+ghost use Rattle.store_model.specs.Pages.{Page, Fits, pages};
 ghost use Rattle.store_model.specs.Placement.{Table, place, pages_in, HoldsPage, IsInOrder};
 
 /// Under each kind of draw every start lies in the table and every level below the height.
@@ -46,4 +47,18 @@ pub fn order_makes_the_table_unique()
     ensures the_placement { (d : Draw) (table : Table) (pages : List Page) → IsLawful d → length table ≡ d.slots →
         IsDistinct (eq_by_cmp label_cmp) (map (λ page. page.label) pages) →
         IsPermutation pages (pages_in table) → IsInOrder d table → table ≡ place d pages }
+{}
+
+/// The table of a tree that fits is in order, and each of the tree's pages stands in exactly one of its slots.
+/// It is the only table in order of these pages.
+pub fn tree_has_one_table()
+    ensures in_order { (t : Tree) (p : Parameters) → IsParameters p → IsTree t → Fits t p →
+        IsInOrder (draw_of p) (place (draw_of p) (pages t p)) }
+    ensures one_slot_each { (t : Tree) (p : Parameters) → IsParameters p → IsTree t → Fits t p →
+        (page : Page) → Contains (pages t p) page →
+        (slot : ℕ) × HoldsPage (place (draw_of p) (pages t p)) slot page
+        × ((other : ℕ) → HoldsPage (place (draw_of p) (pages t p)) other page → other ≡ slot) }
+    ensures only_order { (t : Tree) (p : Parameters) (table : Table) → IsParameters p → IsTree t →
+        length table ≡ p.slots → IsPermutation (pages t p) (pages_in table) → IsInOrder (draw_of p) table →
+        table ≡ place (draw_of p) (pages t p) }
 {}

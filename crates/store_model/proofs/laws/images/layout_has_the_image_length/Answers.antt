@@ -2,4 +2,4 @@ use Rattle.store_model.proofs.ImagesLemmas.{length-layout}
 use Rattle.store_model.proofs.laws.images.layout_has_the_image_length.Goals as goal
 
 pub returns : goal.returns
-returns c t p is tree fits all = length-layout t p is fits all
+returns c = length-layout
