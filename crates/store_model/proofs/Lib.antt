@@ -2,6 +2,7 @@ pub mod ImagesLemmas
 pub mod ListsLemmas
 pub mod ListsLemmasCuts
 pub mod PagesLemmas
+pub mod PagesLemmasKeys
 pub mod PagesLemmasOrder
 pub mod PagesLemmasSizes
 pub mod PairsLemmas

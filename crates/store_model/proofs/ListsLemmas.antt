@@ -1,12 +1,12 @@
 -- Lemmas on lists: how they compare, and when a list rises.
 use Rattle.std.proofs.Common.{◌≡◌, ℕ, zero, suc, ◌+◌, ◌*◌, ◌/◌, ◌%◌, ◌<◌, ◌≤◌, List, [], map, ◌∷◌, ◌++◌, length, replicate, refl, sym, ap, ◌∙◌, cond, arith, ap₂, Bool, true, false, ◌&&◌, IsTrue, Ordering, Less, Equal, Greater, nat_cmp}
-use Rattle.std.specs.Ordering.{ordering_then, is_lt}
+use Rattle.std.specs.Ordering.{ordering_then, is_lt, is_gt}
 use Rattle.std.specs.List.{AllByRecursion, list_all, flat_map, filter, enumerate_from}
 use Rattle.std.specs.List.Sorted.{IsStrictlySortedBy}
 use Rattle.std.specs.FinMap.{is_sorted}
 use Rattle.std.specs.FinMap.Entries.{below_all}
 use Rattle.std.proofs.lemmas.List.{length-map}
-use Rattle.store_model.specs.Lists.{IsBytes, numbers_from, numbers_below, run_count, run_at, runs}
+use Rattle.store_model.specs.Lists.{IsBytes, insert_in_order, in_order, numbers_from, numbers_below, run_count, run_at, runs}
 use Rattle.std.specs.Cmp.Lexicographic.{slice_cmp}
 use Rattle.std.specs.Int.{w32, to_be_bytes}
 use Rattle.std.proofs.lemmas.Bool.Decides.{nat_tests}
@@ -286,3 +286,14 @@ pub rising_back : {K : Type 0} (c : K → K → Ordering) (xs ys : List K) → I
 unfolding IsStrictlySortedBy
 rising_back c [] ys h = h
 rising_back c (x ∷ xs) ys h = rising_back c xs ys h.1
+
+-- what rises stays as it is when it is put in order
+insert_below_all : {K : Type 0} (c : K → K → Ordering) (x : K) (xs : List K) → AllByRecursion (λ y. c x y ≡ Less) xs → insert_in_order c x xs ≡ x ∷ xs
+unfolding insert_in_order
+insert_below_all c x [] h = refl
+insert_below_all c x (y ∷ ys) h = ap (λ o. cond (is_gt o) (y ∷ insert_in_order c x ys) (x ∷ y ∷ ys)) h.0
+
+pub in_order_of_rising : {K : Type 0} (c : K → K → Ordering) (xs : List K) → IsStrictlySortedBy c xs → in_order c xs ≡ xs
+unfolding in_order IsStrictlySortedBy
+in_order_of_rising c [] h = refl
+in_order_of_rising c (x ∷ xs) h = ap (insert_in_order c x) (in_order_of_rising c xs h.1) ∙ insert_below_all c x xs h.0

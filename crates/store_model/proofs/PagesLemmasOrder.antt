@@ -199,15 +199,15 @@ pub record IsKeyed (s : List Pair) : Type 0 where
   pub lengths : AllByRecursion (λ pair. length pair.0 ≡ 124) s
   pub few : length s ≤ 4294967296
 
-cell_on-key : (level : ℕ) (pair : Pair) → (cell_on level pair).key ≡ pair.0
+pub cell_on-key : (level : ℕ) (pair : Pair) → (cell_on level pair).key ≡ pair.0
 cell_on-key level pair = elim (level == 0) as (λ b. (cond {A = Cell} b (record { key = pair.0; value = Some pair.1 }) (record { key = pair.0; value = None })).key ≡ pair.0) [ true ↦ refl | false ↦ refl ]
 
-pub rising_level_list : (d : Draw) (s : List Pair) (level : ℕ) → IsKeyed s → IsStrictlySortedBy cell_cmp (level_list d s level)
+pub rising_level_list : (d : Draw) (s : List Pair) (level : ℕ) → IsTrue (is_sorted key_cmp s) → IsStrictlySortedBy cell_cmp (level_list d s level)
 unfolding level_list
 rising_level_list d s level h =
     let stays = λ (pair : Pair). nat_le level (d.level pair.0) in
     rising_map pair_cmp cell_cmp (cell_on level) (λ pair. Unit {0}) (λ a b u v l. ap₂ key_cmp (cell_on-key level a) (cell_on-key level b) ∙ l)
-    (filter stays s) (all_none _ (λ pair. tt) (filter stays s)) (IsStrictlySortedBy-filter pair_cmp stays s (rising_from_is_sorted key_cmp s h.sorted))
+    (filter stays s) (all_none _ (λ pair. tt) (filter stays s)) (IsStrictlySortedBy-filter pair_cmp stays s (rising_from_is_sorted key_cmp s h))
 
 lengths_of_level_list : (d : Draw) (s : List Pair) (level : ℕ) → IsKeyed s → AllByRecursion (λ cell. length cell.key ≡ 124) (level_list d s level)
 unfolding level_list
@@ -254,7 +254,7 @@ rising_level_pages d s level h =
     rising_flat_map (λ a b. lead_cmp (lead_of d level a) (lead_of d level b)) page_cmp (λ cells. group_pages level (lead_of d level cells) cells) (IsGroup d level)
     (λ cells g. rising_group_pages level (lead_of d level cells) cells g.led g.few)
     (λ a b g k l. below_groups level (lead_of d level a) (lead_of d level b) (group_pages level (lead_of d level a) a) (group_pages level (lead_of d level b) b) g.led k.led l (pages_of_group level (lead_of d level a) a g.few) (pages_of_group level (lead_of d level b) b k.few))
-    (groups d s level) (all_groups d s level h) (rising_groups d level (level_list d s level) (rising_level_list d s level h))
+    (groups d s level) (all_groups d s level h) (rising_groups d level (level_list d s level) (rising_level_list d s level h.sorted))
 
 -- the pages of a list come in the order of their labels
 pub rising_pages : (d : Draw) (s : List Pair) → IsKeyed s → IsStrictlySortedBy page_cmp (pages_of_pairs d s)

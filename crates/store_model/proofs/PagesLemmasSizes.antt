@@ -6,20 +6,21 @@ use Rattle.std.specs.FinMap.{is_sorted}
 use Rattle.std.specs.Ordering.{eq_by_cmp}
 use Rattle.std.proofs.lemmas.Bool.{eqb-false}
 use Rattle.std.proofs.lemmas.List.{length-append, length-map}
-use Rattle.store_model.specs.Lists.{IsBytes, runs, run_count, cut_before, numbers_from, numbers_below}
+use Rattle.store_model.specs.Lists.{IsBytes, in_order, runs, run_count, cut_before, numbers_from, numbers_below}
 use Rattle.store_model.specs.Paths.{key_cmp}
 use Rattle.store_model.specs.Labels.{Lead, Label, IsLead, IsLabel, label_cmp}
 use Rattle.store_model.specs.Labels.Lead.{Start, Leader}
 use Rattle.store_model.specs.Draws.{Draw, draw_of}
 use Rattle.store_model.specs.Pairs.{Pair, pairs}
 use Rattle.store_model.specs.Pages.{Cell, Page, page_room, cell_on, level_list, leads_group, groups, lead_of, group_pages, level_pages, pages_of_pairs, IsValue, IsCellValue, IsCell, IsPage, Fits, page_count, pages}
+use Rattle.store_model.specs.Placement.{page_cmp}
 use Rattle.store_model.specs.Parameters.{Parameters, IsParameters}
 use Rattle.store_model.specs.Trees.{Tree, IsTree}
-use Rattle.store_model.proofs.ListsLemmas.{all_none, all_weaker, all_with, all_map, all_flat_map, all_filter, all_numbers_below, rising_to_map}
+use Rattle.store_model.proofs.ListsLemmas.{all_none, all_weaker, all_with, all_map, all_flat_map, all_filter, all_numbers_below, rising_to_map, in_order_of_rising}
 use Rattle.store_model.proofs.ListsLemmasCuts.{flat_map-cut_before, all_parts, rising_parts, length_of_parts, all_runs, rising_runs, lengths_of_runs, all_enumerate_from}
 use Rattle.store_model.proofs.PairsLemmas.{IsPair, is_sorted-pairs, pairs_are_pairs}
 use Rattle.store_model.proofs.PagesLemmas.{some_room, cells_of_level_0}
-use Rattle.store_model.proofs.PagesLemmasOrder.{IsKeyed, cell_cmp, page_of, run_number_in_range, rising_level_list, few_cells, rising_labels, distinct_labels}
+use Rattle.store_model.proofs.PagesLemmasOrder.{IsKeyed, cell_cmp, page_of, run_number_in_range, rising_level_list, few_cells, rising_pages, rising_labels, distinct_labels}
 
 -- what the pages need to know of a list of pairs
 pub record IsPairList (s : List Pair) : Type 0 where
@@ -63,7 +64,7 @@ all_cell_groups d s level h =
     let parts = cut_before (leads_group d level) cells in
     let whole = sym (flat_map-cut_before (leads_group d level) cells) in
     let each = all_parts (IsCell level) parts (subst (AllByRecursion (IsCell level)) whole (cells_of_level_list d s level h)) in
-    let rising = rising_parts cell_cmp parts (subst (IsStrictlySortedBy cell_cmp) whole (rising_level_list d s level (keyed s h))) in
+    let rising = rising_parts cell_cmp parts (subst (IsStrictlySortedBy cell_cmp) whole (rising_level_list d s level h.sorted)) in
     let few = length_of_parts 4294967296 parts (subst (λ cs. length cs ≤ 4294967296) whole (few_cells d s level (keyed s h))) in
     all_with (λ g. AllByRecursion (IsCell level) g × IsStrictlySortedBy cell_cmp g) _ _ (λ g a b. record { each = a.0; rising = a.1; few = b }) parts (all_with _ _ _ (λ g a b. (a, b)) parts each rising) few
 
@@ -83,12 +84,12 @@ all_cell_runs level cells h =
 
 page_of_run : (level : ℕ) (lead : Lead) (index : ℕ) (run : List Cell) → level < 256 → IsLead lead → index < 4294967296 → IsRun level run → IsPage (page_of level lead (index, run))
 page_of_run level lead index run small l few h = record {
-    label = record { level = small; lead = l; index = few };
-    some_cell = h.some_cell;
-    room = h.room;
-    cells = h.each;
-    rising = rising_to_map key_cmp (λ c. c.key) run h.rising;
-  }
+  label = record { level = small; lead = l; index = few };
+  some_cell = h.some_cell;
+  room = h.room;
+  cells = h.each;
+  rising = rising_to_map key_cmp (λ c. c.key) run h.rising;
+}
 
 group_pages_are_pages : (level : ℕ) (lead : Lead) (cells : List Cell) → level < 256 → IsLead lead → IsCellGroup level cells → AllByRecursion IsPage (group_pages level lead cells)
 unfolding group_pages
@@ -168,3 +169,8 @@ rising_tree_labels t p h g fits = rising_labels (draw_of p) (pairs t p) (keyed (
 pub distinct_tree_labels : (t : Tree) (p : Parameters) → IsParameters p → IsTree t → Fits t p → IsDistinct (eq_by_cmp label_cmp) (map (λ page. page.label) (pages t p))
 unfolding pages
 distinct_tree_labels t p h g fits = distinct_labels (draw_of p) (pairs t p) (keyed (pairs t p) (pair_list_of_tree t p h g fits))
+
+-- the pages of a tree come by rank
+pub tree_pages_by_rank : (t : Tree) (p : Parameters) → IsParameters p → IsTree t → Fits t p → in_order page_cmp (pages t p) ≡ pages t p
+unfolding pages
+tree_pages_by_rank t p h g fits = in_order_of_rising page_cmp (pages t p) (rising_pages (draw_of p) (pairs t p) (keyed (pairs t p) (pair_list_of_tree t p h g fits)))
