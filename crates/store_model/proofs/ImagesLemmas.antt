@@ -13,7 +13,7 @@ use Rattle.store_model.specs.Labels.{Lead, Label, IsLead, IsLabel, lead_bytes, l
 use Rattle.store_model.specs.Labels.Lead.{Start, Leader}
 use Rattle.store_model.specs.Pages.{Cell, IsCell, IsCellValue, Page, IsPage, Fits, pages}
 use Rattle.store_model.specs.Placement.{Table, place, pages_in}
-use Rattle.store_model.specs.Images.{header, value_bytes, cell_bytes, page_bytes, slot_bytes, table_bytes, journal_len, layout, bytes_at, is_raised, is_marked, recovered_slot, recovered, Represents}
+use Rattle.store_model.specs.Images.{header, value_bytes, cell_bytes, page_bytes, slot_bytes, table_bytes, journal_len, layout, bytes_at, is_flag_set, is_marked, recovered_slot, recovered, Represents}
 use Rattle.store_model.proofs.PagesLemmasSizes.{tree_pages_are_pages}
 use Rattle.store_model.proofs.PlacementLemmas.{length-numbers_from, length-place, IsPermutation-place}
 use Rattle.store_model.proofs.PlacementLemmasDraws.{IsLawful-draw_of}
@@ -162,12 +162,12 @@ unfolding table_at journal_len
 table_at_is slots i = omega arith
 
 -- an image with zeros behind its header is not raised
-pub not_raised : (m : ℕ) (head rest : List ℕ) → length head ≡ 4096 → 0 < m → is_raised (head ++ zeros m ++ rest) ≡ false
-unfolding is_raised
+pub not_raised : (m : ℕ) (head rest : List ℕ) → length head ≡ 4096 → 0 < m → is_flag_set (head ++ zeros m ++ rest) ≡ false
+unfolding is_flag_set
 not_raised m head rest h some = ap (λ (b : ℕ). not (b == 0)) (zero_behind 4096 m head rest h some)
 
 -- recovery of an image that is not raised leaves each slot as it is
-pub recovered_slot-at_rest : (slots : ℕ) (image : List ℕ) (i : ℕ) → is_raised image ≡ false → recovered_slot slots image i ≡ bytes_at image (table_at slots i) 4096
+pub recovered_slot-at_rest : (slots : ℕ) (image : List ℕ) (i : ℕ) → is_flag_set image ≡ false → recovered_slot slots image i ≡ bytes_at image (table_at slots i) 4096
 unfolding recovered_slot
 recovered_slot-at_rest slots image i rest = ap (λ (b : Bool). bytes_at image (if b && is_marked image i then shadow_at slots i else table_at slots i) 4096) rest
 
@@ -227,7 +227,7 @@ table_in_image slots i h = omega arith
 -- what recovery leaves in a slot is a block
 length-recovered_slot : (slots : ℕ) (image : List ℕ) (i : ℕ) → length image ≡ image_len slots → i < slots → length (recovered_slot slots image i) ≡ 4096
 unfolding recovered_slot
-length-recovered_slot slots image i h lt = either (is_raised image && is_marked image i)
+length-recovered_slot slots image i h lt = either (is_flag_set image && is_marked image i)
   where
     either : (b : Bool) → length (bytes_at image (if b then shadow_at slots i else table_at slots i) 4096) ≡ 4096
     either true = length-bytes_at image (shadow_at slots i) 4096 (omega (arith, shadow_in_image slots i lt))

@@ -1,5 +1,5 @@
 -- Lemmas on lists: how they compare, and when a list rises.
-use Rattle.std.proofs.Common.{◌≡◌, ℕ, zero, suc, ◌+◌, ◌*◌, ◌/◌, ◌%◌, ◌<◌, ◌≤◌, List, [], map, ◌∷◌, ◌++◌, length, replicate, refl, sym, ap, ◌∙◌, cond, arith, ap₂, Bool, true, false, ◌&&◌, IsTrue, Ordering, Less, Equal, Greater, nat_cmp}
+use Rattle.std.proofs.Common.{◌≡◌, ℕ, zero, suc, ◌+◌, ◌/◌, ◌%◌, ◌<◌, ◌≤◌, List, [], map, ◌∷◌, ◌++◌, length, replicate, refl, sym, ap, ◌∙◌, cond, arith, ap₂, Bool, true, false, ◌&&◌, IsTrue, Ordering, Less, Equal, Greater, nat_cmp}
 use Rattle.std.specs.Ordering.{ordering_then, is_lt, is_gt}
 use Rattle.std.specs.List.{AllByRecursion, list_all, flat_map, filter, enumerate_from}
 use Rattle.std.specs.List.Sorted.{IsStrictlySortedBy}

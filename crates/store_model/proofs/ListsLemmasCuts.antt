@@ -1,5 +1,5 @@
 -- Lemmas on lists that are cut: runs, and cuts before elements.
-use Rattle.std.proofs.Common.{◌≡◌, ℕ, zero, suc, ◌+◌, ◌-◌, ◌*◌, ◌/◌, ◌<◌, ◌≤◌, List, [], ◌∷◌, ◌++◌, map, length, take, drop, refl, sym, ap, ap₂, subst, ◌∙◌, cond, arith, Bool, true, false, IsTrue, mul-zero, mul-suc, mul-le-mul_left, take-add, Ordering}
+use Rattle.std.proofs.Common.{◌≡◌, ℕ, zero, suc, ◌+◌, ◌*◌, ◌<◌, ◌≤◌, List, [], ◌∷◌, ◌++◌, map, length, take, drop, refl, sym, ap, ap₂, subst, ◌∙◌, cond, arith, Bool, true, false, mul-zero, mul-suc, mul-le-mul_left, take-add, Ordering}
 use Rattle.std.specs.List.{AllByRecursion, flat_map, filter, enumerate_from}
 use Rattle.std.specs.List.Sorted.{IsStrictlySortedBy}
 use Rattle.std.proofs.lemmas.List.{length-take, length-drop, length-append, drop-drop, take_all}

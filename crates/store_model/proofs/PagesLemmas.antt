@@ -1,11 +1,11 @@
 -- Lemmas on the cut of a list into pages: it loses no cell.
-use Rattle.std.proofs.Common.{◌≡◌, ℕ, ◌+◌, ◌<◌, ◌≤◌, List, [], ◌∷◌, ◌++◌, map, length, refl, sym, ap, ◌∙◌, cond, arith, Bool, true, false, IsTrue, nat_le, le-leb, ◌==◌, Option, Some, None}
-use Rattle.std.specs.List.{AllByRecursion, flat_map, filter, enumerate_from}
-use Rattle.store_model.specs.Lists.{runs, cut_before, numbers_below}
-use Rattle.store_model.specs.Labels.{Lead, Label}
+use Rattle.std.proofs.Common.{◌≡◌, ℕ, ◌≤◌, List, [], ◌∷◌, map, refl, ap, ◌∙◌, cond, arith, true, false, nat_le, le-leb, ◌==◌}
+use Rattle.std.specs.List.{flat_map, filter, enumerate_from}
+use Rattle.store_model.specs.Lists.{runs}
+use Rattle.store_model.specs.Labels.{Lead}
 use Rattle.store_model.specs.Draws.{Draw}
 use Rattle.store_model.specs.Pairs.{Pair}
-use Rattle.store_model.specs.Pages.{Cell, Page, page_room, cell_on, level_list, leads_group, groups, lead_of, group_pages, level_pages, pages_of_pairs}
+use Rattle.store_model.specs.Pages.{Cell, Page, page_room, cell_on, level_list, leads_group, groups, lead_of, group_pages, level_pages}
 use Rattle.store_model.proofs.ListsLemmasCuts.{flat_map-flat_map, flat_map-map, flat_map_same, flat_map-enumerate_from, flat_map-runs, flat_map-cut_before}
 
 pub some_room : (level : ℕ) → 1 ≤ page_room level

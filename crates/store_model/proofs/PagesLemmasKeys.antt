@@ -1,5 +1,5 @@
 -- Lemmas on where a key stands: in one page of each level up to its own.
-use Rattle.std.proofs.Common.{◌≡◌, ℕ, ◌+◌, List, [], ◌∷◌, ◌++◌, map, refl, sym, ap, ap₂, subst, ◌∙◌, cond, arith, Bool, true, false, ◌&&◌, ◌||◌, IsTrue, nat_le, count_by, Ordering, Less, Equal}
+use Rattle.std.proofs.Common.{◌≡◌, ℕ, ◌+◌, List, [], ◌∷◌, ◌++◌, map, refl, sym, ap, ap₂, subst, ◌∙◌, cond, arith, Bool, true, false, ◌&&◌, ◌||◌, IsTrue, nat_le, count_by, Less, Equal}
 use Rattle.std.specs.List.{AllByRecursion, flat_map, filter, list_any}
 use Rattle.std.specs.List.Sorted.{IsStrictlySortedBy}
 use Rattle.std.specs.FinMap.{is_sorted}

@@ -1,7 +1,7 @@
 -- Lemmas on the pages of a list of pairs: they come in the order of their labels.
-use Rattle.std.proofs.Common.{◌≡◌, ℕ, zero, suc, ◌+◌, ◌<◌, ◌≤◌, List, [], ◌∷◌, ◌++◌, map, length, drop, refl, sym, ap, ap₂, subst, ◌∙◌, cond, arith, Bool, true, false, IsTrue, nat_le, ◌==◌, Option, Some, None, Ordering, Less, Equal, nat_cmp}
+use Rattle.std.proofs.Common.{◌≡◌, ℕ, suc, ◌<◌, ◌≤◌, List, [], ◌∷◌, map, length, drop, refl, sym, ap, ap₂, subst, ◌∙◌, cond, arith, Bool, true, false, IsTrue, nat_le, ◌==◌, Some, None, Ordering, Less, nat_cmp}
 use Rattle.std.specs.Ordering.{ordering_then, eq_by_cmp}
-use Rattle.std.specs.List.{AllByRecursion, flat_map, filter, enumerate_from, IsDistinct}
+use Rattle.std.specs.List.{AllByRecursion, filter, enumerate_from, IsDistinct}
 use Rattle.std.specs.List.Sorted.{IsStrictlySortedBy}
 use Rattle.std.specs.FinMap.{is_sorted}
 use Rattle.std.specs.Cmp.{tied_itself}

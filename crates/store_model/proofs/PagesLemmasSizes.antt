@@ -1,18 +1,18 @@
 -- Lemmas on the pages of a list of pairs: each fits a slot.
-use Rattle.std.proofs.Common.{◌≡◌, ℕ, zero, suc, ◌+◌, ◌*◌, ◌<◌, ◌≤◌, List, [], ◌∷◌, ◌++◌, map, length, refl, sym, ap, ap₂, subst, ◌∙◌, cond, arith, Bool, true, false, IsTrue, nat_le, ◌==◌, eqb-true, Option, Some, None, Ordering, Less}
+use Rattle.std.proofs.Common.{◌≡◌, ℕ, zero, suc, ◌*◌, ◌<◌, ◌≤◌, List, [], ◌∷◌, map, length, refl, sym, ap, subst, ◌∙◌, cond, arith, Bool, true, false, IsTrue, nat_le, ◌==◌, eqb-true, Some, None}
 use Rattle.std.specs.List.{AllByRecursion, flat_map, filter, enumerate_from, IsDistinct}
 use Rattle.std.specs.List.Sorted.{IsStrictlySortedBy}
 use Rattle.std.specs.FinMap.{is_sorted}
 use Rattle.std.specs.Ordering.{eq_by_cmp}
 use Rattle.std.proofs.lemmas.Bool.{eqb-false}
 use Rattle.std.proofs.lemmas.List.{length-append, length-map}
-use Rattle.store_model.specs.Lists.{IsBytes, in_order, runs, run_count, cut_before, numbers_from, numbers_below}
+use Rattle.store_model.specs.Lists.{in_order, runs, cut_before, numbers_from, numbers_below}
 use Rattle.store_model.specs.Paths.{key_cmp}
-use Rattle.store_model.specs.Labels.{Lead, Label, IsLead, IsLabel, label_cmp}
+use Rattle.store_model.specs.Labels.{Lead, IsLead, label_cmp}
 use Rattle.store_model.specs.Labels.Lead.{Start, Leader}
 use Rattle.store_model.specs.Draws.{Draw, draw_of}
 use Rattle.store_model.specs.Pairs.{Pair, pairs}
-use Rattle.store_model.specs.Pages.{Cell, Page, page_room, cell_on, level_list, leads_group, groups, lead_of, group_pages, level_pages, pages_of_pairs, IsValue, IsCellValue, IsCell, IsPage, Fits, page_count, pages}
+use Rattle.store_model.specs.Pages.{Cell, Page, page_room, cell_on, level_list, leads_group, groups, lead_of, group_pages, level_pages, pages_of_pairs, IsCell, IsPage, Fits, pages}
 use Rattle.store_model.specs.Placement.{page_cmp}
 use Rattle.store_model.specs.Parameters.{Parameters, IsParameters}
 use Rattle.store_model.specs.Trees.{Tree, IsTree}

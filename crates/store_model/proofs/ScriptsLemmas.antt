@@ -5,7 +5,7 @@ use Rattle.store_model.specs.Parameters.{Parameters}
 use Rattle.store_model.specs.Trees.{Tree}
 use Rattle.store_model.specs.Pages.{page_count}
 use Rattle.store_model.specs.Commands.{Command}
-use Rattle.store_model.specs.Commands.Command.{Make, Write, Cut, Rename, Remove, Prune, List_children, Read, Space, Digest}
+use Rattle.store_model.specs.Commands.Command.{Make, Write, Cut, Rename, Remove, Prune, ListChildren, Read, Space, Digest}
 use Rattle.store_model.specs.Commands.Reply.{Refused}
 use Rattle.store_model.specs.Steps.{Step, step, step_to, step_by, reply_of, refusal_of, next_tree, may_fill}
 use Rattle.store_model.specs.Scripts.{answer, answer_by, line_limit, replies_by, tree_by, replies, tree_after}
@@ -20,7 +20,7 @@ reply_of-not_refused t (Cut path len) p r e = cc
 reply_of-not_refused t (Rename from to) p r e = cc
 reply_of-not_refused t (Remove path) p r e = cc
 reply_of-not_refused t (Prune path) p r e = cc
-reply_of-not_refused t (List_children path) p r e = cc
+reply_of-not_refused t (ListChildren path) p r e = cc
 reply_of-not_refused t (Read path at len) p r e = cc
 reply_of-not_refused t Space p r e = cc
 reply_of-not_refused t Digest p r e = cc
