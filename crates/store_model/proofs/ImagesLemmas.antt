@@ -207,8 +207,8 @@ Represents-layout t p is tree fits = record {
 }
 
 -- an image that represents a tree represents it once recovered
-pub Represents-recovered : (image : List ℕ) (t : Tree) (p : Parameters) → IsTree t → Represents image t p → Represents (recovered p.slots image) t p
-Represents-recovered image t p tree r = subst (λ (x : List ℕ). Represents x t p) (sym r.layout_is) (Represents-layout t p r.names.in_range tree r.fits)
+pub Represents-recovered : (image : List ℕ) (t : Tree) (p : Parameters) → Represents image t p → Represents (recovered p.slots image) t p
+Represents-recovered image t p r = subst (λ (x : List ℕ). Represents x t p) (sym r.layout_is) (Represents-layout t p r.names.in_range r.tree r.fits)
 
 -- bytes that lie in an image are as many as are asked for
 length-bytes_at : (image : List ℕ) (at n : ℕ) → at + n ≤ length image → length (bytes_at image at n) ≡ n

@@ -27,7 +27,7 @@ pub fn layout_is_its_own_recovery()
         recovered p.slots (layout t p) ≡ layout t p }
     ensures represents { (t : Tree) (p : Parameters) → IsParameters p → IsTree t → Fits t p →
         Represents (layout t p) t p }
-    ensures represented { (image : List ℕ) (t : Tree) (p : Parameters) → IsTree t →
+    ensures represented { (image : List ℕ) (t : Tree) (p : Parameters) →
         Represents image t p → Represents (recovered p.slots image) t p }
 {}
 
