@@ -10,7 +10,7 @@ use Rattle.store_model.specs.Lists.{IsBytes, runs}
 use Rattle.store_model.specs.Parameters.{Parameters}
 use Rattle.store_model.specs.Paths.{Path, is_path, key, path_cmp, key_cmp}
 use Rattle.store_model.specs.Pairs.{Pair, file_block, directory_value, file_value, node_pairs, pairs}
-use Rattle.store_model.specs.Pages.{IsValue}
+use Rattle.store_model.specs.Pairs.{IsValue}
 use Rattle.store_model.specs.Trees.{Tree, Node, IsNode, IsEntry, IsTree}
 use Rattle.store_model.specs.Trees.Node.{Directory, File}
 use Rattle.store_model.proofs.ListsLemmas.{all_none, all_weaker, all_with, all_map, all_flat_map, IsBelow, rising_cons, rising_one, rising_map, rising_flat_map, rising_from_is_sorted, is_sorted_from_rising, numbers_in_range, numbers_rise, less_from_nat_cmp, nat_cmp-lt, length-runs, bytes_from_all, all_from_bytes, be_bytes_are_bytes}

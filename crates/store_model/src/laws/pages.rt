@@ -13,7 +13,8 @@ ghost use Rattle.store_model.specs.Trees.{Tree, IsTree};
 ghost use Rattle.store_model.specs.Pairs.{Pair};
 ghost use Rattle.store_model.specs.Labels.{label_cmp};
 ghost use Rattle.store_model.specs.Draws.{Draw};
-ghost use Rattle.store_model.specs.Pages.{cell_on, level_list, level_pages, pages_of_pairs, pages, Fits, IsValue, IsPage};
+ghost use Rattle.store_model.specs.Pages.{cell_on, level_list, level_pages, pages_of_pairs, pages, Fits, IsPage};
+ghost use Rattle.store_model.specs.Pairs.{IsValue};
 ghost use Rattle.store_model.specs.Placement.{page_cmp};
 
 /// The pages of a level, one after another, hold the cells of that level's list, each once and in

@@ -11,7 +11,7 @@ ghost use Rattle.store_model.specs.Parameters.{Parameters};
 ghost use Rattle.store_model.specs.Paths.{Path, is_path, key, path_cmp, key_cmp};
 ghost use Rattle.store_model.specs.Trees.{Tree, IsTree};
 ghost use Rattle.store_model.specs.Pairs.{pairs};
-ghost use Rattle.store_model.specs.Pages.{IsValue};
+ghost use Rattle.store_model.specs.Pairs.{IsValue};
 
 /// Keys have the order of their paths, and at one path that of the block numbers.
 pub fn fields_order_as_paths()
