@@ -1,8 +1,7 @@
 -- Lemmas on the pages of a list of pairs: each fits a slot.
-use Rattle.std.proofs.Common.{◌≡◌, ℕ, zero, suc, ◌*◌, ◌<◌, ◌≤◌, List, [], ◌∷◌, map, length, refl, sym, ap, subst, ◌∙◌, cond, arith, Bool, true, false, IsTrue, nat_le, ◌==◌, eqb-true, Some, None}
+use Rattle.std.proofs.Common.{◌≡◌, ℕ, zero, suc, ◌*◌, ◌<◌, ◌≤◌, List, [], ◌∷◌, map, length, refl, sym, ap, subst, ◌∙◌, cond, arith, Bool, true, false, nat_le, ◌==◌, eqb-true, Some, None}
 use Rattle.std.specs.List.{AllByRecursion, flat_map, filter, enumerate_from, IsDistinct}
 use Rattle.std.specs.List.Sorted.{IsStrictlySortedBy}
-use Rattle.std.specs.FinMap.{is_sorted}
 use Rattle.std.specs.Ordering.{eq_by_cmp}
 use Rattle.std.proofs.lemmas.Bool.{eqb-false}
 use Rattle.std.proofs.lemmas.List.{length-append, length-map}
@@ -11,41 +10,40 @@ use Rattle.store_model.specs.Paths.{key_cmp}
 use Rattle.store_model.specs.Labels.{Lead, IsLead, label_cmp}
 use Rattle.store_model.specs.Labels.Lead.{Start, Leader}
 use Rattle.store_model.specs.Draws.{Draw, draw_of}
-use Rattle.store_model.specs.Pairs.{Pair, pairs}
+use Rattle.store_model.specs.Pairs.{Pair, pairs, IsPair, IsPairs}
 use Rattle.store_model.specs.Pages.{Cell, Page, page_room, cell_on, level_list, leads_group, groups, lead_of, group_pages, level_pages, pages_of_pairs, IsCell, IsPage, Fits, pages}
 use Rattle.store_model.specs.Placement.{page_cmp}
 use Rattle.store_model.specs.Parameters.{Parameters, IsParameters}
 use Rattle.store_model.specs.Trees.{Tree, IsTree}
 use Rattle.store_model.proofs.ListsLemmas.{all_none, all_weaker, all_with, all_map, all_flat_map, all_filter, all_numbers_below, rising_to_map, in_order_of_rising}
 use Rattle.store_model.proofs.ListsLemmasCuts.{flat_map-cut_before, all_parts, rising_parts, length_of_parts, all_runs, rising_runs, lengths_of_runs, all_enumerate_from}
-use Rattle.store_model.proofs.PairsLemmas.{IsPair, is_sorted-pairs, pairs_are_pairs}
+use Rattle.store_model.proofs.PairsLemmas.{pairs_are_pairs}
 use Rattle.store_model.proofs.PagesLemmas.{some_room, cells_of_level_0}
 use Rattle.store_model.proofs.PagesLemmasOrder.{IsKeyed, cell_cmp, page_of, run_number_in_range, rising_level_list, few_cells, rising_pages, rising_labels, distinct_labels}
 
 -- what the pages need to know of a list of pairs
 pub record IsPairList (s : List Pair) : Type 0 where
-  pub sorted : IsTrue (is_sorted key_cmp s)
-  pub each : AllByRecursion IsPair s
+  pub pairs : IsPairs s
   pub few : length s ≤ 4294967296
 
 -- the part of it that the order of labels needs
 pub keyed : (s : List Pair) → IsPairList s → IsKeyed s
-keyed s h = record { sorted = h.sorted; lengths = all_weaker _ _ (λ pair g. g.0) s h.each; few = h.few }
+keyed s h = record { sorted = h.pairs.sorted; lengths = all_weaker _ _ (λ pair g. g.key_length) s h.pairs.pairs; few = h.few }
 
 -- the cell of a pair on a level is a cell of that level
 cell_of_pair : (level : ℕ) (pair : Pair) → IsPair pair → IsCell level (cell_on level pair)
 cell_of_pair level pair h = go (level == 0) refl
   where
     go : (b : Bool) → (level == 0) ≡ b → IsCell level (cond b (record { key = pair.0; value = Some pair.1 }) (record { key = pair.0; value = None }))
-    go true e = record { key_length = h.0; key_bytes = h.1; value = (eqb-true level 0 e, h.2) }
-    go false e = record { key_length = h.0; key_bytes = h.1; value = (let apart = eqb-false level 0 e in omega arith) }
+    go true e = record { key_length = h.key_length; key_bytes = h.key_bytes; value = (eqb-true level 0 e, h.value) }
+    go false e = record { key_length = h.key_length; key_bytes = h.key_bytes; value = (let apart = eqb-false level 0 e in omega arith) }
 
 -- the cells of a level's list are cells of that level
 cells_of_level_list : (d : Draw) (s : List Pair) (level : ℕ) → IsPairList s → AllByRecursion (IsCell level) (level_list d s level)
 unfolding level_list
 cells_of_level_list d s level h =
     let stays = λ (pair : Pair). nat_le level (d.level pair.0) in
-    all_map IsPair (IsCell level) (cell_on level) (cell_of_pair level) (filter stays s) (all_filter IsPair stays s h.each)
+    all_map IsPair (IsCell level) (cell_on level) (cell_of_pair level) (filter stays s) (all_filter IsPair stays s h.pairs.pairs)
 
 -- what leads a group of such cells
 lead_of_cells : (d : Draw) (level : ℕ) (cells : List Cell) → AllByRecursion (IsCell level) cells → IsLead (lead_of d level cells)
@@ -67,7 +65,7 @@ all_cell_groups d s level h =
     let parts = cut_before (leads_group d level) cells in
     let whole = sym (flat_map-cut_before (leads_group d level) cells) in
     let each = all_parts (IsCell level) parts (subst (AllByRecursion (IsCell level)) whole (cells_of_level_list d s level h)) in
-    let rising = rising_parts cell_cmp parts (subst (IsStrictlySortedBy cell_cmp) whole (rising_level_list d s level h.sorted)) in
+    let rising = rising_parts cell_cmp parts (subst (IsStrictlySortedBy cell_cmp) whole (rising_level_list d s level h.pairs.sorted)) in
     let few = length_of_parts 4294967296 parts (subst (λ cs. length cs ≤ 4294967296) whole (few_cells d s level (keyed s h))) in
     all_with (λ g. AllByRecursion (IsCell level) g × IsStrictlySortedBy cell_cmp g) _ _ (λ g a b. record { each = a.0; rising = a.1; few = b }) parts (all_with _ _ _ (λ g a b. (a, b)) parts each rising) few
 
@@ -164,8 +162,7 @@ pub pair_list_of_tree : (t : Tree) (p : Parameters) → IsParameters p → IsTre
 unfolding pages draw_of
 pair_list_of_tree t p h g fits =
     record {
-      sorted = is_sorted-pairs t p g;
-      each = pairs_are_pairs t p g;
+      pairs = pairs_are_pairs t p g;
       few = (let few = pairs_per_page (draw_of p) (pairs t p) h.some_level in let slots = h.slots_in_range in omega arith);
     }
 

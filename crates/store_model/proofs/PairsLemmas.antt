@@ -9,8 +9,7 @@ use Rattle.std.specs.Cmp.Lexicographic.{nat_list_cmp_total, lists_total}
 use Rattle.store_model.specs.Lists.{IsBytes, runs}
 use Rattle.store_model.specs.Parameters.{Parameters}
 use Rattle.store_model.specs.Paths.{Path, is_path, key, path_cmp, key_cmp}
-use Rattle.store_model.specs.Pairs.{Pair, file_block, directory_value, file_value, node_pairs, pairs}
-use Rattle.store_model.specs.Pairs.{IsValue}
+use Rattle.store_model.specs.Pairs.{Pair, file_block, directory_value, file_value, node_pairs, pairs, IsValue, IsPair, IsPairs}
 use Rattle.store_model.specs.Trees.{Tree, Node, IsNode, IsEntry, IsTree}
 use Rattle.store_model.specs.Trees.Node.{Directory, File}
 use Rattle.store_model.proofs.ListsLemmas.{all_none, all_weaker, all_with, all_map, all_flat_map, IsBelow, rising_cons, rising_one, rising_map, rising_flat_map, rising_from_is_sorted, is_sorted_from_rising, numbers_in_range, numbers_rise, less_from_nat_cmp, nat_cmp-lt, length-runs, bytes_from_all, all_from_bytes, be_bytes_are_bytes}
@@ -93,13 +92,9 @@ rising_keys t p h = rising_map pair_cmp key_cmp (λ pair. pair.0) (λ pair. Unit
 
 -- ---- each pair has a key of 124 bytes and a value of 1 to 256
 
--- the pair has a key and a value of the sizes that a slot holds
-abbrev pub IsPair : Pair → Type 0
-IsPair pair = (length pair.0 ≡ 124) × IsBytes pair.0 × IsValue pair.1
-
 -- a pair of a key and a value
 key_pair : (path : Path) (block : ℕ) (value : List ℕ) → IsTrue (is_path path) → IsValue value → IsPair (key path block, value)
-key_pair path block value h v = (length-key path block h, bytes_of_key path block h, v)
+key_pair path block value h v = record { key_length = length-key path block h; key_bytes = bytes_of_key path block h; value = v }
 
 -- a directory's value is a value
 directory_value_is_value : IsValue directory_value
@@ -125,7 +120,10 @@ node_pairs_are_pairs path (File bytes) p h g = (
       (all_enumerate_from IsValue 1 (runs file_block bytes) (blocks_are_values bytes g.1)),
 )
 
--- and of a tree
-pub pairs_are_pairs : (t : Tree) (p : Parameters) → IsTree t → AllByRecursion IsPair (pairs t p)
+-- the pairs of a tree
+pub pairs_are_pairs : (t : Tree) (p : Parameters) → IsTree t → IsPairs (pairs t p)
 unfolding pairs
-pairs_are_pairs t p h = all_flat_map (IsEntry t) IsPair (λ e. node_pairs e.0 e.1 p) (λ e g. node_pairs_are_pairs e.0 e.1 p g.path g.node) t h.entries
+pairs_are_pairs t p h = record {
+  sorted = is_sorted-pairs t p h;
+  pairs = all_flat_map (IsEntry t) IsPair (λ e. node_pairs e.0 e.1 p) (λ e g. node_pairs_are_pairs e.0 e.1 p g.path g.node) t h.entries;
+}
