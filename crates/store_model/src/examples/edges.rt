@@ -116,16 +116,16 @@ pub fn fields_of_lines()
 
 /// Where two refusals hold, the earlier one is answered.
 pub fn first_refusals()
-    ensures make_remove_prune { output (ruler 1 1) (text ("make /" ∷ "remove /" ∷ "prune /" ∷ "remove /x" ∷ "prune /x" ∷ "make /x/y" ∷ "make /a" ∷ "make /a/b" ∷ "make /ab" ∷ "remove /a" ∷ "prune /a" ∷ "list /" ∷ [])) ≡
-        text ("no root" ∷ "no root" ∷ "no root" ∷ "no missing" ∷ "no missing" ∷ "no parent" ∷ "ok" ∷ "ok" ∷ "ok" ∷ "no notempty" ∷ "ok" ∷ "d ab" ∷ "end" ∷ []) }
-    ensures write { output (ruler 2 2) (text ("write / 9 -" ∷ "write /x/y 9 -" ∷ "make /Ua" ∷ "write /Ua 1 -" ∷ "write /UU 1 00" ∷ "write /UU 0 00" ∷ [])) ≡
-        text ("no kind" ∷ "no parent" ∷ "ok" ∷ "no kind" ∷ "no gap" ∷ "no full 3 2" ∷ []) }
+    ensures make_remove_prune { output (ruler 1 1) (text ("make /" ∷ "remove /" ∷ "prune /" ∷ "remove /x" ∷ "prune /x" ∷ "make /x/y" ∷ "make /a" ∷ "make /a/b" ∷ "make /ab" ∷ "remove /" ∷ "remove /a" ∷ "prune /a" ∷ "list /" ∷ [])) ≡
+        text ("no root" ∷ "no root" ∷ "no root" ∷ "no missing" ∷ "no missing" ∷ "no parent" ∷ "ok" ∷ "ok" ∷ "ok" ∷ "no root" ∷ "no notempty" ∷ "ok" ∷ "d ab" ∷ "end" ∷ []) }
+    ensures write { output (ruler 2 2) (text ("write / 9 -" ∷ "write /x/y 9 -" ∷ "make /Ua" ∷ "write /Ua 1 -" ∷ "write /UU 4294967295 00" ∷ "write /UU 1 00" ∷ "write /UU 0 00" ∷ [])) ≡
+        text ("no kind" ∷ "no parent" ∷ "ok" ∷ "no kind" ∷ "no gap" ∷ "no gap" ∷ "no full 3 2" ∷ []) }
     ensures cut_read_list { output (ruler 2 1) (text ("cut / 1" ∷ "cut /x 1" ∷ "read / 1 4097" ∷ "read /x 1 4097" ∷ "write /f 0 00" ∷ "read /f 2 4097" ∷ "read /f 1 4097" ∷ "read /f 1 4096" ∷ "list /f" ∷ "list /f/x" ∷ [])) ≡
         text ("no kind" ∷ "no missing" ∷ "no kind" ∷ "no missing" ∷ "ok" ∷ "no gap" ∷ "no big" ∷ "ok -" ∷ "no kind" ∷ "no missing" ∷ []) }
-    ensures rename { output (ruler 2 1) (text ("rename /x /" ∷ "rename / /x" ∷ "rename /x /x/y" ∷ "make /a" ∷ "rename /a /a/y/z" ∷ "rename /a /b/y" ∷ "write /f 0 -" ∷ "rename /a /f/y" ∷ "rename /f /f/g" ∷ "rename /a /f" ∷ [])) ≡
-        text ("no root" ∷ "no root" ∷ "no missing" ∷ "ok" ∷ "no inside" ∷ "no parent" ∷ "ok" ∷ "no parent" ∷ "no inside" ∷ "no exists" ∷ []) }
-    ensures rename_of_a_deep_path { output (ruler 1 1) (text ("make /d" ∷ "make /dd" ∷ []) ++ codes "make /d/" ++ replicate 117 0x78 ++ 10 ∷ text ("rename /d /dd" ∷ "rename /d /ee" ∷ [])) ≡
-        text ("ok" ∷ "ok" ∷ "ok" ∷ "no exists" ∷ "no path" ∷ []) }
+    ensures rename { output (ruler 2 1) (text ("rename /x /" ∷ "rename / /x" ∷ "rename /x /x/y" ∷ "rename /x /q/y" ∷ "make /a" ∷ "make /a/b" ∷ "rename /x /a" ∷ "rename /a /a/b" ∷ "rename /a /a/y/z" ∷ "rename /a /q/y" ∷ "write /f 0 -" ∷ "rename /a /f/y" ∷ "rename /f /f/g" ∷ "rename /a /f" ∷ [])) ≡
+        text ("no root" ∷ "no root" ∷ "no missing" ∷ "no missing" ∷ "ok" ∷ "ok" ∷ "no missing" ∷ "no inside" ∷ "no inside" ∷ "no parent" ∷ "ok" ∷ "no parent" ∷ "no inside" ∷ "no exists" ∷ []) }
+    ensures rename_of_a_deep_path { output (ruler 1 1) (text ("make /d" ∷ "make /dd" ∷ []) ++ codes "make /d/" ++ replicate 117 0x78 ++ 10 ∷ text ("rename /d /dd" ∷ "rename /d /q/e" ∷ "rename /d /ee" ∷ [])) ≡
+        text ("ok" ∷ "ok" ∷ "ok" ∷ "no exists" ∷ "no parent" ∷ "no path" ∷ []) }
 {}
 
 /// Command lines at the ends of their ranges and past them.
