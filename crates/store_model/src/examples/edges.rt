@@ -13,6 +13,7 @@ ghost use Rattle.store_model.specs.Pairs.{pairs};
 ghost use Rattle.store_model.specs.Labels.Lead.{Start, Leader};
 ghost use Rattle.store_model.specs.Draws.{Draw, draw_of, sha256_start, sha256_level};
 ghost use Rattle.store_model.specs.Pages.{IsPage, pages_of_pairs};
+ghost use Rattle.store_model.specs.Placement.{IsOrderedTable};
 ghost use Rattle.store_model.specs.Images.{Represents, header, slot_bytes, layout, recovered_slot, recovered};
 ghost use Rattle.store_model.specs.Commands.Command.{Make, Write};
 ghost use Rattle.store_model.specs.Commands.Reply.{Refused};
@@ -53,7 +54,7 @@ pub fn blocks_and_keys()
 {}
 
 /// A group led by a key is paged from that key on, in runs of 10 cells and above level 0 of 31; and no
-/// page is without a cell or holds more.
+/// page is without a cell or holds more. A table has as many slots as the draw says, and pages in them.
 pub fn runs_of_groups()
     ensures eleven { pages_of_pairs (draw_of (ruler 9 2)) (map (λ n. (key_of (n ∷ []), 1 ∷ [])) (numbers_from 0x54 12)) ≡
         page (start_label 0 0) (directory_cell (codes "T") ∷ [])
@@ -78,6 +79,8 @@ pub fn runs_of_groups()
         ++ page (start_label 7 0) (key_cell (codes "UUUUUUUUU") ∷ []) ∷ [] }
     ensures no_cell { IsPage (page (start_label 0 0) []) → ⊥ }
     ensures too_many_cells { IsPage (page (start_label 0 0) (map (λ n. directory_cell (n ∷ [])) (codes "abcdefghijk"))) → ⊥ }
+    ensures no_page_in_a_table { IsOrderedTable (draw_of (ruler 1 1)) (Some (page (start_label 0 0) []) ∷ []) → ⊥ }
+    ensures table_too_long { IsOrderedTable (draw_of (ruler 1 1)) (None ∷ None ∷ []) → ⊥ }
 {}
 
 /// Starts and levels by SHA-256. The digests were computed by another program.
