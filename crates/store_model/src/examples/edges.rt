@@ -2,7 +2,7 @@
 //! and lines for which two refusals hold at once.
 #![tactic(auto, unfolding(crate::specs::Compute::everything))]
 
-ghost use Rattle.std.specs.Prelude.{◌≡◌, ℕ, List, [], ◌∷◌, ◌++◌, map, codes, replicate, slice_index, Some, None, Ok, Err};
+ghost use Rattle.std.specs.Prelude.{◌≡◌, ℕ, List, [], ◌∷◌, ◌++◌, map, codes, length, replicate, slice_index, Some, None, Ok, Err};
 ghost use Rattle.store_model.specs.declared.draw_kind.DrawKind.TheVariants.{Sha256};
 ghost use Rattle.store_model.specs.declared.refusal.Refusal.TheVariants as refusals;
 ghost use Rattle.store_model.specs.Lists.{zeros, numbers_below, numbers_from};
@@ -18,6 +18,7 @@ ghost use Rattle.store_model.specs.Images.{Represents, header, slot_bytes, layou
 ghost use Rattle.store_model.specs.Commands.Command.{Make, Write};
 ghost use Rattle.store_model.specs.Commands.Reply.{Refused};
 ghost use Rattle.store_model.specs.Grammar.{parse};
+ghost use Rattle.store_model.specs.Steps.{refusal_of};
 ghost use Rattle.store_model.specs.Scripts.{answer, lines};
 ghost use Rattle.store_model.specs.Words.{request_of};
 ghost use Rattle.store_model.specs.Words.Request.{Format, Big};
@@ -129,6 +130,14 @@ pub fn first_refusals()
         text ("no root" ∷ "no root" ∷ "no missing" ∷ "no missing" ∷ "ok" ∷ "ok" ∷ "no missing" ∷ "no inside" ∷ "no inside" ∷ "no parent" ∷ "ok" ∷ "no parent" ∷ "no inside" ∷ "no exists" ∷ []) }
     ensures rename_of_a_deep_path { output (ruler 1 1) (text ("make /d" ∷ "make /dd" ∷ []) ++ codes "make /d/" ++ replicate 117 0x78 ++ 10 ∷ text ("rename /d /dd" ∷ "rename /d /q/e" ∷ "rename /d /ee" ∷ [])) ≡
         text ("ok" ∷ "ok" ∷ "ok" ∷ "no exists" ∷ "no parent" ∷ "no path" ∷ []) }
+{}
+
+/// A file of the greatest length takes no further byte; its last byte can be written over.
+pub fn full_file()
+    ensures one_byte_more { (old : List ℕ) → length old ≡ 1048576 → refusal_of ((codes "f" ∷ [], File old) ∷ []) (Write (codes "f" ∷ []) 1048576 (7 ∷ [])) ≡ Some refusals.Big }
+    ensures last_byte { (old : List ℕ) → length old ≡ 1048576 → refusal_of ((codes "f" ∷ [], File old) ∷ []) (Write (codes "f" ∷ []) 1048575 (7 ∷ [])) ≡ None }
+    ensures no_bytes { (old : List ℕ) → length old ≡ 1048576 → refusal_of ((codes "f" ∷ [], File old) ∷ []) (Write (codes "f" ∷ []) 1048576 []) ≡ None }
+    ensures past_the_end { (old : List ℕ) → length old ≡ 1048576 → refusal_of ((codes "f" ∷ [], File old) ∷ []) (Write (codes "f" ∷ []) 1048577 (7 ∷ [])) ≡ Some refusals.Gap }
 {}
 
 /// Command lines at the ends of their ranges and past them.
