@@ -12,3 +12,4 @@ pub mod PlacementLemmasDraws
 pub mod PlacementLemmasOrder
 pub mod PlacementLemmasTrees
 pub mod ScriptsLemmas
+pub mod TreesLemmas
