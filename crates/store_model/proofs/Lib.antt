@@ -1,3 +1,4 @@
+pub mod GrammarLemmas
 pub mod ImagesLemmas
 pub mod ListsLemmas
 pub mod ListsLemmasCuts

@@ -1,14 +1,14 @@
 -- Lemmas on trees: what stands at a path after a change, and which changes keep a tree.
-use Rattle.std.proofs.Common.{◌≡◌, ℕ, List, [], ◌∷◌, Bool, true, false, cond, IsTrue, T, Option, Some, None, refl, sym, ap, subst, ◌∙◌, Ordering, Less, Equal, Greater}
-use Rattle.std.specs.Ordering.{is_eq, eq_by_cmp}
+use Rattle.std.proofs.Common.{◌≡◌, [], ◌∷◌, Bool, true, false, cond, IsTrue, T, Some, refl, sym, ap, subst, ◌∙◌, Ordering, Less, Equal, Greater}
+use Rattle.std.specs.Ordering.{is_eq}
 use Rattle.std.specs.List.{AllByRecursion}
 use Rattle.std.specs.Cmp.{IsTotalOrder}
 use Rattle.std.specs.Cmp.Lexicographic.{nat_list_cmp_total, lists_total}
 use Rattle.std.specs.FinMap.{find, put, is_sorted, slice_cmp-IsAntisymmetric, nat_cmp-IsAntisymmetric}
 use Rattle.std.specs.FinMap.Entries.{by_order, is_sorted-put, find-put}
 use Rattle.store_model.specs.Paths.{Path, is_root, is_path, path_cmp, same_path, parent}
-use Rattle.store_model.specs.Trees.{Tree, Node, IsNode, IsEntry, IsTree, node_at, is_directory, is_directory_node, exists, with_node}
-use Rattle.store_model.specs.Trees.Node.{Directory, File}
+use Rattle.store_model.specs.Trees.{Tree, Node, IsNode, IsEntry, IsTree, is_directory, is_directory_node, exists, with_node}
+use Rattle.store_model.specs.Trees.Node.{Directory}
 use Rattle.store_model.specs.Commands.Command.{Make}
 use Rattle.store_model.specs.Steps.{next_tree}
 use Rattle.store_model.proofs.ListsLemmas.{all_weaker}
