@@ -1,3 +1,4 @@
+pub mod GrammarLemmas
 pub mod ImagesLemmas
 pub mod ListsLemmas
 pub mod ListsLemmasCuts
@@ -12,3 +13,4 @@ pub mod PlacementLemmasDraws
 pub mod PlacementLemmasOrder
 pub mod PlacementLemmasTrees
 pub mod ScriptsLemmas
+pub mod TreesLemmas
