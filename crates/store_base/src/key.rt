@@ -20,10 +20,13 @@ pub struct Key {
 
 impl Model for Key {
     ghost use Rattle.std.specs.Prelude.{List, ℕ};
+    ghost use Rattle.store_model.specs.Lists.{IsBytes};
 
     ghost Value = { List ℕ };
 
     ghost view = { λ k. k.bytes };
+
+    ghost invariant = { λ k. IsBytes k.bytes };
 
     ghost inverse = { λ bytes. record { bytes = bytes } };
 }

@@ -10,13 +10,14 @@ pub struct Value {
 }
 
 impl Model for Value {
-    ghost use Rattle.std.specs.Prelude.{◌<◌, ◌≤◌, List, ℕ, length};
+    ghost use Rattle.std.specs.Prelude.{◌≤◌, List, ℕ, length};
+    ghost use Rattle.store_model.specs.Lists.{IsBytes};
 
     ghost Value = { List ℕ };
 
     ghost view = { λ v. v.bytes.items };
 
-    ghost invariant = { λ v. 1 ≤ length v.bytes.items };
+    ghost invariant = { λ v. (1 ≤ length v.bytes.items) × IsBytes v.bytes.items };
 }
 
 impl Value {
@@ -57,10 +58,13 @@ pub struct Bytes {
 
 impl Model for Bytes {
     ghost use Rattle.std.specs.Prelude.{List, ℕ};
+    ghost use Rattle.store_model.specs.Lists.{IsBytes};
 
     ghost Value = { List ℕ };
 
     ghost view = { λ b. b.bytes.items };
+
+    ghost invariant = { λ b. IsBytes b.bytes.items };
 }
 
 impl Bytes {
