@@ -1,6 +1,6 @@
 //! Labels.
 
-ghost use Rattle.std.specs.Prelude.{◌≡◌, Some, nat_eq, IfSome};
+ghost use Rattle.std.specs.Prelude.{◌≡◌, ◌↔◌, Some, IsTrue, IsNone, IfSome, nat_eq};
 ghost use Rattle.std.proofs.Common.{refl};
 ghost use Rattle.std.specs.Cmp.{partial_equiv_from_equiv, on_equiv, on_per, on_po, on_total};
 ghost use Rattle.std.specs.Cmp.Lexicographic.{pointwise, nat_list_eq_equiv, nat_list_cmp_total, texts_po, texts_ties, slice_cmp};
@@ -39,13 +39,31 @@ pub struct Label {
 impl Model for Label {
     ghost use Rattle.store_model.specs.Labels as model;
 
+    ghost use Rattle.store_model.specs.Labels.{IsLabel};
+
     ghost Value = { model.Label };
 
     ghost use Rattle.store_base.specs.Leads.{lead_of, declared_lead};
 
     ghost view = { λ l. record { level = l.level; lead = lead_of l.lead; index = l.index } };
 
+    ghost invariant = { λ l. IsLabel (record { level = l.level; lead = lead_of l.lead; index = l.index }) };
+
     ghost inverse = { λ l. record { level = l.level; lead = declared_lead l.lead; index = l.index } };
+}
+
+impl Lead {
+    /// The 124 bytes of the key that leads; `None` for the start.
+    pub fn key_bytes(&self) -> Option<&[u8; 124]>
+        ensures start { IsNone result ↔ (lead_of self.now ≡ model.Start) }
+        ensures key { IfSome result (λ bytes. lead_of self.now ≡ model.Leader bytes.now) }
+        ensures valid { IsLead (lead_of self.now) }
+    {
+        match self {
+            Lead::Start => None,
+            Lead::Key(key) => Some(key.as_bytes()),
+        }
+    }
 }
 
 impl Label {
@@ -95,7 +113,10 @@ impl PartialEq for Lead {
 
     ghost laws = { on_per (λ a. lead_bytes (lead_of a)) (partial_equiv_from_equiv nat_list_eq_equiv) };
 
-    fn eq(&self, other: &Self) -> bool {
+    fn eq(&self, other: &Self) -> bool
+        ensures value { result ≡ pointwise nat_eq (lead_bytes (lead_of self.now)) (lead_bytes (lead_of other.now)) }
+        ensures same { IsTrue result ↔ (lead_of self.now ≡ lead_of other.now) }
+    {
         match (self, other) {
             (Lead::Start, Lead::Start) => true,
             (Lead::Key(key), Lead::Key(other)) => key == other,
@@ -127,7 +148,9 @@ impl Ord for Lead {
 
     ghost matches_eq = { λ a b. texts_ties (lead_bytes (lead_of a)) (lead_bytes (lead_of b)) };
 
-    fn cmp(&self, other: &Self) -> Ordering {
+    fn cmp(&self, other: &Self) -> Ordering
+        ensures value { result ≡ slice_cmp nat_cmp (lead_bytes (lead_of self.now)) (lead_bytes (lead_of other.now)) }
+    {
         match (self, other) {
             (Lead::Start, Lead::Start) => Ordering::Equal,
             (Lead::Start, Lead::Key(_)) => Ordering::Less,
@@ -142,7 +165,10 @@ impl PartialEq for Label {
 
     ghost laws = { on_per label_bytes (partial_equiv_from_equiv nat_list_eq_equiv) };
 
-    fn eq(&self, other: &Self) -> bool {
+    fn eq(&self, other: &Self) -> bool
+        ensures value { result ≡ pointwise nat_eq (label_bytes self.now) (label_bytes other.now) }
+        ensures same { IsTrue result ↔ (self.now ≡ other.now) }
+    {
         self.level == other.level && self.index == other.index && self.lead == other.lead
     }
 }
@@ -170,10 +196,13 @@ impl Ord for Label {
 
     ghost matches_eq = { λ a b. texts_ties (label_bytes a) (label_bytes b) };
 
-    fn cmp(&self, other: &Self) -> Ordering {
+    fn cmp(&self, other: &Self) -> Ordering
+        ensures value { result ≡ label_cmp self.now other.now }
+        ensures valid { IsLabel self.now × IsLabel other.now }
+    {
         self.level
             .cmp(&other.level)
-            .then_with(|| self.lead.cmp(&other.lead))
-            .then_with(|| self.index.cmp(&other.index))
+            .then(self.lead.cmp(&other.lead))
+            .then(self.index.cmp(&other.index))
     }
 }
