@@ -1,10 +1,9 @@
 -- The bytes of labels.
 use Rattle.std.proofs.Common.{◌≡◌, ℕ, ◌<◌, ◌≤◌, List, [], ◌∷◌, ◌++◌, length, take, drop, slice_index, refl, ap, sym, ◌∙◌, Bool, true, false, nat_eq, ◌&&◌, arith, rules, length-append}
 use Rattle.store_base.proofs.Orders.{append-same, IsBytes-cons, IsBytes-append, IsBytes-zeros, IsBytes-take, IsBytes-drop, IsBytes-to_be_bytes, to_be_bytes-same, ordering_then-then, slice_cmp-append, slice_cmp-to_be_bytes, pointwise-append, pointwise-to_be_bytes}
-use Rattle.std.proofs.lemmas.List.{take_at, drop_at, drop_all, take_all, length-take, length-drop, take-append-drop}
+use Rattle.std.proofs.lemmas.List.{take_at, take_all, length-take, length-drop, take-append-drop}
 use Rattle.std.proofs.lemmas.Nat.{be_bytes_4}
 use Rattle.std.proofs.Math.Bool.{and_comm}
-use borrow.Rule.Slice.PartMut.{put_mid}
 use Rattle.store_base.specs.declared.key.Key.{Key}
 use Rattle.store_base.specs.declared.label.Lead.{Lead as DeclaredLead}
 use Rattle.store_base.specs.declared.label.Lead.TheVariants as declared
@@ -15,10 +14,6 @@ use Rattle.std.specs.Int.{w32, to_be_bytes, from_be_bytes}
 use Rattle.std.specs.Ordering.{nat_cmp, ordering_then}
 use Rattle.std.specs.Cmp.Lexicographic.{slice_cmp, pointwise, bytes_decides}
 use Rattle.store_base.specs.Leads.{lead_of}
-
--- a write over the last four elements
-pub put_mid-last : (front rest index : List ℕ) (n : ℕ) → length front ≡ n → length rest ≡ 4 → put_mid n 4 (front ++ rest) index ≡ front ++ index
-put_mid-last front rest index n front_is rest_is = rw (take_at front rest n front_is, drop_at front rest n front_is, drop_all 4 rest (omega arith)) (search rules)
 
 -- a lead that is no key is the start
 pub lead_of-no_key : (lead : DeclaredLead) → ((key : Key) → lead ≡ declared.Key key → ⊥) → lead_of lead ≡ Start

@@ -9,6 +9,7 @@ use Rattle.std.specs.Cmp.Lexicographic.{slice_cmp, pointwise, unequal, bytes_dec
 use Rattle.std.proofs.lemmas.List.{take_at, drop_at, drop_all, length-take, get_or-take, get_or-drop, get_or_past}
 use Rattle.std.proofs.lemmas.Nat.{from_be_bytes-to_be_bytes_4}
 use Rattle.std.proofs.lemmas.Bool.{cases_lt, cases_order, eq-eqb, eqb-true}
+use borrow.Rule.Slice.PartMut.{put_mid}
 use Rattle.store_model.specs.Lists.{IsBytes, zeros}
 
 -- equal strings whose fronts are as long have equal fronts and equal ends
@@ -52,6 +53,10 @@ IsBytes-to_be_bytes n =
     IsBytes-cons (n / 16777216 % 256) (n / 65536 % 256 ∷ n / 256 % 256 ∷ n % 256 ∷ []) (omega arith)
     (IsBytes-cons (n / 65536 % 256) (n / 256 % 256 ∷ n % 256 ∷ []) (omega arith)
     (IsBytes-cons (n / 256 % 256) (n % 256 ∷ []) (omega arith) (IsBytes-cons (n % 256) [] (omega arith) (IsBytes-zeros 0))))
+
+-- a write over the last elements
+pub put_mid-last : (front rest last : List ℕ) (n k : ℕ) → length front ≡ n → length rest ≤ k → put_mid n k (front ++ rest) last ≡ front ++ last
+put_mid-last front rest last n k front_is rest_is = rw (take_at front rest n front_is, drop_at front rest n front_is, drop_all k rest rest_is) (search rules)
 
 -- what a slice of n elements holds past the first n
 pub drop-take : (n : ℕ) (xs : List ℕ) → drop n (take n xs) ≡ []
