@@ -88,14 +88,15 @@ parts_of (x ∷ xs) long =
 
 -- 130 bytes with a lead's bytes behind the first spell the label of their parts
 pub label_bytes-parts : (bytes index_bytes : List ℕ) (lead : Lead) (index : ℕ) → length bytes ≡ 130 → IsBytes bytes → IsLead lead → lead_bytes lead ≡ take 125 (drop 1 bytes)
-  → index_bytes ≡ take 4 (drop 126 bytes) → index ≡ from_be_bytes w32 index_bytes → index < 4294967296
-  → IsLabel (record { level = slice_index bytes 0; lead = lead; index = index }) × (label_bytes (record { level = slice_index bytes 0; lead = lead; index = index }) ≡ bytes)
+    → index_bytes ≡ take 4 (drop 126 bytes) → index ≡ from_be_bytes w32 index_bytes → index < 4294967296
+    → IsLabel (record { level = slice_index bytes 0; lead = lead; index = index }) × (label_bytes (record { level = slice_index bytes 0; lead = lead; index = index }) ≡ bytes)
 unfolding label_bytes
 label_bytes-parts bytes index_bytes lead index long are_bytes is_lead lead_is index_bytes_is index_is fits =
     let four : length (take 4 (drop 126 bytes)) ≡ 4 = omega (arith, long, length-take 4 (drop 126 bytes), length-drop 126 bytes) in
-    let spelled = be_bytes_4 (take 4 (drop 126 bytes)) index four (IsBytes-take 4 (drop 126 bytes) (IsBytes-drop 126 bytes are_bytes)) (index_is ∙ ap (from_be_bytes w32) index_bytes_is) in
-    (record { level = are_bytes 0; lead = is_lead; index = fits },
-    ap (λ rest. slice_index bytes 0 ∷ (rest ++ to_be_bytes w32 index)) lead_is ∙ ap (λ rest. slice_index bytes 0 ∷ (take 125 (drop 1 bytes) ++ rest)) spelled ∙ sym (parts_of bytes long))
+    let spelled = be_bytes_4 (take 4 (drop 126 bytes)) index four (IsBytes-take 4 (drop 126 bytes) (IsBytes-drop 126 bytes are_bytes)) (index_is ∙ ap (from_be_bytes w32) index_bytes_is) in (
+      record { level = are_bytes 0; lead = is_lead; index = fits },
+      ap (λ rest. slice_index bytes 0 ∷ (rest ++ to_be_bytes w32 index)) lead_is ∙ ap (λ rest. slice_index bytes 0 ∷ (take 125 (drop 1 bytes) ++ rest)) spelled ∙ sym (parts_of bytes long),
+    )
 
 -- where the lead lies in the bytes of a label
 pub lead_bytes-spelled : (l : Label) (bytes : List ℕ) → IsLabel l → label_bytes l ≡ bytes → lead_bytes l.lead ≡ take 125 (drop 1 bytes)

@@ -14,9 +14,10 @@ use Rattle.store_model.specs.Lists.{IsBytes, zeros}
 
 -- equal strings whose fronts are as long have equal fronts and equal ends
 pub append-same : (xs ys us vs : List ℕ) → length xs ≡ length ys → xs ++ us ≡ ys ++ vs → (xs ≡ ys) × (us ≡ vs)
-append-same xs ys us vs long same =
-    (sym (take_at xs us (length xs) refl) ∙ ap (take (length xs)) same ∙ take_at ys vs (length xs) (sym long),
-    sym (drop_at xs us (length xs) refl) ∙ ap (drop (length xs)) same ∙ drop_at ys vs (length xs) (sym long))
+append-same xs ys us vs long same = (
+  sym (take_at xs us (length xs) refl) ∙ ap (take (length xs)) same ∙ take_at ys vs (length xs) (sym long),
+  sym (drop_at xs us (length xs) refl) ∙ ap (drop (length xs)) same ∙ drop_at ys vs (length xs) (sym long),
+)
 
 -- a byte in front of bytes
 pub IsBytes-cons : (x : ℕ) (xs : List ℕ) → x < 256 → IsBytes xs → IsBytes (x ∷ xs)
@@ -113,10 +114,10 @@ slice_cmp-to_be_bytes m n m_fits n_fits =
     let m_first : m / 16777216 % 256 ≡ m / 16777216 = omega arith in
     let n_first : n / 16777216 % 256 ≡ n / 16777216 = omega arith in
     four_in_turn (nat_cmp (m / 16777216 % 256) (n / 16777216 % 256)) (nat_cmp (m / 65536 % 256) (n / 65536 % 256)) (nat_cmp (m / 256 % 256) (n / 256 % 256)) (nat_cmp (m % 256) (n % 256))
-        (nat_cmp (m / 65536) (n / 65536)) (nat_cmp (m / 256) (n / 256)) (nat_cmp m n)
-        (nat_cmp-digits (m / 65536) (n / 65536) (m / 16777216 % 256) (m / 65536 % 256) (n / 16777216 % 256) (n / 65536 % 256) (omega arith) (omega arith) (omega arith) (omega arith))
-        (nat_cmp-digits (m / 256) (n / 256) (m / 65536) (m / 256 % 256) (n / 65536) (n / 256 % 256) (omega arith) (omega arith) (omega arith) (omega arith))
-        (nat_cmp-digits m n (m / 256) (m % 256) (n / 256) (n % 256) (omega arith) (omega arith) (omega arith) (omega arith))
+    (nat_cmp (m / 65536) (n / 65536)) (nat_cmp (m / 256) (n / 256)) (nat_cmp m n)
+    (nat_cmp-digits (m / 65536) (n / 65536) (m / 16777216 % 256) (m / 65536 % 256) (n / 16777216 % 256) (n / 65536 % 256) (omega arith) (omega arith) (omega arith) (omega arith))
+    (nat_cmp-digits (m / 256) (n / 256) (m / 65536) (m / 256 % 256) (n / 65536) (n / 256 % 256) (omega arith) (omega arith) (omega arith) (omega arith))
+    (nat_cmp-digits m n (m / 256) (m % 256) (n / 256) (n % 256) (omega arith) (omega arith) (omega arith) (omega arith))
 
 -- strings whose ends are as long are equal exactly where their fronts and their ends are
 pub pointwise-append : (xs ys us vs : List ℕ) → length us ≡ length vs → pointwise nat_eq (xs ++ us) (ys ++ vs) ≡ (pointwise nat_eq xs ys && pointwise nat_eq us vs)

@@ -34,7 +34,9 @@ impl Value {
         ensures { result ≡ bytes.now }
     {
         let mut value = ArrayVec::new();
-        let Ok(()) = value.try_extend_from_slice(bytes) else { unreachable!() };
+        let Ok(()) = value.try_extend_from_slice(bytes) else {
+            unreachable!()
+        };
         Value { bytes: value }
     }
 
@@ -80,7 +82,9 @@ impl Bytes {
         ensures { result ≡ bytes.now }
     {
         let mut string = ArrayVec::new();
-        let Ok(()) = string.try_extend_from_slice(bytes) else { unreachable!() };
+        let Ok(()) = string.try_extend_from_slice(bytes) else {
+            unreachable!()
+        };
         Bytes { bytes: string }
     }
 
