@@ -1,0 +1,159 @@
+//! Paths, held as the fields of keys.
+
+ghost use Rattle.std.specs.Prelude.{◌≡◌, ◌<◌, ℕ, List, [], length, drop, IfOk, IfSome, IfNone, IsErrOf, IsSome, IsNone, IsTrue, ◌↔◌, ◌≢◌, false, Some, None, not};
+ghost use Rattle.store_model.specs.Paths as model;
+ghost use Rattle.store_model.specs.Grammar.{path_of};
+
+use crate::names::{are_names, field_of_names, last_start};
+use byteorder::{BigEndian, ByteOrder};
+use std::marker::Model;
+use store_base::Key;
+use thiserror::Error;
+
+/// The bytes of a path's field in a key.
+const FIELD_LEN: usize = 120;
+
+/// Why bytes are no path that a key can hold.
+#[derive(Clone, Copy, Debug, PartialEq, Eq, Error)]
+pub enum PathFault {
+    /// They are no path of any length.
+    #[error("not a path")]
+    Syntax,
+    /// They are a path of more than 120 bytes.
+    #[error("the path has more than 120 bytes")]
+    TooLong,
+}
+
+/// A path that a key can hold: the root, or names one below the other.
+#[derive(Clone, Copy, Debug)]
+pub struct Path {
+    /// Each name with a byte 0 behind it, and zeros.
+    bytes: [u8; 120],
+    /// How many of the bytes are names and the zeros that end them.
+    len: u8,
+}
+
+impl Model for Path {
+    ghost use Rattle.std.specs.Prelude.{List, ℕ, take};
+    ghost use Rattle.store_model.specs.Paths.{field, field_len};
+    ghost use Rattle.path_keys.specs.Fields.{names_in, IsField};
+
+    ghost Value = { List (List ℕ) };
+
+    ghost view = { λ p. names_in (take p.len p.bytes) };
+
+    ghost invariant = { λ p. IsField p.bytes p.len (names_in (take p.len p.bytes)) };
+
+    ghost inverse = { λ names. record { bytes = field names; len = field_len names } };
+}
+
+impl Path {
+    ghost use Rattle.path_keys.specs.Reading.{IsOfNames};
+
+    /// The root.
+    pub fn root() -> Self
+        ensures { result ≡ [] }
+    {
+        Path {
+            bytes: [0; 120],
+            len: 0,
+        }
+    }
+
+    /// Whether it is the root.
+    pub fn is_root(&self) -> bool
+        ensures value { result ≡ model.is_root self.now }
+        ensures valid { IsTrue (model.is_path self.now) }
+    {
+        self.len == 0
+    }
+
+    /// The path that a text spells: `/` for the root, and else `/` and a name once or more.
+    pub fn parse(text: &[u8]) -> Result<Path, PathFault>
+        ensures value { IfOk result (λ p. path_of text.now ≡ Some p) }
+        ensures valid { IfOk result (λ p. IsTrue (model.is_path p)) }
+        ensures syntax { IsErrOf result PathFault.Syntax ↔ (path_of text.now ≡ None) }
+        ensures too_long { IsErrOf result PathFault.TooLong ↔ (IsSome (path_of text.now) × (120 < length text.now)) }
+        ensures too_long_field { IsErrOf result PathFault.TooLong → IfSome (path_of text.now) (λ p. model.fits_field p ≡ false) }
+    {
+        let Some((first, names)) = text.split_first() else {
+            return Err(PathFault::Syntax);
+        };
+        if *first != b'/' {
+            return Err(PathFault::Syntax);
+        }
+        if names.is_empty() {
+            return Ok(Path::root());
+        }
+        Path::of_names(names)
+    }
+
+    /// The path of one or more names that are parted by `/`.
+    fn of_names(text: &[u8]) -> Result<Path, PathFault>
+        ensures { IsOfNames text.now result }
+    {
+        if !are_names(text, b'/') {
+            return Err(PathFault::Syntax);
+        }
+        if text.len() >= FIELD_LEN {
+            return Err(PathFault::TooLong);
+        }
+        Ok(Path {
+            bytes: field_of_names(text, b'/'),
+            len: text.len() as u8 + 1,
+        })
+    }
+
+    /// The key of a pair of this path.
+    pub fn key(&self, block: u32) -> Key
+        ensures { result ≡ model.key self.now block }
+    {
+        let mut bytes = [0; 124];
+        bytes[..FIELD_LEN].copy_from_slice(&self.bytes);
+        BigEndian::write_u32(&mut bytes[FIELD_LEN..], block);
+        Key::new(bytes)
+    }
+
+    /// Where the last name begins in the field.
+    fn name_start(&self) -> usize
+        requires { model.is_root self.now ≡ false }
+        ensures value { result ≡ model.field_len (model.parent self.now) }
+        ensures within { result < model.field_len self.now }
+    {
+        last_start(&self.bytes[..self.len as usize - 1])
+    }
+
+    /// The last name.
+    pub fn name(&self) -> &[u8]
+        requires { model.is_root self.now ≡ false }
+        ensures { result.now ≡ model.last_name self.now }
+    {
+        &self.bytes[self.name_start()..self.len as usize - 1]
+    }
+
+    /// The path without its last name, and nothing for the root.
+    pub fn parent(&self) -> Option<Path>
+        ensures none { IsNone result ↔ IsTrue (model.is_root self.now) }
+        ensures value { IfSome result (λ q. q ≡ model.parent self.now) }
+        ensures valid { IfSome result (λ q. IsTrue (model.is_path q)) }
+    {
+        if self.is_root() {
+            return None;
+        }
+        let len = self.name_start();
+        let mut bytes = [0; 120];
+        bytes[..len].copy_from_slice(&self.bytes[..len]);
+        Some(Path {
+            bytes,
+            len: len as u8,
+        })
+    }
+
+    /// Whether it lies strictly below the other path.
+    pub fn is_inside(&self, other: &Path) -> bool
+        ensures { result ≡ model.is_inside self.now other.now }
+    {
+        let len = other.len as usize;
+        other.len < self.len && self.bytes[..len] == other.bytes[..len]
+    }
+}
