@@ -1,2 +1,3 @@
 pub mod NameBytes
 pub mod ParsedText
+pub mod PathBytes
