@@ -1,3 +1,4 @@
 pub mod NameBytes
 pub mod ParsedText
 pub mod PathBytes
+pub mod InsideBytes

@@ -1,7 +1,7 @@
 -- What is read from a text.
-use Rattle.std.specs.Prelude.{◌≡◌, ℕ, ◌<◌, ◌≤◌, ◌+◌, List, length, Result, Ok, Err, Some, None, IsTrue, Bool, true, false, ◌==◌}
+use Rattle.std.specs.Prelude.{◌≡◌, ℕ, ◌<◌, ◌≤◌, ◌+◌, List, length, Option, Result, Ok, Err, Some, None, IsTrue, Bool, true, false, ◌==◌}
 use Rattle.std.specs.List.{list_all, slice_split}
-use Rattle.store_model.specs.Paths.{Path, is_name, is_path, fits_field}
+use Rattle.store_model.specs.Paths.{Path, is_name, is_path, is_root, fits_field, field}
 use Rattle.store_model.specs.Grammar.{path_of}
 use Rattle.path_keys.specs.declared.paths.PathFault.{PathFault}
 use Rattle.path_keys.specs.declared.paths.PathFault.TheVariants.{Syntax, TooLong}
@@ -20,3 +20,12 @@ abbrev pub IsParsed : List ℕ → Result Path PathFault → Type 0
 IsParsed text (Ok p) = (path_of text ≡ Some p) × IsTrue (is_path p) × (length text ≤ 120)
 IsParsed text (Err Syntax) = path_of text ≡ None
 IsParsed text (Err TooLong) = (p : Path) × (path_of text ≡ Some p) × (fits_field p ≡ false) × (120 < length text)
+
+-- the bytes are the field of no path other than the root
+abbrev pub HasNoPath : List ℕ → Type 0
+HasNoPath bytes = (p : Path) → IsTrue (is_path p) → is_root p ≡ false → bytes ≡ field p → ⊥
+
+-- the path other than the root that has this field
+abbrev pub IsOfField : List ℕ → Option Path → Type 0
+IsOfField bytes (Some p) = IsTrue (is_path p) × (is_root p ≡ false) × (bytes ≡ field p)
+IsOfField bytes None = HasNoPath bytes

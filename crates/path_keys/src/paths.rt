@@ -1,10 +1,10 @@
 //! Paths, held as the fields of keys.
 
-ghost use Rattle.std.specs.Prelude.{◌≡◌, ◌<◌, ℕ, List, [], length, drop, IfOk, IfSome, IfNone, IsErrOf, IsSome, IsNone, IsTrue, ◌↔◌, ◌≢◌, false, Some, None, not};
+ghost use Rattle.std.specs.Prelude.{◌≡◌, ◌<◌, ℕ, List, [], length, take, ◌^◌, IfOk, IfSome, IfNone, IsErrOf, IsSome, IsNone, IsTrue, ◌↔◌, ◌≢◌, false, Some, None, not};
 ghost use Rattle.store_model.specs.Paths as model;
 ghost use Rattle.store_model.specs.Grammar.{path_of};
 
-use crate::names::{are_names, field_of_names, last_start};
+use crate::names::{are_names, field_of_names, last_start, used_len};
 use byteorder::{BigEndian, ByteOrder};
 use std::marker::Model;
 use store_base::Key;
@@ -48,7 +48,7 @@ impl Model for Path {
 }
 
 impl Path {
-    ghost use Rattle.path_keys.specs.Reading.{IsOfNames};
+    ghost use Rattle.path_keys.specs.Reading.{IsOfNames, HasNoPath, IsOfField};
 
     /// The root.
     pub fn root() -> Self
@@ -112,6 +112,37 @@ impl Path {
         bytes[..FIELD_LEN].copy_from_slice(&self.bytes);
         BigEndian::write_u32(&mut bytes[FIELD_LEN..], block);
         Key::new(bytes)
+    }
+
+    /// The path and the block number of a key; nothing where its field is no path's, or the root's.
+    pub fn of_key(key: &Key) -> Option<(Path, u32)>
+        ensures some { IfSome result (λ found. model.key found.0 found.1 ≡ key.now) }
+        ensures valid { IfSome result (λ found. IsTrue (model.is_path found.0)) }
+        ensures below_root { IfSome result (λ found. model.is_root found.0 ≡ false) }
+        ensures none { IfNone result (HasNoPath (take 120 key.now)) }
+        ensures only { (p : List (List ℕ)) (block : ℕ) → IsTrue (model.is_path p) → model.is_root p ≡ false → block < 2 ^ 32 → key.now ≡ model.key p block → result ≡ Some (p, block) }
+    {
+        let (field, block) = key.bytes().split_at(FIELD_LEN);
+        let path = Path::of_field(field)?;
+        let block = u32::from_be_bytes([block[0], block[1], block[2], block[3]]);
+        Some((path, block))
+    }
+
+    /// The path other than the root that has this field.
+    fn of_field(field: &[u8]) -> Option<Path>
+        requires { length field.now ≡ 120 }
+        ensures { IsOfField field.now result }
+    {
+        let len = used_len(field);
+        if len >= FIELD_LEN || !are_names(&field[..len], 0) {
+            return None;
+        }
+        let mut bytes = [0; 120];
+        bytes.copy_from_slice(field);
+        Some(Path {
+            bytes,
+            len: len as u8 + 1,
+        })
     }
 
     /// Where the last name begins in the field.
