@@ -2,3 +2,4 @@ pub mod NameBytes
 pub mod ParsedText
 pub mod PathBytes
 pub mod InsideBytes
+pub mod KeyBytes

@@ -57,7 +57,7 @@ ends_in_zero (n ∷ q) h =
     ap (λ t. get_or t (length t - 1) 0) e
     ∙ get_or_at front 0 [] 0 (length (front ++ 0 ∷ []) - 1) (omega (arith, length-append front (0 ∷ [])))
 
-word_above_zero : (n : List ℕ) (i : ℕ) → IsWord n → i < length n → get_or n i 0 ≡ 0 → ⊥
+pub word_above_zero : (n : List ℕ) (i : ℕ) → IsWord n → i < length n → get_or n i 0 ≡ 0 → ⊥
 word_above_zero n i h l e = let above : 0 < get_or n i 0 = All-from_recursion (λ c. 0 < c) n h.bytes i 0 l in omega arith
 
 -- behind the last byte 0 the last name begins

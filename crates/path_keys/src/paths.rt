@@ -1,6 +1,7 @@
 //! Paths, held as the fields of keys.
 
 ghost use Rattle.std.specs.Prelude.{◌≡◌, ◌<◌, ℕ, List, [], length, take, ◌^◌, IfOk, IfSome, IfNone, IsErrOf, IsSome, IsNone, IsTrue, ◌↔◌, ◌≢◌, false, Some, None, not};
+ghost use Rattle.std.specs.Int.{w32, to_be_bytes};
 ghost use Rattle.store_model.specs.Paths as model;
 ghost use Rattle.store_model.specs.Grammar.{path_of};
 
@@ -124,8 +125,7 @@ impl Path {
     {
         let (field, block) = key.bytes().split_at(FIELD_LEN);
         let path = Path::of_field(field)?;
-        let block = u32::from_be_bytes([block[0], block[1], block[2], block[3]]);
-        Some((path, block))
+        Some((path, block_of(block)))
     }
 
     /// The path other than the root that has this field.
@@ -187,4 +187,12 @@ impl Path {
         let len = other.len as usize;
         other.len < self.len && self.bytes[..len] == other.bytes[..len]
     }
+}
+
+/// The block number that four bytes spell.
+fn block_of(bytes: &[u8]) -> u32
+    requires { length bytes.now ≡ 4 }
+    ensures { to_be_bytes w32 result ≡ bytes.now }
+{
+    u32::from_be_bytes([bytes[0], bytes[1], bytes[2], bytes[3]])
 }
