@@ -36,7 +36,7 @@ pub inside_from_split : (p q r : Path) → p ≡ q ++ r → 1 ≤ length r → i
 unfolding is_inside
 inside_from_split p q r e h =
     and_from _ _ (lt-ltb (length q) (length p) (omega (arith, ap length e, length-append q r)))
-        (ap (λ t. same_path t q) (ap (take (length q)) e ∙ take_at q r (length q) refl) ∙ same_path-itself q)
+    (ap (λ t. same_path t q) (ap (take (length q)) e ∙ take_at q r (length q) refl) ∙ same_path-itself q)
 
 -- each name takes bytes
 some_bytes : (p : Path) → 1 ≤ length p → 1 ≤ length (name_bytes p)
@@ -80,8 +80,8 @@ inside_test p q bytes others len other_len r hp hq longer tested =
     let decides = bytes_eq-Decides (take other_len bytes) (take other_len others) in
     let lens : field_len q < field_len p = omega (arith, hp.len_is, hq.len_is) in
     tested ∙ both_ways (same_bytes (take other_len bytes) (take other_len others)) (is_inside p q)
-        (λ same. inside_from_front p q (words p hp.path) (words q hq.path) lens (sym ours ∙ decides.0 same ∙ theirs))
-        (λ inside. decides.1 (ours ∙ front_inside p q inside ∙ sym theirs))
+    (λ same. inside_from_front p q (words p hp.path) (words q hq.path) lens (sym ours ∙ decides.0 same ∙ theirs))
+    (λ inside. decides.1 (ours ∙ front_inside p q inside ∙ sym theirs))
 
 pub not_inside : (p q : Path) (len other_len : ℕ) → len ≡ field_len p → other_len ≡ field_len q → len ≤ other_len → ltb other_len len ≡ is_inside p q
 not_inside p q len other_len e f h =

@@ -42,16 +42,16 @@ used_is bytes used p h other e long front behind =
     let u = length a + length n in
     let ul : length (a ++ n) ≡ u = length-append a n in
     ⊎_elim (λ same. omega arith)
-        (λ o. ⊎_elim
-            (λ below. absurd (word_above_zero n (length n - 1) word (omega arith)
-                (sym (get_or-append_right a n (length a) (u - 1) 0 refl (omega arith) ∙ ap (λ i. get_or n i 0) (omega arith))
-                    ∙ sym (get_or_append_left (a ++ n) (zeros (suc (120 - field_len p))) 0 (u - 1) (omega arith))
-                    ∙ sym (ap (λ t. get_or t (u - 1) 0) filled) ∙ behind (u - 1) (omega arith) (omega arith))))
-            (λ above. absurd (front (omega arith)
-                (ap (λ t. get_or t (used - 1) 0) filled ∙ get_or-append_right (a ++ n) (zeros (suc (120 - field_len p))) u (used - 1) 0 ul (omega arith)
-                    ∙ get_or-zeros (suc (120 - field_len p)) (used - 1 - u))))
-            o)
-        (cases_order used u)
+    (λ o. ⊎_elim
+    (λ below. absurd (word_above_zero n (length n - 1) word (omega arith)
+    (sym (get_or-append_right a n (length a) (u - 1) 0 refl (omega arith) ∙ ap (λ i. get_or n i 0) (omega arith))
+    ∙ sym (get_or_append_left (a ++ n) (zeros (suc (120 - field_len p))) 0 (u - 1) (omega arith))
+    ∙ sym (ap (λ t. get_or t (u - 1) 0) filled) ∙ behind (u - 1) (omega arith) (omega arith))))
+    (λ above. absurd (front (omega arith)
+    (ap (λ t. get_or t (used - 1) 0) filled ∙ get_or-append_right (a ++ n) (zeros (suc (120 - field_len p))) u (used - 1) 0 ul (omega arith)
+    ∙ get_or-zeros (suc (120 - field_len p)) (used - 1 - u))))
+    o)
+    (cases_order used u)
 
 -- a field that is too full has no path
 pub full_has_none : (bytes : List ℕ) (used : ℕ) → length bytes ≡ 120
@@ -101,11 +101,11 @@ field_found bytes copy used e long behind short names =
     let xs = take used bytes in
     let n : length xs ≡ used = length-take-le used bytes (omega arith) in
     let rest : drop used bytes ≡ zeros (120 - used) =
-        zeros_from_reads (drop used bytes) (λ i l. get_or-drop used bytes i 0 ∙ behind (used + i) (omega arith) (omega (arith, l, length-drop used bytes)))
-        ∙ ap zeros (length-drop used bytes ∙ ap (λ k. k - used) long) in
+    zeros_from_reads (drop used bytes) (λ i l. get_or-drop used bytes i 0 ∙ behind (used + i) (omega arith) (omega (arith, l, length-drop used bytes)))
+    ∙ ap zeros (length-drop used bytes ∙ ap (λ k. k - used) long) in
     let filled : copy ≡ zero_filled 120 (with_zeros 0 xs) =
-        e ∙ sym (take-append-drop used bytes) ∙ ap (λ t. xs ++ t) (rest ∙ ap (λ k. zeros (120 - k)) (sym n))
-        ∙ ap (λ t. t ++ zeros (120 - length t)) (sym (with_zeros_for_zeros xs)) in
+    e ∙ sym (take-append-drop used bytes) ∙ ap (λ t. xs ++ t) (rest ∙ ap (λ k. zeros (120 - k)) (sym n))
+    ∙ ap (λ t. t ++ zeros (120 - length t)) (sym (with_zeros_for_zeros xs)) in
     subst (λ k. IsField copy (k + 1) (slice_split (λ b. eqb b 0) xs)) n (is_field-split copy 0 xs filled names (omega arith))
 
 pub path_found : (bytes copy : List ℕ) (used : ℕ) (p : Path) → copy ≡ bytes → IsField copy (used + 1) p → IsOfField bytes (Some p)
@@ -168,6 +168,7 @@ pub key_read : (bytes front back : List ℕ) (p q : Path) (n block : ℕ) → by
     → is_path p ≡ true → is_path q ≡ true → n < 2 ^ 32 → block < 2 ^ 32 → bytes ≡ key q block → (p ≡ q) × (n ≡ block)
 key_read bytes front back p q n block parts long same read hp hq fits small e =
     let ours : front ≡ field q = sym (ap (take 120) parts ∙ take_at front back 120 long) ∙ ap (take 120) e ∙ take-key q block hq in
-    let behind : back ≡ to_be_bytes w32 block = sym (ap (drop 120) parts ∙ drop_at front back 120 long) ∙ ap (drop 120) e ∙ drop-key q block hq in
-    (same_path_from_field p q hp hq (sym same ∙ ours),
-        sym (from_be_bytes-to_be_bytes_4 n fits) ∙ ap (from_be_bytes w32) (read ∙ behind) ∙ from_be_bytes-to_be_bytes_4 block small)
+    let behind : back ≡ to_be_bytes w32 block = sym (ap (drop 120) parts ∙ drop_at front back 120 long) ∙ ap (drop 120) e ∙ drop-key q block hq in (
+      same_path_from_field p q hp hq (sym same ∙ ours),
+      sym (from_be_bytes-to_be_bytes_4 n fits) ∙ ap (from_be_bytes w32) (read ∙ behind) ∙ from_be_bytes-to_be_bytes_4 block small,
+    )

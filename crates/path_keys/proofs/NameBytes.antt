@@ -101,7 +101,6 @@ name_bytes-split separator [] = name_bytes-cons [] [] ∙ ap (λ t. 0 ∷ t) nam
 name_bytes-split separator (c ∷ xs) =
     cond_step (eqb c separator) c separator xs (name_bytes-split separator xs)
 
-
 -- the parts between bytes 0 are the names
 pub names_in-split : (xs : List ℕ) → names_in (xs ++ 0 ∷ []) ≡ slice_split (λ b. eqb b 0) xs
 unfolding names_in
@@ -151,7 +150,7 @@ pub field_written : (separator : ℕ) (xs ys zs : List ℕ) → length xs < 120 
 unfolding zero_filled
 field_written separator xs ys zs h e is =
     ap₂ ◌++◌ (is ∙ ap (with_zeros separator) (take_at ys (drop (length xs) (zeros 120)) (length xs) (ap length e) ∙ e))
-        (drop_at ys (drop (length xs) (zeros 120)) (length xs) (ap length e) ∙ drop-replicate (length xs) 120 0 ∙ ap (λ n. zeros (120 - n)) (sym (length-map xs _)))
+    (drop_at ys (drop (length xs) (zeros 120)) (length xs) (ap length e) ∙ drop-replicate (length xs) 120 0 ∙ ap (λ n. zeros (120 - n)) (sym (length-map xs _)))
 
 -- names parted by a separator have the field that has a byte 0 for each separator
 pub field-split : (separator : ℕ) (xs : List ℕ) → length xs < 120 → field (slice_split (λ b. eqb b separator) xs) ≡ zero_filled 120 (with_zeros separator xs)
@@ -172,9 +171,9 @@ pub is_field-split : (bytes : List ℕ) (separator : ℕ) (xs : List ℕ) → by
     → list_all is_name (slice_split (λ b. eqb b separator) xs) ≡ true → length xs < 120 → IsField bytes (length xs + 1) (slice_split (λ b. eqb b separator) xs)
 is_field-split bytes separator xs e names h =
     record {
-        path = and_from _ _ names (le-leb _ 120 (omega (arith, field_len-split separator xs, h)));
-        bytes_are = e ∙ sym (field-split separator xs h);
-        len_is = sym (field_len-split separator xs)
+      path = and_from _ _ names (le-leb _ 120 (omega (arith, field_len-split separator xs, h)));
+      bytes_are = e ∙ sym (field-split separator xs h);
+      len_is = sym (field_len-split separator xs);
     }
 
 -- what a key is written from
@@ -188,7 +187,7 @@ key_written xs bytes ys block p e n written h =
     let rest : drop 4 (take 4 (drop 120 (xs ++ 0 ∷ 0 ∷ 0 ∷ 0 ∷ []))) ≡ [] = ap (λ t. drop 4 (take 4 t)) (drop_at xs (0 ∷ 0 ∷ 0 ∷ 0 ∷ []) 120 m) in
     let behind : drop 4 (drop 120 (xs ++ 0 ∷ 0 ∷ 0 ∷ 0 ∷ [])) ≡ [] = ap (drop 4) (drop_at xs (0 ∷ 0 ∷ 0 ∷ 0 ∷ []) 120 m) in
     ap₂ ◌++◌ (take_at xs (0 ∷ 0 ∷ 0 ∷ 0 ∷ []) 120 m)
-        (ap₂ ◌++◌ (written ∙ ap (λ t. zs ++ t) rest ∙ append-nil zs) behind ∙ append-nil zs)
+    (ap₂ ◌++◌ (written ∙ ap (λ t. zs ++ t) rest ∙ append-nil zs) behind ∙ append-nil zs)
     ∙ ap (λ t. t ++ zs) (e ∙ h.bytes_are)
 
 -- the tests of a name, where all but the last hold
@@ -196,7 +195,7 @@ pub name_test : (n : List ℕ) (r : Bool) → eqb (length n) 0 ≡ false → lis
     → r ≡ not (same_bytes n (46 ∷ 46 ∷ [])) → r ≡ is_name n
 name_test n r some all dot last =
     last ∙ ap (λ b. b && not (same_bytes n (46 ∷ 46 ∷ [])))
-        (sym (ap₂ ◌&&◌ (ap₂ ◌&&◌ (le-leb 1 (length n) (omega (arith, eqb-false _ _ some))) all) dot))
+    (sym (ap₂ ◌&&◌ (ap₂ ◌&&◌ (le-leb 1 (length n) (omega (arith, eqb-false _ _ some))) all) dot))
 
 pub name_test_empty : (n : List ℕ) → eqb (length n) 0 ≡ true → is_name n ≡ false
 name_test_empty [] h = refl

@@ -28,14 +28,18 @@ unfolding path_of
 path_of-root = refl
 
 parsed_after_slash : (rest : List ℕ) (r : Result Path PathFault) → 1 ≤ length rest → IsOfNames rest r → IsParsed (47 ∷ rest) r
-parsed_after_slash rest (Ok p) h of =
-    (path_of-names rest h ∙ cond-true (list_all is_name (parts_of rest)) _ _ of.0 ∙ ap Some (sym of.2),
-        subst (λ q. IsTrue (is_path q)) (sym of.2) (and_from _ _ of.0 (le-leb _ 120 (omega (arith, field_len-split 47 rest, of.1)))),
-        omega (arith, of.1))
+parsed_after_slash rest (Ok p) h of = (
+  path_of-names rest h ∙ cond-true (list_all is_name (parts_of rest)) _ _ of.0 ∙ ap Some (sym of.2),
+  subst (λ q. IsTrue (is_path q)) (sym of.2) (and_from _ _ of.0 (le-leb _ 120 (omega (arith, field_len-split 47 rest, of.1)))),
+  omega (arith, of.1),
+)
 parsed_after_slash rest (Err Syntax) h of = path_of-names rest h ∙ cond-false (list_all is_name (parts_of rest)) _ _ of
-parsed_after_slash rest (Err TooLong) h of =
-    (parts_of rest, path_of-names rest h ∙ cond-true (list_all is_name (parts_of rest)) _ _ of.0,
-        lt-leb _ 120 (omega (arith, field_len-split 47 rest, of.1)), omega (arith, of.1))
+parsed_after_slash rest (Err TooLong) h of = (
+  parts_of rest,
+  path_of-names rest h ∙ cond-true (list_all is_name (parts_of rest)) _ _ of.0,
+  lt-leb _ 120 (omega (arith, field_len-split 47 rest, of.1)),
+  omega (arith, of.1),
+)
 
 pub parsed_names : (text : List ℕ) (c : ℕ) (rest : List ℕ) (r : Result Path PathFault) → text ≡ c ∷ rest → c ≡ 47 → 1 ≤ length rest → IsOfNames rest r → IsParsed text r
 parsed_names text c rest r e slash h of =
@@ -44,7 +48,7 @@ parsed_names text c rest r e slash h of =
 pub parsed_root : (text : List ℕ) (c : ℕ) (rest : List ℕ) (p : Path) → text ≡ c ∷ rest → c ≡ 47 → length rest < 1 → p ≡ [] → IsParsed text (Ok p)
 parsed_root text c [] p e slash h root =
     subst (λ t. IsParsed t (Ok p)) (sym (e ∙ ap (λ b. b ∷ []) slash))
-        (subst (λ q. IsParsed (47 ∷ []) (Ok q)) (sym root) (path_of-root, root_field.path, omega arith))
+    (subst (λ q. IsParsed (47 ∷ []) (Ok q)) (sym root) (path_of-root, root_field.path, omega arith))
 parsed_root text c (d ∷ rest) p e slash h root = absurd (omega arith)
 
 pub parsed_other : (text : List ℕ) (c : ℕ) (rest : List ℕ) → text ≡ c ∷ rest → (c ≡ 47 → ⊥) → IsParsed text (Err Syntax)

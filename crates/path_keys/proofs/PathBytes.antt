@@ -46,7 +46,7 @@ parent_is_path p h other =
     let fits : field_len p ≤ 120 = leb-true _ _ (second_true (list_all is_name p) _ h) in
     let len : field_len p ≡ length (name_bytes (parent p) ++ (last_name p ++ 0 ∷ [])) = ap length (bytes_split p other) in
     and_from _ _ (names_of_front (parent p) (last_name p ∷ []) (subst (λ q. list_all is_name q ≡ true) (last_split p other) (first_true _ _ h)))
-        (le-leb _ 120 (omega (arith, length-append (name_bytes (parent p)) (last_name p ++ 0 ∷ []))))
+    (le-leb _ 120 (omega (arith, length-append (name_bytes (parent p)) (last_name p ++ 0 ∷ []))))
 
 -- the bytes of names that are not none end with a byte 0
 ends_in_zero : (q : Path) → 0 < length (name_bytes q) → get_or (name_bytes q) (length (name_bytes q) - 1) 0 ≡ 0
@@ -72,11 +72,11 @@ name_start_is p r h other front within behind =
     let len : length (a ++ n) ≡ length a + length n = length-append a n in
     let word : IsWord n = last_word p h other in
     ⊎_elim (λ e. e)
-        (λ o. ⊎_elim
-            (λ below. absurd (behind (length a - 1) (omega arith) (omega arith) (get_or_append_left a n 0 (length a - 1) (omega arith) ∙ ends_in_zero (parent p) (omega arith))))
-            (λ above. absurd (word_above_zero n (r - 1 - length a) word (omega arith) (sym (get_or-append_right a n (length a) (r - 1) 0 refl (omega arith)) ∙ front (omega arith))))
-            o)
-        (cases_order r (length a))
+    (λ o. ⊎_elim
+    (λ below. absurd (behind (length a - 1) (omega arith) (omega arith) (get_or_append_left a n 0 (length a - 1) (omega arith) ∙ ends_in_zero (parent p) (omega arith))))
+    (λ above. absurd (word_above_zero n (r - 1 - length a) word (omega arith) (sym (get_or-append_right a n (length a) (r - 1) 0 refl (omega arith)) ∙ front (omega arith))))
+    o)
+    (cases_order r (length a))
 
 -- the field of a path other than the root
 pub field_split : (bytes : List ℕ) (len : ℕ) (p : Path) → IsField bytes len p → is_root p ≡ false
@@ -112,9 +112,9 @@ pub start_found : (bytes : List ℕ) (len : ℕ) (p : Path) (r : ℕ) → IsFiel
 start_found bytes len p r h other front within behind =
     let e : take (len - 1) bytes ≡ name_bytes (parent p) ++ last_name p = front_is bytes len p h other in
     name_start_is p r (words p h.path) other
-        (subst (λ t. 0 < r → get_or t (r - 1) 0 ≡ 0) e front)
-        (subst (λ t. r ≤ length t) e within)
-        (subst (λ t. (i : ℕ) → r ≤ i → i < length t → get_or t i 0 ≡ 0 → ⊥) e behind)
+    (subst (λ t. 0 < r → get_or t (r - 1) 0 ≡ 0) e front)
+    (subst (λ t. r ≤ length t) e within)
+    (subst (λ t. (i : ℕ) → r ≤ i → i < length t → get_or t i 0 ≡ 0 → ⊥) e behind)
 
 pub start_within : (bytes : List ℕ) (len : ℕ) (p : Path) → IsField bytes len p → is_root p ≡ false → field_len (parent p) < field_len p
 start_within bytes len p h other = omega (arith, len_split bytes len p h other, h.len_is)
@@ -134,8 +134,8 @@ unfolding field zero_filled
 parent_field bytes len p r xs h other start e =
     let a = name_bytes (parent p) in
     record {
-        path = parent_is_path p h.path other;
-        bytes_are = ap₂ ◌++◌ (e ∙ ap (take r) (field_split bytes len p h other) ∙ take_at a (last_name p ++ 0 ∷ zeros (120 - len)) r (sym start))
-            (drop-replicate r 120 0 ∙ ap (λ n. zeros (120 - n)) start);
-        len_is = start
+      path = parent_is_path p h.path other;
+      bytes_are = ap₂ ◌++◌ (e ∙ ap (take r) (field_split bytes len p h other) ∙ take_at a (last_name p ++ 0 ∷ zeros (120 - len)) r (sym start))
+          (drop-replicate r 120 0 ∙ ap (λ n. zeros (120 - n)) start);
+      len_is = start;
     }

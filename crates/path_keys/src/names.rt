@@ -27,7 +27,9 @@ fn is_name(bytes: &[u8]) -> bool
 pub fn are_names(bytes: &[u8], separator: u8) -> bool
     ensures { result ≡ list_all model.is_name (slice_split (λ b. b == separator) bytes.now) }
 {
-    bytes.split(|byte| *byte == separator).all(|part| is_name(part))
+    bytes
+        .split(|byte| *byte == separator)
+        .all(|part| is_name(part))
 }
 
 /// The field of the names that the separator parts: a byte 0 for each separator, and zeros behind.

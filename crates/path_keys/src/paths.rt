@@ -123,7 +123,7 @@ impl Path {
         ensures none { IfNone result (HasNoPath (take 120 key.now)) }
         ensures only { (p : List (List ℕ)) (block : ℕ) → IsTrue (model.is_path p) → model.is_root p ≡ false → block < 2 ^ 32 → key.now ≡ model.key p block → result ≡ Some (p, block) }
     {
-        let (field, block) = key.bytes().split_at(FIELD_LEN);
+        let (field, block) = key.as_bytes().split_at(FIELD_LEN);
         let path = Path::of_field(field)?;
         Some((path, block_of(block)))
     }
