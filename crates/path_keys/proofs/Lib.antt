@@ -3,3 +3,5 @@ pub mod ParsedText
 pub mod PathBytes
 pub mod InsideBytes
 pub mod KeyBytes
+pub mod PastBytes
+pub mod ReplantBytes

@@ -107,6 +107,12 @@ unfolding names_in
 names_in-split [] = refl
 names_in-split (c ∷ xs) = ap (λ t. cond (eqb c 0) ([] ∷ t) (onto_first c t)) (names_in-split xs)
 
+-- the names in the field of a path
+pub names_shown : (bytes : List ℕ) (len : ℕ) (p : Path) → IsField bytes len p → take len bytes ≡ name_bytes p
+unfolding field zero_filled
+names_shown bytes len p h =
+    ap₂ take h.len_is h.bytes_are ∙ take_at (name_bytes p) (zeros (120 - length (name_bytes p))) (length (name_bytes p)) refl
+
 -- what the field of a path shows
 pub shown_by_field : (bytes : List ℕ) (len : ℕ) (p : Path) → IsField bytes len p → names_in (take len bytes) ≡ p
 unfolding field zero_filled

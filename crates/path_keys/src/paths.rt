@@ -1,9 +1,13 @@
 //! Paths, held as the fields of keys.
 
-ghost use Rattle.std.specs.Prelude.{◌≡◌, ◌<◌, ℕ, List, [], length, take, ◌^◌, IfOk, IfSome, IfNone, IsErrOf, IsSome, IsNone, IsTrue, ◌↔◌, ◌≢◌, false, Some, None, not};
+ghost use Rattle.std.specs.Prelude.{◌≡◌, ◌<◌, ℕ, List, [], length, take, ◌^◌, IfOk, IfSome, IfNone, IsErrOf, IsSome, IsNone, IsTrue, ◌↔◌, ◌≢◌, false, nat_eq, Some, None, not};
+ghost use Rattle.std.specs.Cmp.{partial_equiv_from_equiv};
+ghost use Rattle.std.specs.Cmp.Lexicographic.{pointwise, lists_equiv, nat_list_eq_equiv};
 ghost use Rattle.std.specs.Int.{w32, to_be_bytes};
+ghost use Rattle.std.specs.declared.cmp.Ordering.TheVariants.{Less};
 ghost use Rattle.store_model.specs.Paths as model;
 ghost use Rattle.store_model.specs.Grammar.{path_of};
+ghost use Rattle.store_base.specs.Keys.{IsKey};
 
 use crate::names::{are_names, field_of_names, last_start, used_len};
 use byteorder::{BigEndian, ByteOrder};
@@ -107,7 +111,8 @@ impl Path {
 
     /// The key of a pair of this path.
     pub fn key(&self, block: u32) -> Key
-        ensures { result ≡ model.key self.now block }
+        ensures value { result ≡ model.key self.now block }
+        ensures valid { IsKey result }
     {
         let mut bytes = [0; 124];
         bytes[..FIELD_LEN].copy_from_slice(&self.bytes);
@@ -145,6 +150,13 @@ impl Path {
         })
     }
 
+    /// The names, each with a byte 0 behind it.
+    fn names(&self) -> &[u8]
+        ensures { result.now ≡ model.name_bytes self.now }
+    {
+        &self.bytes[..self.len as usize]
+    }
+
     /// Where the last name begins in the field.
     fn name_start(&self) -> usize
         requires { model.is_root self.now ≡ false }
@@ -180,6 +192,41 @@ impl Path {
         })
     }
 
+    /// A key above those of this path and of all paths below it, and below those of each later path.
+    pub fn past(&self) -> Key
+        requires { model.is_root self.now ≡ false }
+        ensures above { (q : List (List ℕ)) (block : ℕ) → IsTrue (model.is_path q) → IsTrue (model.is_at_or_inside q self.now) → model.key_cmp (model.key q block) result ≡ Less }
+        ensures below { (q : List (List ℕ)) (block : ℕ) → IsTrue (model.is_path q) → model.is_at_or_inside q self.now ≡ false → model.path_cmp self.now q ≡ Less → model.key_cmp result (model.key q block) ≡ Less }
+        ensures valid { IsKey result }
+    {
+        let mut bytes = [0; 124];
+        bytes[..FIELD_LEN].copy_from_slice(&self.bytes);
+        bytes[self.len as usize - 1] = 1;
+        Key::new(bytes)
+    }
+
+    /// This path, which is the old one or lies below it, with the new one in the old one's place; nothing
+    /// where that has a field of more than 120 bytes.
+    pub fn replant(&self, old: &Path, new: &Path) -> Option<Path>
+        requires { IsTrue (model.is_at_or_inside self.now old.now) }
+        ensures value { IfSome result (λ p. p ≡ model.replanted old.now new.now self.now) }
+        ensures valid { IfSome result (λ p. IsTrue (model.is_path p)) }
+        ensures none { IsNone result ↔ (model.fits_field (model.replanted old.now new.now self.now) ≡ false) }
+    {
+        let below = &self.names()[old.len as usize..];
+        let start = new.len as usize;
+        let len = start + below.len();
+        if len > FIELD_LEN {
+            return None;
+        }
+        let mut bytes = new.bytes;
+        bytes[start..len].copy_from_slice(below);
+        Some(Path {
+            bytes,
+            len: len as u8,
+        })
+    }
+
     /// Whether it lies strictly below the other path.
     pub fn is_inside(&self, other: &Path) -> bool
         ensures { result ≡ model.is_inside self.now other.now }
@@ -187,6 +234,23 @@ impl Path {
         let len = other.len as usize;
         other.len < self.len && self.bytes[..len] == other.bytes[..len]
     }
+}
+
+impl PartialEq for Path {
+    ghost eq = { pointwise (pointwise nat_eq) };
+
+    ghost laws = { partial_equiv_from_equiv (lists_equiv nat_list_eq_equiv) };
+
+    fn eq(&self, other: &Self) -> bool
+        ensures value { result ≡ pointwise (pointwise nat_eq) self.now other.now }
+        ensures same { IsTrue result ↔ (self.now ≡ other.now) }
+    {
+        self.bytes == other.bytes
+    }
+}
+
+impl Eq for Path {
+    ghost laws = { lists_equiv nat_list_eq_equiv };
 }
 
 /// The block number that four bytes spell.
