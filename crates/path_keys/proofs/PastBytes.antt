@@ -92,6 +92,10 @@ past_written bytes xs len p h other e =
     ap (λ t. set t (len - 1) 1) is
     ∙ set_at front 0 (zeros (120 - len) ++ 0 ∷ 0 ∷ 0 ∷ 0 ∷ []) 1 (len - 1) (omega (arith, len_split bytes len p h other, length-append (name_bytes (parent p)) (last_name p)))
 
+pub past_is : (bytes xs : List ℕ) (len : ℕ) (p : Path) → IsField bytes len p → xs ≡ bytes → set (xs ++ 0 ∷ 0 ∷ 0 ∷ 0 ∷ []) (len - 1) 1 ≡ set (key p 0) (field_len p - 1) 1
+unfolding key
+past_is bytes xs len p h e = ap₂ (λ t n. set (t ++ 0 ∷ 0 ∷ 0 ∷ 0 ∷ []) (n - 1) 1) (e ∙ h.bytes_are) h.len_is
+
 -- at a path or below it are the paths that begin with it
 pub at_or_inside_split : (q p : Path) → is_at_or_inside q p ≡ true → q ≡ p ++ drop (length p) q
 at_or_inside_split q p h =

@@ -1,6 +1,6 @@
 //! Paths, held as the fields of keys.
 
-ghost use Rattle.std.specs.Prelude.{◌≡◌, ◌<◌, ℕ, List, [], length, take, ◌^◌, IfOk, IfSome, IfNone, IsErrOf, IsSome, IsNone, IsTrue, ◌↔◌, ◌≢◌, false, nat_eq, Some, None, not};
+ghost use Rattle.std.specs.Prelude.{◌≡◌, ◌<◌, ℕ, List, [], length, take, drop, slice_set, ◌^◌, ◌-◌, IfOk, IfSome, IfNone, IsErrOf, IsSome, IsNone, IsTrue, ◌↔◌, ◌≢◌, false, nat_eq, Some, None, not};
 ghost use Rattle.std.specs.Cmp.{partial_equiv_from_equiv};
 ghost use Rattle.std.specs.Cmp.Lexicographic.{pointwise, lists_equiv, nat_list_eq_equiv};
 ghost use Rattle.std.specs.Int.{w32, to_be_bytes};
@@ -152,9 +152,20 @@ impl Path {
 
     /// The names, each with a byte 0 behind it.
     fn names(&self) -> &[u8]
-        ensures { result.now ≡ model.name_bytes self.now }
+        ensures value { result.now ≡ model.name_bytes self.now }
+        ensures valid { IsTrue (model.is_path self.now) }
     {
         &self.bytes[..self.len as usize]
+    }
+
+    /// The names behind those of the path at which or below which it lies.
+    fn names_below(&self, above: &Path) -> &[u8]
+        requires { IsTrue (model.is_at_or_inside self.now above.now) }
+        ensures value { result.now ≡ drop (model.field_len above.now) (model.name_bytes self.now) }
+        ensures valid { IsTrue (model.is_path self.now) }
+    {
+        let (_, below) = self.names().split_at(above.len as usize);
+        below
     }
 
     /// Where the last name begins in the field.
@@ -195,6 +206,7 @@ impl Path {
     /// A key above those of this path and of all paths below it, and below those of each later path.
     pub fn past(&self) -> Key
         requires { model.is_root self.now ≡ false }
+        ensures value { result ≡ slice_set (model.key self.now 0) (model.field_len self.now - 1) 1 }
         ensures above { (q : List (List ℕ)) (block : ℕ) → IsTrue (model.is_path q) → IsTrue (model.is_at_or_inside q self.now) → model.key_cmp (model.key q block) result ≡ Less }
         ensures below { (q : List (List ℕ)) (block : ℕ) → IsTrue (model.is_path q) → model.is_at_or_inside q self.now ≡ false → model.path_cmp self.now q ≡ Less → model.key_cmp result (model.key q block) ≡ Less }
         ensures valid { IsKey result }
@@ -213,7 +225,7 @@ impl Path {
         ensures valid { IfSome result (λ p. IsTrue (model.is_path p)) }
         ensures none { IsNone result ↔ (model.fits_field (model.replanted old.now new.now self.now) ≡ false) }
     {
-        let below = &self.names()[old.len as usize..];
+        let below = self.names_below(old);
         let start = new.len as usize;
         let len = start + below.len();
         if len > FIELD_LEN {
