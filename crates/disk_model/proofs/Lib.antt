@@ -1,3 +1,5 @@
+pub mod Copying
 pub mod Counts
 pub mod Crashes
 pub mod Images
+pub mod Recording

@@ -1,2 +1,7 @@
-pub mod DiskState
 pub mod DiskCalls
+pub mod DiskState
+pub mod MemDisk
+pub mod Memory
+pub mod MemoryLaws
+pub mod Record
+pub mod StopChoice

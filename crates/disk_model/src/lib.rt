@@ -3,5 +3,8 @@
 #![tactic(auto)]
 
 mod disk;
+mod memory;
+mod record;
 
 pub use disk::Disk;
+pub use memory::{MemDisk, StopChoice};

@@ -1,0 +1,82 @@
+-- The bytes that a record has pending, and how they are copied call by call, the newest first.
+use Rattle.std.proofs.Common.{◌≤◌, ◌-◌, take, drop, ◌++◌, suc, zero, sym, ◌∙◌, ap, subst, arith, length-take, length-drop, get_or-take, get_or-drop, ◌≡◌, ◌⊎◌, ℕ, ◌+◌, ◌<◌, List, [], ◌∷◌, length, slice_index, get_or, refl, inl, inr}
+use Rattle.std.proofs.lemmas.Bool.{cases_lt}
+use Rattle.std.proofs.lemmas.List.{take_more, reverse-append}
+use mathlib.Core.List.{reverse}
+use Rattle.disk_model.specs.DiskCalls.{overwrite, SameOutside}
+use Rattle.disk_model.proofs.Images.{SameOutside-overwrite, slice_index-overwrite}
+use Rattle.disk_model.specs.declared.record.Call.{Call}
+use Rattle.disk_model.specs.declared.record.Call.TheVariants.{Write, Sync}
+use Rattle.disk_model.specs.Memory.{IsPending}
+use Rattle.disk_model.specs.Record.{CopiesPending}
+
+-- what is pending in `all` and not in `rest` is copied
+pub record CopiesSoFar (all rest : List Call) (source old now : List ℕ) : Type 0 where
+  pub size : length now ≡ length old
+  pub part : (place : ℕ) → IsPending rest place → IsPending all place
+  pub copied : (place : ℕ) → place < length old → IsPending all place → IsPending rest place ⊎ (slice_index now place ≡ slice_index source place)
+  pub kept : (place : ℕ) → ¬ IsPending all place → slice_index now place ≡ slice_index old place
+
+pub copying_starts : (all : List Call) (source old : List ℕ) → CopiesSoFar all all source old old
+copying_starts all source old = record { size = refl; part = λ place here. here; copied = λ place low here. inl here; kept = λ place none. refl }
+
+-- the newest of the calls that are left
+pub reverse-take : (calls : List Call) (left : ℕ) (call d : Call) → 0 < left → left ≤ length calls → get_or calls (left - 1) d ≡ call → reverse (take left calls) ≡ call ∷ reverse (take (left - 1) calls)
+reverse-take calls left call d some low is =
+    let whole : left - 1 + 1 ≡ left = omega arith in
+    ap (λ (n : ℕ). reverse (take n calls)) (sym whole) ∙ ap reverse (take_more calls (left - 1) d (omega arith))
+    ∙ reverse-append (take (left - 1) calls) (get_or calls (left - 1) d ∷ []) ∙ ap (λ (x : Call). x ∷ reverse (take (left - 1) calls)) is
+
+module _ (all earlier : List Call) (at len : ℕ) (source old now : List ℕ) (alike : length source ≡ length old) (within : at + len ≤ length old) (so_far : CopiesSoFar all (Write at len ∷ earlier) source old now) where
+  abbrev part_of : List ℕ
+  part_of = take len (drop at source)
+
+  length-part : length part_of ≡ len
+  length-part = omega (arith, length-take len (drop at source), length-drop at source)
+
+  fits : at + length part_of ≤ length now
+  fits = omega (arith, length-part, so_far.size)
+
+  inside : (place : ℕ) → at ≤ place → place < at + len → slice_index (overwrite now at part_of) place ≡ slice_index source place
+  inside place low high =
+      let there : at + (place - at) ≡ place = omega arith in
+      slice_index-overwrite now at part_of place fits low (omega (arith, length-part)) ∙ get_or-take len (drop at source) (place - at) 0 (omega arith)
+      ∙ get_or-drop at source (place - at) 0 ∙ ap (slice_index source) there
+
+  outside : (place : ℕ) → (place < at) ⊎ (at + len ≤ place) → slice_index (overwrite now at part_of) place ≡ slice_index now place
+  outside place (inl low) = (SameOutside-overwrite now at part_of fits).below place low
+  outside place (inr high) = (SameOutside-overwrite now at part_of fits).above place (omega (arith, length-part))
+
+  pub copying_write : CopiesSoFar all earlier source old (overwrite now at part_of)
+  copying_write = record {
+    size = (SameOutside-overwrite now at part_of fits).same_length ∙ so_far.size;
+    part = λ place here. so_far.part place (inr here);
+    copied = λ place low here. elim (cases_lt place at) [
+      | inl below ↦ elim (so_far.copied place low here) [
+        | inl rest ↦ elim rest [ inl range ↦ absurd (omega arith) | inr left ↦ inl left ]
+        | inr same ↦ inr (outside place (inl below) ∙ same)
+      ]
+      | inr above ↦ elim (cases_lt place (at + len)) [
+        | inl within ↦ inr (inside place above within)
+        | inr behind ↦ elim (so_far.copied place low here) [
+          | inl rest ↦ elim rest [ inl range ↦ absurd (omega arith) | inr left ↦ inl left ]
+          | inr same ↦ inr (outside place (inr behind) ∙ same)
+        ]
+      ]
+    ];
+    kept = λ place none. elim (cases_lt place at) [
+      | inl below ↦ outside place (inl below) ∙ so_far.kept place none
+      | inr above ↦ elim (cases_lt place (at + len)) [
+        | inl within ↦ absurd (none (so_far.part place (inl (above, within))))
+        | inr behind ↦ outside place (inr behind) ∙ so_far.kept place none
+      ]
+    ];
+  }
+
+-- the end: no call is left, or the next is a sync
+pub copying_ends : (all rest : List Call) (source old now : List ℕ) → ((place : ℕ) → ¬ IsPending rest place) → CopiesSoFar all rest source old now → CopiesPending all source old now
+copying_ends all rest source old now none so_far = record {
+  size = so_far.size;
+  copied = λ place low here. elim (so_far.copied place low here) [ inl left ↦ absurd (none place left) | inr same ↦ same ];
+  kept = so_far.kept;
+}
