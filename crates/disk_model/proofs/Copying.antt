@@ -1,13 +1,13 @@
 -- The bytes that a record has pending, and how they are copied call by call, the newest first.
-use Rattle.std.proofs.Common.{◌≤◌, ◌-◌, take, drop, ◌++◌, suc, zero, sym, ◌∙◌, ap, subst, arith, length-take, length-drop, get_or-take, get_or-drop, ◌≡◌, ◌⊎◌, ℕ, ◌+◌, ◌<◌, List, [], ◌∷◌, length, slice_index, get_or, refl, inl, inr}
+use Rattle.std.proofs.Common.{◌≤◌, ◌-◌, take, drop, sym, ◌∙◌, ap, arith, length-take, length-drop, get_or-take, get_or-drop, ◌≡◌, ◌⊎◌, ℕ, ◌+◌, ◌<◌, List, [], ◌∷◌, length, slice_index, get_or, refl, inl, inr, ⊎_elim}
 use Rattle.std.proofs.lemmas.Bool.{cases_lt}
-use Rattle.std.proofs.lemmas.List.{take_more, reverse-append}
+use Rattle.std.proofs.lemmas.List.{take_more, reverse-append, ext_get_or}
 use mathlib.Core.List.{reverse}
-use Rattle.disk_model.specs.DiskCalls.{overwrite, SameOutside}
+use Rattle.disk_model.specs.DiskCalls.{overwrite}
 use Rattle.disk_model.proofs.Images.{SameOutside-overwrite, slice_index-overwrite}
 use Rattle.disk_model.specs.declared.record.Call.{Call}
 use Rattle.disk_model.specs.declared.record.Call.TheVariants.{Write, Sync}
-use Rattle.disk_model.specs.Memory.{IsPending}
+use Rattle.disk_model.specs.Memory.{IsPending, IsCrashImage}
 use Rattle.disk_model.specs.Record.{CopiesPending}
 
 -- what is pending in `all` and not in `rest` is copied
@@ -80,3 +80,31 @@ copying_ends all rest source old now none so_far = record {
   copied = λ place low here. elim (so_far.copied place low here) [ inl left ↦ absurd (none place left) | inr same ↦ same ];
   kept = so_far.kept;
 }
+
+pending_or_not : (calls : List Call) (place : ℕ) → IsPending calls place ⊎ (¬ IsPending calls place)
+pending_or_not [] place = inr (λ none. none)
+pending_or_not (Sync ∷ earlier) place = inr (λ none. none)
+pending_or_not (Write at len ∷ earlier) place = elim (pending_or_not earlier place) [
+  | inl here ↦ inl (inr here)
+  | inr none ↦ elim (cases_lt place at) [
+    | inl below ↦ inr (λ here. ⊎_elim (λ inside. absurd (omega arith)) none here)
+    | inr above ↦ elim (cases_lt place (at + len)) [
+      | inl inside ↦ inl (inl (above, inside))
+      | inr behind ↦ inr (λ here. ⊎_elim (λ inside. absurd (omega arith)) none here)
+    ]
+  ]
+]
+
+-- what differs in pending bytes alone is made equal
+pub copied_all : (calls : List Call) (source old new : List ℕ) → IsCrashImage source calls old → CopiesPending calls source old new → new ≡ source
+copied_all calls source old new alike copies =
+    ext_get_or 0 new source (copies.size ∙ alike.size) λ place low. elim (pending_or_not calls place) [
+      | inl here ↦ copies.copied place (omega (arith, copies.size)) here
+      | inr none ↦ copies.kept place none ∙ alike.kept place none
+    ]
+
+pub IsCrashImage-sym : (calls : List Call) (a b : List ℕ) → IsCrashImage a calls b → IsCrashImage b calls a
+IsCrashImage-sym calls a b is = record { size = sym is.size; kept = λ place none. sym (is.kept place none) }
+
+pub IsCrashImage-copies : (calls : List Call) (source old new : List ℕ) → CopiesPending calls source old new → IsCrashImage old calls new
+IsCrashImage-copies calls source old new copies = record { size = copies.size; kept = copies.kept }

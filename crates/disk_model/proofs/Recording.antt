@@ -1,13 +1,13 @@
 -- What the calls of a disk in memory leave is what the trait says of a read, a write and a sync.
-use Rattle.std.proofs.Common.{◌≡◌, ◌⊎◌, ℕ, ◌+◌, ◌-◌, ◌^◌, ◌<◌, ◌≤◌, List, [], ◌∷◌, ◌++◌, length, take, drop, slice_index, refl, sym, ◌∙◌, ap, subst, inl, inr, ⊎_elim, arith, Result, Ok, Err, length-take, length-drop, length-append, get_or-take, get_or-drop, append_assoc}
+use Rattle.std.proofs.Common.{◌≡◌, ◌⊎◌, ℕ, ◌+◌, ◌-◌, ◌^◌, ◌<◌, ◌≤◌, List, ◌∷◌, ◌++◌, length, take, drop, slice_index, refl, sym, ◌∙◌, ap, subst, inl, inr, ⊎_elim, arith, Ok, Err, length-take, length-drop, length-append, get_or-take, get_or-drop}
 use Rattle.std.proofs.lemmas.Bool.{cases_lt}
 use Rattle.std.proofs.lemmas.List.{ext_get_or, take_at, drop_at}
 use Rattle.disk_model.specs.declared.record.Call.{Call}
 use Rattle.disk_model.specs.declared.record.Call.TheVariants.{Write, Sync}
-use Rattle.disk_model.specs.DiskState.{DiskState, IsDurable}
-use Rattle.disk_model.specs.DiskCalls.{overwrite, raised, SameOutside, Torn, Elapses, IsCall, IsRead, IsWrite, IsSync}
-use Rattle.disk_model.specs.Memory.{Memory, IsPending, IsCrashImage, IsCrashImageSince, memory_state, undone, replaced_before, after_read, written, refused_write, flushed, refused_sync}
+use Rattle.disk_model.specs.DiskCalls.{overwrite, raised, SameOutside, Torn, IsRead, IsWrite, IsSync}
+use Rattle.disk_model.specs.Memory.{Memory, room_left, IsCrashImage, IsCrashImageSince, memory_state, undone, replaced_before, after_read, written, refused_write, flushed, refused_sync}
 use Rattle.disk_model.specs.MemoryLaws.{memory_is_sound, only_now, includes_now}
+use Rattle.disk_model.specs.Record.{LieWithin, IsConsistent}
 use Rattle.disk_model.proofs.Images.{SameOutside-refl, SameOutside-sym, SameOutside-overwrite, slice_index-overwrite}
 use Rattle.disk_model.proofs.Crashes.{Elapses-refl}
 
@@ -34,7 +34,7 @@ module _ (bytes before : List ℕ) (call : Call) (calls : List Call) (replaced r
   pub since_joins : (t : ℕ) (image : List ℕ) → t ≤ length calls → Past t image ⊎ Since (length calls) image → Since t image
   since_joins t image le (inl past) = past_in t image le past
   since_joins t image le (inr (inl now)) = inl now
-  since_joins t image le (inr (inr past)) = 
+  since_joins t image le (inr (inr past)) =
       inr (le, includes_now _ calls _ t image (only_now _ calls _ (length calls) image (omega arith) past.1))
 
 -- the counts of a disk in memory are those of u64s
@@ -107,12 +107,12 @@ IsSync-flushed memory value fit =
     let splits = since_splits memory.bytes memory.bytes Sync calls replaced replaced refl refl in
     let joins = since_joins memory.bytes memory.bytes Sync calls replaced replaced refl refl in
     let durable : (image : List ℕ) → IsCrashImage memory.bytes (Sync ∷ calls) image → image ≡ memory.bytes =
-        λ image is. ext_get_or 0 image memory.bytes is.size λ place low. is.kept place (λ none. none) in
+    λ image is. ext_get_or 0 image memory.bytes is.size λ place low. is.kept place (λ none. none) in
     let during : (image : List ℕ) → IsCrashImageSince memory.bytes (Sync ∷ calls) replaced (length calls) image → IsCrashImage memory.bytes calls image =
-        λ image left. ⊎_elim
-            (λ (now : IsCrashImage memory.bytes (Sync ∷ calls) image). subst (IsCrashImage memory.bytes calls) (sym (durable image now)) (record { size = refl; kept = λ place none. refl }))
-            (λ (past : IsCrashImageSince memory.bytes calls replaced (length calls) image). only_now memory.bytes calls replaced (length calls) image (omega arith) past)
-            (since_cases memory.bytes memory.bytes Sync calls replaced replaced refl refl (length calls) image left) in
+    λ image left. ⊎_elim
+    (λ (now : IsCrashImage memory.bytes (Sync ∷ calls) image). subst (IsCrashImage memory.bytes calls) (sym (durable image now)) (record { size = refl; kept = λ place none. refl }))
+    (λ (past : IsCrashImageSince memory.bytes calls replaced (length calls) image). only_now memory.bytes calls replaced (length calls) image (omega arith) past)
+    (since_cases memory.bytes memory.bytes Sync calls replaced replaced refl refl (length calls) image left) in
     record {
       call = record { size = refl; observable = refl; faults = omega arith; writes = omega arith; syncs = omega (arith, fit.syncs); last_fault = fit.faults; last_write = fit.writes; last_sync = omega arith; cause = tt };
       observed = λ _. record {
@@ -211,7 +211,7 @@ module _ (memory : Memory) (at : ℕ) (bytes : List ℕ) (within : at + length b
   torn_since image left =
       ⊎_elim (torn_from_now image)
       (λ (past : IsCrashImageSince memory.bytes memory.calls memory.replaced (length memory.calls) image).
-          (image, only_now memory.bytes memory.calls memory.replaced (length memory.calls) image (omega arith) past, SameOutside-refl at n image))
+      (image, only_now memory.bytes memory.calls memory.replaced (length memory.calls) image (omega arith) past, SameOutside-refl at n image))
       (since_cases after.bytes memory.bytes (Write at n) memory.calls after.replaced memory.replaced undone_written replaced_before_written (length memory.calls) image left)
 
   pub IsWrite-written : {T E : Type 0} (value : T) → CountsFit memory → IsWrite {T = T} {E = E} (memory_state memory) (memory_state after) at bytes (Ok value)
@@ -231,3 +231,43 @@ module _ (memory : Memory) (at : ℕ) (bytes : List ℕ) (within : at + length b
           sync_count = refl;
         };
       }
+
+  -- what is kept still agrees
+  pub IsConsistent-written : (calls_capacity replaced_capacity calls_capacity_now replaced_capacity_now : ℕ) → n + 16 ≤ room_left memory → calls_capacity ≤ calls_capacity_now → replaced_capacity ≤ replaced_capacity_now
+      → IsConsistent memory calls_capacity replaced_capacity → IsConsistent after calls_capacity_now replaced_capacity_now
+  IsConsistent-written calls_capacity replaced_capacity calls_capacity_now replaced_capacity_now room calls_le replaced_le kept = record {
+    synced = record {
+      size = kept.synced.size ∙ sym same.same_length;
+      kept = λ place none. elim (cases_lt place at) [
+        | inl below ↦ kept.synced.kept place (λ here. none (inr here)) ∙ sym (same.below place below)
+        | inr above ↦ elim (cases_lt place (at + n)) [
+          | inl inside ↦ absurd (none (inl (above, inside)))
+          | inr behind ↦ kept.synced.kept place (λ here. none (inr here)) ∙ sym (same.above place behind)
+        ]
+      ];
+    };
+    within = (omega (arith, same.same_length), subst (λ (size : ℕ). LieWithin size memory.calls) (sym same.same_length) kept.within);
+    fits = omega (arith, kept.fits, length-append memory.replaced range, length-range);
+    calls_fit = omega (arith, kept.calls_fit);
+    replaced_fit = omega (arith, kept.replaced_fit);
+  }
+
+-- the same, of lists that are known to be those
+pub IsConsistent-written_as : (memory : Memory) (at : ℕ) (written_bytes bytes : List ℕ) (calls : List Call) (replaced : List ℕ) (writes : ℕ) (calls_capacity replaced_capacity calls_capacity_now replaced_capacity_now : ℕ)
+    → at + length written_bytes ≤ length memory.bytes → bytes ≡ overwrite memory.bytes at written_bytes → calls ≡ Write at (length written_bytes) ∷ memory.calls
+    → replaced ≡ memory.replaced ++ take (length written_bytes) (drop at memory.bytes) → length written_bytes + 16 ≤ room_left memory → calls_capacity ≤ calls_capacity_now → replaced_capacity ≤ replaced_capacity_now
+    → IsConsistent memory calls_capacity replaced_capacity → IsConsistent (record memory { bytes = bytes; calls = calls; replaced = replaced; writes = writes }) calls_capacity_now replaced_capacity_now
+IsConsistent-written_as memory at written_bytes bytes calls replaced writes calls_capacity replaced_capacity calls_capacity_now replaced_capacity_now within same_bytes same_calls same_replaced room calls_le replaced_le kept =
+    let done = IsConsistent-written memory at written_bytes within calls_capacity replaced_capacity calls_capacity_now replaced_capacity_now room calls_le replaced_le kept in
+    rw (same_bytes, same_calls, same_replaced) (record { synced = done.synced; within = done.within; fits = done.fits; calls_fit = done.calls_fit; replaced_fit = done.replaced_fit })
+
+pub IsSync-flushed_as : {T E : Type 0} (memory : Memory) (synced : List ℕ) (calls : List Call) (syncs : ℕ) (value : T) → calls ≡ Sync ∷ memory.calls → syncs ≡ raised memory.syncs → CountsFit memory
+    → IsSync {T = T} {E = E} (memory_state memory) (memory_state (record memory { synced = synced; calls = calls; syncs = syncs })) (Ok value)
+IsSync-flushed_as memory synced calls syncs value same_calls same_syncs fit =
+    rw (same_calls, same_syncs) (IsSync-flushed memory value fit)
+
+pub IsWrite-written_as : {T E : Type 0} (memory : Memory) (at : ℕ) (written_bytes bytes : List ℕ) (calls : List Call) (replaced : List ℕ) (writes : ℕ) (value : T) → at + length written_bytes ≤ length memory.bytes
+    → bytes ≡ overwrite memory.bytes at written_bytes → calls ≡ Write at (length written_bytes) ∷ memory.calls → replaced ≡ memory.replaced ++ take (length written_bytes) (drop at memory.bytes) → writes ≡ raised memory.writes → CountsFit memory
+    → IsWrite {T = T} {E = E} (memory_state memory) (memory_state (record memory { bytes = bytes; calls = calls; replaced = replaced; writes = writes })) at written_bytes (Ok value)
+IsWrite-written_as memory at written_bytes bytes calls replaced writes value within same_bytes same_calls same_replaced same_writes fit =
+    rw (same_bytes, same_calls, same_replaced, same_writes) (IsWrite-written memory at written_bytes within value fit)

@@ -1,5 +1,5 @@
 -- A disk in memory, from its fields.
-use Rattle.std.specs.Prelude.{List, vec_capacity}
+use Rattle.std.specs.Prelude.{vec_capacity}
 use mathlib.Core.List.{reverse}
 use Rattle.disk_model.specs.declared.memory.MemDisk.TheInside.{Inside}
 use Rattle.disk_model.specs.Memory.{Memory}

@@ -1,5 +1,5 @@
 -- The parts of a disk in memory hang together. It stands here since the trait's law is proved by it.
-use Rattle.std.specs.Prelude.{◌≡◌, ◌⊎◌, ℕ, ◌≤◌, List, [], ◌∷◌, length, refl}
+use Rattle.std.specs.Prelude.{ℕ, ◌≤◌, List, [], ◌∷◌, length, refl}
 use Rattle.std.proofs.Common.{inl, inr, arith}
 use Rattle.disk_model.specs.declared.record.Call.{Call}
 use Rattle.disk_model.specs.DiskState.{IsSound}

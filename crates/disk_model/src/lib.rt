@@ -7,4 +7,5 @@ mod memory;
 mod record;
 
 pub use disk::Disk;
-pub use memory::{MemDisk, StopChoice};
+pub use memory::MemDisk;
+pub use record::StopChoice;

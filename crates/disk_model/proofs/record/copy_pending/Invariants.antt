@@ -1,4 +1,4 @@
-use Rattle.std.proofs.Common.{◌≤◌, ℕ, length, take}
+use Rattle.std.proofs.Common.{◌≤◌, length, take}
 use mathlib.Core.List.{reverse}
 use Rattle.disk_model.specs.Record.{LieWithin}
 use Rattle.disk_model.proofs.Copying.{CopiesSoFar}
