@@ -17,9 +17,6 @@ pub record CopiesSoFar (all rest : List Call) (source old now : List ℕ) : Type
   pub copied : (place : ℕ) → place < length old → IsPending all place → IsPending rest place ⊎ (slice_index now place ≡ slice_index source place)
   pub kept : (place : ℕ) → ¬ IsPending all place → slice_index now place ≡ slice_index old place
 
-pub copying_starts : (all : List Call) (source old : List ℕ) → CopiesSoFar all all source old old
-copying_starts all source old = record { size = refl; part = λ place here. here; copied = λ place low here. inl here; kept = λ place none. refl }
-
 -- the newest of the calls that are left
 pub reverse-take : (calls : List Call) (left : ℕ) (call d : Call) → 0 < left → left ≤ length calls → get_or calls (left - 1) d ≡ call → reverse (take left calls) ≡ call ∷ reverse (take (left - 1) calls)
 reverse-take calls left call d some low is =
@@ -73,14 +70,6 @@ module _ (all earlier : List Call) (at len : ℕ) (source old now : List ℕ) (a
     ];
   }
 
--- the end: no call is left, or the next is a sync
-pub copying_ends : (all rest : List Call) (source old now : List ℕ) → ((place : ℕ) → ¬ IsPending rest place) → CopiesSoFar all rest source old now → CopiesPending all source old now
-copying_ends all rest source old now none so_far = record {
-  size = so_far.size;
-  copied = λ place low here. elim (so_far.copied place low here) [ inl left ↦ absurd (none place left) | inr same ↦ same ];
-  kept = so_far.kept;
-}
-
 pending_or_not : (calls : List Call) (place : ℕ) → IsPending calls place ⊎ (¬ IsPending calls place)
 pending_or_not [] place = inr (λ none. none)
 pending_or_not (Sync ∷ earlier) place = inr (λ none. none)
@@ -102,9 +91,3 @@ copied_all calls source old new alike copies =
       | inl here ↦ copies.copied place (omega (arith, copies.size)) here
       | inr none ↦ copies.kept place none ∙ alike.kept place none
     ]
-
-pub IsCrashImage-sym : (calls : List Call) (a b : List ℕ) → IsCrashImage a calls b → IsCrashImage b calls a
-IsCrashImage-sym calls a b is = record { size = sym is.size; kept = λ place none. sym (is.kept place none) }
-
-pub IsCrashImage-copies : (calls : List Call) (source old new : List ℕ) → CopiesPending calls source old new → IsCrashImage old calls new
-IsCrashImage-copies calls source old new copies = record { size = copies.size; kept = copies.kept }

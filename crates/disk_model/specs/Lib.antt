@@ -1,5 +1,8 @@
+pub mod Counted
 pub mod DiskCalls
 pub mod DiskState
+pub mod FailingDisk
+pub mod FileDisk
 pub mod MemDisk
 pub mod Memory
 pub mod MemoryLaws

@@ -3,9 +3,13 @@
 #![tactic(auto)]
 
 mod disk;
+mod failing;
+mod file;
 mod memory;
 mod record;
 
 pub use disk::Disk;
+pub use failing::FailingDisk;
+pub use file::FileDisk;
 pub use memory::MemDisk;
 pub use record::StopChoice;
