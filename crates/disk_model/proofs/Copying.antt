@@ -1,5 +1,5 @@
 -- The bytes that a record has pending, and how they are copied call by call, the newest first.
-use Rattle.std.proofs.Common.{◌≤◌, ◌-◌, take, drop, sym, ◌∙◌, ap, arith, length-take, length-drop, get_or-take, get_or-drop, ◌≡◌, ◌⊎◌, ℕ, ◌+◌, ◌<◌, List, [], ◌∷◌, length, slice_index, get_or, refl, inl, inr, ⊎_elim}
+use Rattle.std.proofs.Common.{◌≤◌, ◌-◌, take, drop, sym, ◌∙◌, ap, arith, length-take, length-drop, get_or-take, get_or-drop, ◌≡◌, ◌⊎◌, ℕ, ◌+◌, ◌<◌, List, [], ◌∷◌, length, slice_index, get_or, inl, inr, ⊎_elim}
 use Rattle.std.proofs.lemmas.Bool.{cases_lt}
 use Rattle.std.proofs.lemmas.List.{take_more, reverse-append, ext_get_or}
 use mathlib.Core.List.{reverse}

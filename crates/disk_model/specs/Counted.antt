@@ -1,5 +1,5 @@
 -- A disk's meaning with other counts.
-use Rattle.std.specs.Prelude.{◌≡◌, ℕ}
+use Rattle.std.specs.Prelude.{ℕ}
 use Rattle.disk_model.specs.DiskState.{DiskState, IsSound}
 use Rattle.disk_model.specs.DiskCalls.{raised_by}
 

@@ -1,5 +1,5 @@
 -- A file as a disk. No contract can say what a file gives or takes, so it tells no bytes: its faults alone are counted.
-use Rattle.std.specs.Prelude.{ℕ, false, IsTrue, List, []}
+use Rattle.std.specs.Prelude.{false, IsTrue, []}
 use Rattle.disk_model.specs.declared.file.FileDisk.{FileDisk}
 use Rattle.disk_model.specs.DiskState.{DiskState}
 
