@@ -1,11 +1,11 @@
 -- How a list of pairs becomes pages: levels, groups, runs. This cut is the store's own.
-use Rattle.std.specs.Prelude.{◌≡◌, ◌≢◌, ℕ, ◌+◌, ◌≤◌, ◌<◌, List, [], ◌∷◌, ◌++◌, map, length, Bool, true, false, IsTrue, Option, Some, None, nat_le, nat_lt, ◌==◌, if◌then◌else◌}
+use Rattle.std.specs.Prelude.{◌≡◌, ℕ, ◌≤◌, ◌<◌, List, [], ◌∷◌, map, length, Bool, Option, Some, None, nat_le, nat_lt, ◌==◌, if◌then◌else◌}
 use Rattle.std.specs.List.{filter, flat_map, enumerate_from, AllByRecursion}
 use Rattle.std.specs.List.Sorted.{IsStrictlySortedBy}
 use Rattle.store_model.specs.Lists.{IsBytes, runs, cut_before, numbers_below}
 use Rattle.store_model.specs.Parameters.{Parameters}
 use Rattle.store_model.specs.Paths.{key_cmp}
-use Rattle.store_model.specs.Pairs.{Pair, pairs}
+use Rattle.store_model.specs.Pairs.{Pair, IsValue, pairs}
 use Rattle.store_model.specs.Trees.{Tree}
 use Rattle.store_model.specs.Labels.{Lead, Label, IsLabel}
 use Rattle.store_model.specs.Labels.Lead.{Start, Leader}
@@ -70,10 +70,7 @@ page_count t p = length (pages t p)
 abbrev pub Fits : Tree → Parameters → Type 0
 Fits t p = page_count t p ≤ p.slots
 
--- what a value and a cell of a level may be
-abbrev pub IsValue : List ℕ → Type 0
-IsValue v = (1 ≤ length v) × (length v ≤ 256) × IsBytes v
-
+-- what the value of a cell may be on a level
 abbrev pub IsCellValue : ℕ → Option (List ℕ) → Type 0
 IsCellValue level (Some v) = (level ≡ 0) × IsValue v
 IsCellValue level None = 0 < level

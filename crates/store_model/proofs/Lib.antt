@@ -1,0 +1,14 @@
+pub mod ImagesLemmas
+pub mod ListsLemmas
+pub mod ListsLemmasCuts
+pub mod PagesLemmas
+pub mod PagesLemmasKeys
+pub mod PagesLemmasOrder
+pub mod PagesLemmasSizes
+pub mod PairsLemmas
+pub mod PathsLemmas
+pub mod PlacementLemmas
+pub mod PlacementLemmasDraws
+pub mod PlacementLemmasOrder
+pub mod PlacementLemmasTrees
+pub mod ScriptsLemmas
