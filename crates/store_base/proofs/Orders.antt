@@ -1,15 +1,16 @@
 -- Byte strings one behind the other and numbers of four bytes: when they are equal, and their order.
-use Rattle.std.proofs.Common.{◌≡◌, ◌↔◌, ◌⊎◌, ℕ, ◌+◌, ◌*◌, ◌/◌, ◌%◌, ◌^◌, ◌<◌, Bool, true, false, ◌&&◌, List, [], ◌∷◌, ◌++◌, length, take, drop, zero, suc, subst, slice_index, nat_eq, refl, ap, sym, ◌∙◌, inl, inr, ⊎_elim, arith, rules, length-append}
+use Rattle.std.proofs.Common.{◌≡◌, ◌↔◌, ◌⊎◌, ℕ, ◌+◌, ◌*◌, ◌/◌, ◌%◌, ◌^◌, ◌<◌, ◌≤◌, Bool, true, false, ◌&&◌, List, [], ◌∷◌, ◌++◌, length, take, drop, zero, suc, subst, slice_index, nat_eq, refl, ap, sym, ◌∙◌, inl, inr, ⊎_elim, arith, rules, length-append}
 use Rattle.std.specs.Int.{w32, to_be_bytes, from_be_bytes}
 use Rattle.std.specs.declared.cmp.Ordering.{Ordering}
 use Rattle.std.specs.declared.cmp.Ordering.TheVariants.{Less, Equal, Greater}
 use Rattle.std.specs.Ordering.{nat_cmp, ordering_then, MatchOrdering}
 use Rattle.std.specs.Cmp.{nat_cmp_is}
-use Rattle.std.specs.Cmp.Lexicographic.{slice_cmp, pointwise, unequal}
-use Rattle.std.proofs.lemmas.List.{take_at, drop_at, drop_all, length-take}
+use Rattle.std.specs.Cmp.Lexicographic.{slice_cmp, pointwise, unequal, bytes_decides}
+use Rattle.std.proofs.lemmas.List.{take_at, drop_at, drop_all, length-take, get_or-take, get_or-drop, get_or_past}
 use Rattle.std.proofs.lemmas.Nat.{from_be_bytes-to_be_bytes_4}
-use Rattle.std.proofs.lemmas.Bool.{cases_order}
-use Rattle.store_model.specs.Lists.{IsBytes}
+use Rattle.std.proofs.lemmas.Bool.{cases_lt, cases_order, eq-eqb, eqb-true}
+use borrow.Rule.Slice.PartMut.{put_mid}
+use Rattle.store_model.specs.Lists.{IsBytes, zeros}
 
 -- equal strings whose fronts are as long have equal fronts and equal ends
 pub append-same : (xs ys us vs : List ℕ) → length xs ≡ length ys → xs ++ us ≡ ys ++ vs → (xs ≡ ys) × (us ≡ vs)
@@ -17,18 +18,45 @@ append-same xs ys us vs long same =
     (sym (take_at xs us (length xs) refl) ∙ ap (take (length xs)) same ∙ take_at ys vs (length xs) (sym long),
     sym (drop_at xs us (length xs) refl) ∙ ap (drop (length xs)) same ∙ drop_at ys vs (length xs) (sym long))
 
+-- a byte in front of bytes
+pub IsBytes-cons : (x : ℕ) (xs : List ℕ) → x < 256 → IsBytes xs → IsBytes (x ∷ xs)
+IsBytes-cons x xs first rest = at_each
+  where
+    at_each : (i : ℕ) → slice_index (x ∷ xs) i < 256
+    at_each zero = first
+    at_each (suc i) = rest i
+
 -- two strings of bytes one behind the other are bytes
 pub IsBytes-append : (xs ys : List ℕ) → IsBytes xs → IsBytes ys → IsBytes (xs ++ ys)
 IsBytes-append [] ys left right = right
-IsBytes-append (x ∷ xs) ys left right = first_and_rest (IsBytes-append xs ys (λ k. left (suc k)) right)
+IsBytes-append (x ∷ xs) ys left right = IsBytes-cons x (xs ++ ys) (left 0) (IsBytes-append xs ys (λ k. left (suc k)) right)
+
+-- zeros are bytes
+pub IsBytes-zeros : (n : ℕ) → IsBytes (zeros n)
+IsBytes-zeros zero = λ i. omega arith
+IsBytes-zeros (suc n) = IsBytes-cons 0 (zeros n) (omega arith) (IsBytes-zeros n)
+
+-- a part of a string of bytes is bytes
+pub IsBytes-drop : (n : ℕ) (xs : List ℕ) → IsBytes xs → IsBytes (drop n xs)
+IsBytes-drop n xs bytes = λ i. omega (arith, get_or-drop n xs i 0, bytes (n + i))
+
+pub IsBytes-take : (n : ℕ) (xs : List ℕ) → IsBytes xs → IsBytes (take n xs)
+IsBytes-take n xs bytes = λ i. within i (cases_lt i n)
   where
-    first_and_rest : IsBytes (xs ++ ys) → (i : ℕ) → slice_index (x ∷ (xs ++ ys)) i < 256
-    first_and_rest rest zero = left 0
-    first_and_rest rest (suc i) = rest i
+    within : (i : ℕ) → (i < n) ⊎ (n ≤ i) → slice_index (take n xs) i < 256
+    within i (inl below) = omega (arith, get_or-take n xs i 0 below, bytes i)
+    within i (inr past) = omega (arith, get_or_past (take n xs) i 0 (omega (arith, length-take n xs)))
 
 -- the bytes of a number are bytes
 pub IsBytes-to_be_bytes : (n : ℕ) → IsBytes (to_be_bytes w32 n)
-IsBytes-to_be_bytes n = ?
+IsBytes-to_be_bytes n =
+    IsBytes-cons (n / 16777216 % 256) (n / 65536 % 256 ∷ n / 256 % 256 ∷ n % 256 ∷ []) (omega arith)
+    (IsBytes-cons (n / 65536 % 256) (n / 256 % 256 ∷ n % 256 ∷ []) (omega arith)
+    (IsBytes-cons (n / 256 % 256) (n % 256 ∷ []) (omega arith) (IsBytes-cons (n % 256) [] (omega arith) (IsBytes-zeros 0))))
+
+-- a write over the last elements
+pub put_mid-last : (front rest last : List ℕ) (n k : ℕ) → length front ≡ n → length rest ≤ k → put_mid n k (front ++ rest) last ≡ front ++ last
+put_mid-last front rest last n k front_is rest_is = rw (take_at front rest n front_is, drop_at front rest n front_is, drop_all k rest rest_is) (search rules)
 
 -- what a slice of n elements holds past the first n
 pub drop-take : (n : ℕ) (xs : List ℕ) → drop n (take n xs) ≡ []
@@ -100,3 +128,16 @@ pointwise-append (x ∷ xs) (y ∷ ys) us vs long = ap (λ b. nat_eq x y && b) (
     and_and : (a b c : Bool) → (a && (b && c)) ≡ ((a && b) && c)
     and_and true b c = refl
     and_and false b c = refl
+
+-- two tests that pass in the same cases
+same_tests : (p q : Bool) → (p ≡ true → q ≡ true) → (q ≡ true → p ≡ true) → p ≡ q
+same_tests true q there back = sym (there refl)
+same_tests false true there back = back refl
+same_tests false false there back = refl
+
+-- numbers of four bytes are equal where their bytes are
+pub pointwise-to_be_bytes : (m n : ℕ) → m < 2 ^ 32 → n < 2 ^ 32 → pointwise nat_eq (to_be_bytes w32 m) (to_be_bytes w32 n) ≡ nat_eq m n
+pointwise-to_be_bytes m n m_fits n_fits =
+    same_tests (pointwise nat_eq (to_be_bytes w32 m) (to_be_bytes w32 n)) (nat_eq m n)
+    (λ same. eq-eqb m n (to_be_bytes-same m n m_fits n_fits ((bytes_decides (to_be_bytes w32 m) (to_be_bytes w32 n)).0 same)))
+    (λ same. (bytes_decides (to_be_bytes w32 m) (to_be_bytes w32 n)).1 (ap (to_be_bytes w32) (eqb-true m n same)))

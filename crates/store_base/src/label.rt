@@ -1,6 +1,6 @@
 //! Labels.
 
-ghost use Rattle.std.specs.Prelude.{◌≡◌, ◌↔◌, Some, IsTrue, IsNone, IfSome, nat_eq};
+ghost use Rattle.std.specs.Prelude.{◌≡◌, ◌↔◌, Some, IsTrue, IsNone, IsSome, IfSome, length, nat_eq};
 ghost use Rattle.std.proofs.Common.{refl};
 ghost use Rattle.std.specs.Cmp.{partial_equiv_from_equiv, on_equiv, on_per, on_po, on_total};
 ghost use Rattle.std.specs.Cmp.Lexicographic.{pointwise, nat_list_eq_equiv, nat_list_cmp_total, texts_po, texts_ties, slice_cmp};
@@ -64,6 +64,23 @@ impl Lead {
             Lead::Key(key) => Some(key.as_bytes()),
         }
     }
+
+    /// The lead with these 125 bytes of a label; `None` exactly where they are no lead's.
+    fn from_bytes(bytes: &[u8]) -> Option<Lead>
+        requires { length bytes.now ≡ 125 }
+        ensures found { IfSome result (λ lead. IsLead (lead_of lead) × (lead_bytes (lead_of lead) ≡ bytes.now)) }
+        ensures only { (lead : model.Lead) → IsLead lead → lead_bytes lead ≡ bytes.now → IsSome result }
+    {
+        match bytes[0] {
+            0 if bytes[1..] == [0; 124] => Some(Lead::Start),
+            1 => {
+                let mut key = [0; 124];
+                key.copy_from_slice(&bytes[1..]);
+                Some(Lead::Key(Key::new(key)))
+            }
+            _ => None,
+        }
+    }
 }
 
 impl Label {
@@ -89,15 +106,7 @@ impl Label {
         ensures found { IfSome result (λ label. IsLabel label × (label_bytes label ≡ bytes.now)) }
         ensures only { (label : model.Label) → IsLabel label → label_bytes label ≡ bytes.now → result ≡ Some label }
     {
-        let lead = match bytes[1] {
-            0 if bytes[2..126] == [0; 124] => Lead::Start,
-            1 => {
-                let mut key = [0; 124];
-                key.copy_from_slice(&bytes[2..126]);
-                Lead::Key(Key::new(key))
-            }
-            _ => return None,
-        };
+        let lead = Lead::from_bytes(&bytes[1..126])?;
         let mut index = [0; 4];
         index.copy_from_slice(&bytes[126..]);
         Some(Label {

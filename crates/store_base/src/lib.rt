@@ -5,6 +5,7 @@
 
 mod areas;
 mod fault;
+mod header;
 mod key;
 mod label;
 mod params;
@@ -13,6 +14,7 @@ mod value;
 
 pub use areas::{gate_at, image_len, mark_at, shadow_at, table_at};
 pub use fault::{DiskFault, NoMemory};
+pub use header::{read_header, write_header};
 pub use key::Key;
 pub use label::{Label, Lead};
 pub use params::{BadParams, Params};
