@@ -1,6 +1,7 @@
 -- The header's bytes: their length, and that they say all that the parameters are.
 use Rattle.std.proofs.Common.{◌≡◌, ℕ, ◌+◌, ◌-◌, ◌<◌, ◌≤◌, List, [], ◌∷◌, ◌++◌, length, take, drop, slice_index, refl, subst, ap, sym, ◌∙◌, arith, rules, length-append}
-use Rattle.std.specs.Prelude.{codes}
+use Rattle.std.specs.Prelude.{codes, Result, Ok, Err, Some, IfOk}
+use Rattle.std.specs.Result.{result_ok}
 use Rattle.std.specs.Int.{w32, to_be_bytes, from_be_bytes}
 use Rattle.std.proofs.lemmas.List.{take_at, length-replicate}
 use Rattle.std.proofs.lemmas.Nat.{from_be_bytes-to_be_bytes_4}
@@ -71,16 +72,27 @@ kind_byte-same Sha256 Ruler same = absurd (omega (arith, same))
 kind_byte-same Sha256 Sha256 same = refl
 
 -- what is read from a header is what it was written for
-pub header-read : (p : Parameters) (block : List ℕ) (kind : DrawKind) → IsParameters p → header p ≡ block → kind ≡ p.kind
-  → record { slots = from_be_bytes w32 (take 4 (drop 8 block)); height = slice_index block 12; kind = kind; seed = take 32 (drop 16 block) } ≡ p
-header-read p block kind valid is_header kind_is =
-    let slots = ap (λ (b : List ℕ). from_be_bytes w32 (take 4 (drop 8 b))) (sym is_header) ∙ ap (from_be_bytes w32) (header-slots p) ∙ from_be_bytes-to_be_bytes_4 p.slots (omega (arith, valid.slots_in_range)) in
-    let height = ap (λ (b : List ℕ). slice_index b 12) (sym is_header) ∙ header-height p in
-    let seed = ap (λ (b : List ℕ). take 32 (drop 16 b)) (sym is_header) ∙ header-seed p valid in
-    λ i. record { slots = slots i; height = height i; kind = kind_is i; seed = seed i }
+pub header-read : (p : Parameters) (block slots_bytes seed : List ℕ) (slots : ℕ) (kind : DrawKind) → IsParameters p → header p ≡ block
+  → slots_bytes ≡ take 4 (drop 8 block) → slots ≡ from_be_bytes w32 slots_bytes → Some kind ≡ Some p.kind → seed ≡ take 32 (drop 16 block)
+  → record { slots = slots; height = slice_index block 12; kind = kind; seed = seed } ≡ p
+header-read p block slots_bytes seed slots kind valid is_header slots_bytes_are slots_is some_kind seed_is =
+    let kind_is : kind ≡ p.kind = cc in
+    let slots_same : slots ≡ p.slots =
+        slots_is ∙ ap (from_be_bytes w32) slots_bytes_are ∙ ap (λ (b : List ℕ). from_be_bytes w32 (take 4 (drop 8 b))) (sym is_header)
+        ∙ ap (from_be_bytes w32) (header-slots p) ∙ from_be_bytes-to_be_bytes_4 p.slots (omega (arith, valid.slots_in_range)) in
+    let height_same = ap (λ (b : List ℕ). slice_index b 12) (sym is_header) ∙ header-height p in
+    let seed_same = seed_is ∙ ap (λ (b : List ℕ). take 32 (drop 16 b)) (sym is_header) ∙ header-seed p valid in
+    λ i. record { slots = slots_same i; height = height_same i; kind = kind_is i; seed = seed_same i }
 
 -- parameters are the same where their headers are
 pub header-same : (p q : Parameters) → IsParameters p → IsParameters q → header p ≡ header q → p ≡ q
 header-same p q p_valid q_valid same =
     let kind = kind_byte-same p.kind q.kind (sym (header-kind p) ∙ ap (λ (b : List ℕ). slice_index b 13) same ∙ header-kind q) in
-    sym (header-read p (header q) p.kind p_valid same refl) ∙ header-read q (header q) p.kind q_valid refl kind
+    let read = header-read p (header q) (take 4 (drop 8 (header q))) (take 32 (drop 16 (header q))) (from_be_bytes w32 (take 4 (drop 8 (header q)))) p.kind p_valid same refl refl refl refl in
+    let written = header-read q (header q) (take 4 (drop 8 (header q))) (take 32 (drop 16 (header q))) (from_be_bytes w32 (take 4 (drop 8 (header q)))) p.kind q_valid refl refl refl (ap Some kind) refl in
+    sym read ∙ written
+
+-- what holds of an answer's value holds of it as an option's
+pub IfOk-result_ok : {T E : Type 0} (r : Result T E) (x : T) (P : T → Type 0) → Some x ≡ result_ok r → IfOk r P → P x
+IfOk-result_ok (Ok y) x P is_ok holds = let same : y ≡ x = cc in subst P same holds
+IfOk-result_ok (Err e) x P is_ok holds = cc
