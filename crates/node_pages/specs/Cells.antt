@@ -1,0 +1,33 @@
+-- Where the cells of a page lie in its slot, and how they are read there.
+use Rattle.std.specs.Prelude.{◌≡◌, ℕ, zero, suc, ◌-◌, ◌≤◌, List, [], ◌∷◌, take, drop, length, Option, Some, None, slice_index, ◌==◌, if◌then◌else◌}
+use Rattle.std.specs.Int.{w16, from_be_bytes}
+use Rattle.store_model.specs.Lists.{IsBytes, zeros}
+use Rattle.store_model.specs.Labels.{Label}
+use Rattle.store_model.specs.Pages.{Cell, Page, IsPage}
+use Rattle.store_model.specs.Images.{page_bytes}
+
+-- how many bytes a cell of a level has
+abbrev pub cell_size : ℕ → ℕ
+cell_size level = if level == 0 then 382 else 124
+
+-- the value behind a key of a level: at level 0 alone, behind its length in two bytes
+abbrev pub value_in : ℕ → List ℕ → Option (List ℕ)
+value_in level bytes = if level == 0 then Some (take (from_be_bytes w16 bytes) (drop 2 bytes)) else None
+
+-- the cell of a level that these bytes spell
+unfoldable pub cell_in : ℕ → List ℕ → Cell
+cell_in level bytes = record { key = take 124 bytes; value = value_in level (drop 124 bytes) }
+
+-- so many cells, one behind the other
+unfoldable pub cells_in : ℕ → ℕ → List ℕ → List Cell
+cells_in level zero bytes = []
+cells_in level (suc count) bytes = cell_in level (take (cell_size level) bytes) ∷ cells_in level count (drop (cell_size level) bytes)
+
+-- the page of a label whose cells stand in a slot: their number at byte 131, and then the cells
+abbrev pub page_in : Label → List ℕ → Page
+page_in label slot = record { label = label; cells = cells_in label.level (slice_index slot 131) (drop 132 slot) }
+
+-- the slot holds a page of that label
+pub record IsSlotOf (label : Label) (slot : List ℕ) : Type 0 where
+  pub page : IsPage (page_in label slot)
+  pub bytes : page_bytes (page_in label slot) ≡ slot
