@@ -48,7 +48,7 @@ impl Label {
         bytes[0] = self.level;
         if let Lead::Key(key) = self.lead {
             bytes[1] = 1;
-            bytes[2..126].copy_from_slice(key.bytes());
+            bytes[2..126].copy_from_slice(key.as_bytes());
         }
         bytes[126..130].copy_from_slice(&self.index.to_be_bytes());
         bytes
