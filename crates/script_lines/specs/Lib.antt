@@ -1,0 +1,4 @@
+pub mod Counts
+pub mod Memory
+pub mod SinkState
+pub mod SourceState
