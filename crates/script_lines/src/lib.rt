@@ -3,11 +3,15 @@
 #![tactic(auto)]
 
 mod fault;
+mod lines;
 mod memory;
 mod sink;
 mod source;
+mod std_io;
 
 pub use fault::{SinkFault, SourceFault};
+pub use lines::{Line, LineFault, LineReader, MAX_LINE, MAX_SCRIPT};
 pub use memory::{MemSink, MemSource};
 pub use sink::Sink;
 pub use source::Source;
+pub use std_io::{StdSink, StdSource};

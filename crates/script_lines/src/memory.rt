@@ -148,7 +148,8 @@ impl Sink for MemSink {
         ensures ok { OnOk result (self.new ≡ after_put self.old bytes.now) }
         ensures err { OnErr result (self.new ≡ after_failed_put self.old) }
     {
-        let fails = self.failing.contains(&self.puts) || bytes.len() > self.room - self.written.len();
+        let fails = self.failing.contains(&self.puts)
+            || bytes.len() > self.room - self.written.len();
         self.puts = self.puts.saturating_add(1);
         if fails || self.written.extend_from_slice(bytes).is_err() {
             self.faults = self.faults.saturating_add(1);
