@@ -68,16 +68,16 @@ later_bytes [] n [] us vs hq h apart = cc
 later_bytes [] n (m ∷ q) us vs hq h apart =
     ap₂ (slice_cmp nat_cmp) (ap (λ t. t ++ (n ++ 1 ∷ us)) name_bytes-nil) (bytes-cons m q vs)
     ∙ ⊎_elim (λ less. lesser_name 1 n m us (0 ∷ (name_bytes q ++ vs)) (omega arith) hq.0 less)
-        (λ same. absurd (apart q (ap (λ t. t ∷ q) (sym same.0))))
-        (less_or_same (name_cmp n m) n m (path_cmp [] q) refl h)
+    (λ same. absurd (apart q (ap (λ t. t ∷ q) (sym same.0))))
+    (less_or_same (name_cmp n m) n m (path_cmp [] q) refl h)
 later_bytes (x ∷ a) n [] us vs hq h apart = cc
 later_bytes (x ∷ a) n (m ∷ q) us vs hq h apart =
     ap₂ (slice_cmp nat_cmp) (bytes-cons x a (n ++ 1 ∷ us)) (bytes-cons m q vs)
     ∙ ⊎_elim (λ less. lesser_name 0 x m (name_bytes a ++ (n ++ 1 ∷ us)) (0 ∷ (name_bytes q ++ vs)) (omega arith) hq.0 less)
-        (λ same. ap (λ t. slice_cmp nat_cmp (x ++ 0 ∷ (name_bytes a ++ (n ++ 1 ∷ us))) (t ++ 0 ∷ (name_bytes q ++ vs))) (sym same.0)
-            ∙ same_front x (0 ∷ (name_bytes a ++ (n ++ 1 ∷ us))) (0 ∷ (name_bytes q ++ vs))
-            ∙ later_bytes a n q us vs hq.1 same.1 (λ r e. apart r (ap₂ ◌∷◌ (sym same.0) e)))
-        (less_or_same (name_cmp x m) x m (path_cmp (a ++ n ∷ []) q) refl h)
+    (λ same. ap (λ t. slice_cmp nat_cmp (x ++ 0 ∷ (name_bytes a ++ (n ++ 1 ∷ us))) (t ++ 0 ∷ (name_bytes q ++ vs))) (sym same.0)
+    ∙ same_front x (0 ∷ (name_bytes a ++ (n ++ 1 ∷ us))) (0 ∷ (name_bytes q ++ vs))
+    ∙ later_bytes a n q us vs hq.1 same.1 (λ r e. apart r (ap₂ ◌∷◌ (sym same.0) e)))
+    (less_or_same (name_cmp x m) x m (path_cmp (a ++ n ∷ []) q) refl h)
 
 -- the key past a subtree
 abbrev pub past_bytes : Path → ℕ → List ℕ
@@ -87,8 +87,8 @@ pub past_written : (bytes xs : List ℕ) (len : ℕ) (p : Path) → IsField byte
 past_written bytes xs len p h other e =
     let front = name_bytes (parent p) ++ last_name p in
     let is : xs ++ 0 ∷ 0 ∷ 0 ∷ 0 ∷ [] ≡ front ++ 0 ∷ (zeros (120 - len) ++ 0 ∷ 0 ∷ 0 ∷ 0 ∷ []) =
-        ap (λ t. t ++ 0 ∷ 0 ∷ 0 ∷ 0 ∷ []) (e ∙ field_split bytes len p h other ∙ sym (append_assoc (name_bytes (parent p)) (last_name p) (0 ∷ zeros (120 - len))))
-        ∙ append_assoc front (0 ∷ zeros (120 - len)) (0 ∷ 0 ∷ 0 ∷ 0 ∷ []) in
+    ap (λ t. t ++ 0 ∷ 0 ∷ 0 ∷ 0 ∷ []) (e ∙ field_split bytes len p h other ∙ sym (append_assoc (name_bytes (parent p)) (last_name p) (0 ∷ zeros (120 - len))))
+    ∙ append_assoc front (0 ∷ zeros (120 - len)) (0 ∷ 0 ∷ 0 ∷ 0 ∷ []) in
     ap (λ t. set t (len - 1) 1) is
     ∙ set_at front 0 (zeros (120 - len) ++ 0 ∷ 0 ∷ 0 ∷ 0 ∷ []) 1 (len - 1) (omega (arith, len_split bytes len p h other, length-append (name_bytes (parent p)) (last_name p)))
 
@@ -100,11 +100,11 @@ past_is bytes xs len p h e = ap₂ (λ t n. set (t ++ 0 ∷ 0 ∷ 0 ∷ 0 ∷ []
 pub at_or_inside_split : (q p : Path) → is_at_or_inside q p ≡ true → q ≡ p ++ drop (length p) q
 at_or_inside_split q p h =
     ⊎_elim
-        (λ same.
-            let e : q ≡ p = same_path-true q p same in
-            e ∙ sym (append-nil p) ∙ ap (λ t. p ++ t) (sym (ap (drop (length p)) e ∙ drop_all (length p) p (omega arith))))
-        (λ inside. (inside_split q p inside).0)
-        (or_cases (same_path q p) (is_inside q p) h)
+    (λ same.
+    let e : q ≡ p = same_path-true q p same in
+    e ∙ sym (append-nil p) ∙ ap (λ t. p ++ t) (sym (ap (drop (length p)) e ∙ drop_all (length p) p (omega arith))))
+    (λ inside. (inside_split q p inside).0)
+    (or_cases (same_path q p) (is_inside q p) h)
 
 pub at_or_inside_from_split : (q p r : Path) → q ≡ p ++ r → is_at_or_inside q p ≡ true
 at_or_inside_from_split q p [] e = or_left (same_path q p) (is_inside q p) (ap (λ t. same_path t p) (e ∙ append-nil p) ∙ same_path-itself p)
@@ -141,5 +141,5 @@ past_before_later p q len block other hq apart less =
     let us = zeros (120 - len) ++ 0 ∷ 0 ∷ 0 ∷ 0 ∷ [] in
     ap₂ (slice_cmp nat_cmp) (append_assoc (name_bytes (parent p)) (last_name p) (1 ∷ us)) (append_assoc (name_bytes q) fill number)
     ∙ later_bytes (parent p) (last_name p) q us (fill ++ number) (high_names q (first_true _ _ hq))
-        (ap (λ t. path_cmp t q) (sym (last_split p other)) ∙ less)
-        (λ r e. both_ways _ apart (at_or_inside_from_split q p r (e ∙ ap (λ t. t ++ r) (sym (last_split p other)))))
+    (ap (λ t. path_cmp t q) (sym (last_split p other)) ∙ less)
+    (λ r e. both_ways _ apart (at_or_inside_from_split q p r (e ∙ ap (λ t. t ++ r) (sym (last_split p other)))))

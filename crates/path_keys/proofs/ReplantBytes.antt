@@ -50,7 +50,7 @@ names_replanted : (p old new : Path) → is_at_or_inside p old ≡ true → is_p
 unfolding replanted
 names_replanted p old new h hp hn =
     names_of_both new (drop (length old) p) (first_true _ _ hn)
-        (names_of_back old (drop (length old) p) (subst (λ t. list_all is_name t ≡ true) (at_or_inside_split p old h) (first_true _ _ hp)))
+    (names_of_back old (drop (length old) p) (subst (λ t. list_all is_name t ≡ true) (at_or_inside_split p old h) (first_true _ _ hp)))
 
 -- the field of a path in its new place
 pub replanted_field : (p old new : Path) (new_len : ℕ) (below bytes copy : List ℕ) → is_at_or_inside p old ≡ true → is_path p ≡ true
@@ -63,14 +63,14 @@ replanted_field p old new new_len below bytes copy h hp hn e copied fits =
     let sum : field_len (replanted old new p) ≡ n = len_replanted p old new new_len below h e hn.len_is in
     let past_names : drop new_len bytes ≡ zeros (120 - field_len new) = ap₂ drop hn.len_is hn.bytes_are ∙ drop_at (name_bytes new) (zeros (120 - field_len new)) (field_len new) refl in
     let behind : drop (n - new_len) (drop new_len bytes) ≡ zeros (120 - n) =
-        ap₂ drop (omega arith) past_names ∙ drop-replicate (length below) (120 - field_len new) 0 ∙ ap zeros (omega (arith, hn.len_is)) in
+    ap₂ drop (omega arith) past_names ∙ drop-replicate (length below) (120 - field_len new) 0 ∙ ap zeros (omega (arith, hn.len_is)) in
     record {
-        path = and_from _ _ (names_replanted p old new h hp hn.path) (le-leb _ 120 (omega arith));
-        bytes_are =
-            ap₂ ◌++◌ (names_shown bytes new_len new hn) (ap₂ ◌++◌ copied behind)
-            ∙ sym (append_assoc (name_bytes new) below (zeros (120 - n)))
-            ∙ ap₂ (λ t k. t ++ zeros (120 - k)) (sym all) (sym sum);
-        len_is = sym sum
+      path = and_from _ _ (names_replanted p old new h hp hn.path) (le-leb _ 120 (omega arith));
+      bytes_are =
+          ap₂ ◌++◌ (names_shown bytes new_len new hn) (ap₂ ◌++◌ copied behind)
+          ∙ sym (append_assoc (name_bytes new) below (zeros (120 - n)))
+          ∙ ap₂ (λ t k. t ++ zeros (120 - k)) (sym all) (sym sum);
+      len_is = sym sum;
     }
 
 pub fits_from_field : (bytes : List ℕ) (len : ℕ) (p : Path) → IsField bytes len p → fits_field p ≡ true
@@ -79,9 +79,10 @@ fits_from_field bytes len p h = second_true (list_all is_name p) _ h.path
 -- paths are equal where their fields are
 pub same_field : (bytes others : List ℕ) (len other_len : ℕ) (p q : Path) → IsField bytes len p → IsField others other_len q → Decides (same_bytes bytes others) (p ≡ q)
 same_field bytes others len other_len p q hp hq =
-    let decides = bytes_eq-Decides bytes others in
-    (λ same. same_path_from_field p q hp.path hq.path (sym hp.bytes_are ∙ decides.0 same ∙ hq.bytes_are),
-        λ e. decides.1 (hp.bytes_are ∙ ap field e ∙ sym hq.bytes_are))
+    let decides = bytes_eq-Decides bytes others in (
+      λ same. same_path_from_field p q hp.path hq.path (sym hp.bytes_are ∙ decides.0 same ∙ hq.bytes_are),
+      λ e. decides.1 (hp.bytes_are ∙ ap field e ∙ sym hq.bytes_are),
+    )
 
 pub same_names : (bytes others : List ℕ) (len other_len : ℕ) (p q : Path) (r : Bool) → IsField bytes len p → IsField others other_len q → r ≡ same_bytes bytes others
     → r ≡ pointwise (pointwise nat_eq) p q

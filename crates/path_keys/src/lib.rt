@@ -3,5 +3,7 @@
 
 mod names;
 mod paths;
+#[cfg(test)]
+mod tests;
 
 pub use paths::{Path, PathFault};

@@ -113,6 +113,7 @@ impl Path {
     pub fn key(&self, block: u32) -> Key
         ensures value { result ≡ model.key self.now block }
         ensures valid { IsKey result }
+        ensures path { IsTrue (model.is_path self.now) }
     {
         let mut bytes = [0; 124];
         bytes[..FIELD_LEN].copy_from_slice(&self.bytes);
@@ -210,6 +211,7 @@ impl Path {
         ensures above { (q : List (List ℕ)) (block : ℕ) → IsTrue (model.is_path q) → IsTrue (model.is_at_or_inside q self.now) → model.key_cmp (model.key q block) result ≡ Less }
         ensures below { (q : List (List ℕ)) (block : ℕ) → IsTrue (model.is_path q) → model.is_at_or_inside q self.now ≡ false → model.path_cmp self.now q ≡ Less → model.key_cmp result (model.key q block) ≡ Less }
         ensures valid { IsKey result }
+        ensures path { IsTrue (model.is_path self.now) }
     {
         let mut bytes = [0; 124];
         bytes[..FIELD_LEN].copy_from_slice(&self.bytes);
@@ -241,7 +243,8 @@ impl Path {
 
     /// Whether it lies strictly below the other path.
     pub fn is_inside(&self, other: &Path) -> bool
-        ensures { result ≡ model.is_inside self.now other.now }
+        ensures value { result ≡ model.is_inside self.now other.now }
+        ensures valid { IsTrue (model.is_path self.now) × IsTrue (model.is_path other.now) }
     {
         let len = other.len as usize;
         other.len < self.len && self.bytes[..len] == other.bytes[..len]

@@ -1,12 +1,12 @@
 -- Calls on slots one after the other.
-use Rattle.std.proofs.Common.{◌≡◌, ℕ, ◌^◌, ◌<◌, ◌≤◌, refl, subst, sym, ◌∙◌, arith}
+use Rattle.std.proofs.Common.{◌≡◌, ℕ, ◌≤◌, refl, subst, sym, ◌∙◌, arith}
 use Rattle.store_base.specs.declared.store_fault.Fault.{Fault}
 use Rattle.store_base.specs.declared.store_fault.Fault.TheVariants.{Disk, NoMemory}
 use Rattle.store_base.specs.SlotsState.{SlotsState, IsObservable, TakesNone, HasCause, Continues}
 use Rattle.store_base.proofs.Counts.{Rose-later, Rose-earlier}
 
-pub Continues-refl : (state : SlotsState) → state.faults < 2 ^ 64 → Continues state state
-Continues-refl state last = record { count = refl; observable = refl; takes_none = refl; faults = omega arith; last_fault = last }
+pub Continues-refl : (state : SlotsState) → Continues state state
+Continues-refl state = record { count = refl; observable = refl; takes_none = refl; faults = omega arith }
 
 pub Continues-trans : (old mid new : SlotsState) → Continues old mid → Continues mid new → Continues old new
 Continues-trans old mid new first then = record {
@@ -14,7 +14,6 @@ Continues-trans old mid new first then = record {
   observable = then.observable ∙ first.observable;
   takes_none = then.takes_none ∙ first.takes_none;
   faults = omega (arith, first.faults, then.faults);
-  last_fault = then.last_fault;
 }
 
 -- what is observable stays so, and what takes no memory

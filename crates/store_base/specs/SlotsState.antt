@@ -1,5 +1,5 @@
 -- What slots mean at one moment, and what a call on them does.
-use Rattle.std.specs.Prelude.{◌≡◌, ℕ, ◌^◌, ◌<◌, ◌≤◌, Bool, IsTrue, List, Some, Result, OnOk, OnErr, IfErr, slice_get, slice_set}
+use Rattle.std.specs.Prelude.{◌≡◌, ℕ, ◌≤◌, Bool, IsTrue, List, Some, Result, OnOk, OnErr, IfErr, slice_get, slice_set}
 use Rattle.store_base.specs.declared.store_fault.Fault.{Fault}
 use Rattle.store_base.specs.declared.store_fault.Fault.TheVariants.{Disk, NoMemory}
 use Rattle.store_base.specs.Counts.{Rose}
@@ -30,13 +30,12 @@ abbrev pub HasCause : SlotsState → SlotsState → Fault → Type 0
 HasCause old new Disk = Rose old.faults new.faults
 HasCause old new NoMemory = ¬ TakesNone old
 
--- what no call changes, and that no count falls or passes the last value of a u64
+-- what no call changes, and that the count of faults never falls
 pub record Continues (old new : SlotsState) : Type 0 where
   pub count : new.count ≡ old.count
   pub observable : new.is_observable ≡ old.is_observable
   pub takes_none : new.takes_none ≡ old.takes_none
   pub faults : old.faults ≤ new.faults
-  pub last_fault : new.faults < 2 ^ 64
 
 -- what a read of a slot into a buffer does to slots that tell their bytes
 pub record GetsSlot {T : Type 0} (old new : SlotsState) (at : ℕ) (buffer : List ℕ) (result : Result T Fault) : Type 0 where

@@ -4,8 +4,7 @@
 //! The marks take as many whole blocks as a byte for each slot and one reserved byte need; shadow and
 //! table have a block for each slot. All places and lengths are in bytes.
 
-ghost use Rattle.std.specs.Prelude.{◌≡◌, ◌+◌, ◌*◌, ◌<◌, ◌≤◌};
-ghost use Rattle.std.specs.Prelude.{ℕ};
+ghost use Rattle.std.specs.Prelude.{◌≡◌, ℕ, ◌+◌, ◌*◌, ◌<◌, ◌≤◌};
 ghost use Rattle.store_model.specs.Parameters as model;
 ghost use Rattle.store_base.specs.Areas.{AreasFill};
 

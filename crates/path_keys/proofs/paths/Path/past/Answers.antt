@@ -11,15 +11,15 @@ overflow_sub-bytes c = len_above_zero _ _ _ (field_of_view _ _ _ c.self.invarian
 pub returns-clause-above : goal.returns-clause-above
 returns-clause-above c q block h inside =
     ap (model.key_cmp (model.key q block))
-        (c.new.ensures.value
-        ∙ past_written c.self.inside.bytes c.copy_from_slice.new.self c.self.inside.len c.args.self.now (field_of_view _ _ _ c.self.invariant c.self.view_is) c.requires c.copy_from_slice.ensures.after)
+    (c.new.ensures.value
+    ∙ past_written c.self.inside.bytes c.copy_from_slice.new.self c.self.inside.len c.args.self.now (field_of_view _ _ _ c.self.invariant c.self.view_is) c.requires c.copy_from_slice.ensures.after)
     ∙ subtree_before_past c.args.self.now q c.self.inside.len block c.requires inside
 
 pub returns-clause-below : goal.returns-clause-below
 returns-clause-below c q block h apart less =
     ap (λ t. model.key_cmp t (model.key q block))
-        (c.new.ensures.value
-        ∙ past_written c.self.inside.bytes c.copy_from_slice.new.self c.self.inside.len c.args.self.now (field_of_view _ _ _ c.self.invariant c.self.view_is) c.requires c.copy_from_slice.ensures.after)
+    (c.new.ensures.value
+    ∙ past_written c.self.inside.bytes c.copy_from_slice.new.self c.self.inside.len c.args.self.now (field_of_view _ _ _ c.self.invariant c.self.view_is) c.requires c.copy_from_slice.ensures.after)
     ∙ past_before_later c.args.self.now q c.self.inside.len block c.requires h apart less
 
 pub returns-clause-value : goal.returns-clause-value

@@ -1,0 +1,5 @@
+pub mod Held
+pub mod LineLemmas
+pub mod Pieces
+pub mod Search
+pub mod StateLemmas
