@@ -1,9 +1,6 @@
 //! What can go wrong outside the store: the disk fails, or memory runs out.
-<<<<<<< HEAD
 ghost use Rattle.store_base.specs.declared.fault.NoMemory.{NoMemory};
 ghost use Rattle.std.specs.Prelude.{◌≡◌};
-=======
->>>>>>> 0793daadbde7910b87e390cca641093637274044
 
 use std::alloc::{AllocError, AllocFailed};
 use thiserror::Error;
