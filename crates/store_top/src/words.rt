@@ -55,14 +55,15 @@ impl Words {
     pub(crate) fn request(&self) -> Option<Request>
         ensures { option_map request_seen result ≡ request_today self.now }
     {
-        match self.words.as_slice() {
-            [word] => run_request(word.as_str()),
-            [word, slots, height, draw, seed] => format_request(
-                word.as_str(),
-                slots.as_str(),
-                height.as_str(),
-                draw.as_str(),
-                seed.as_str(),
+        let words = self.words.as_slice();
+        match words.len() {
+            1 => run_request(words[0].as_str()),
+            5 => format_request(
+                words[0].as_str(),
+                words[1].as_str(),
+                words[2].as_str(),
+                words[3].as_str(),
+                words[4].as_str(),
             ),
             _ => None,
         }
@@ -126,9 +127,11 @@ pub enum Wanted {
 pub fn wanted_len(words: &Words) -> Result<Wanted, NoMemory>
     ensures { IfOk result (λ wanted. wanted ≡ wanted_of (request_today words.now)) }
 {
-    Ok(match words.request() {
-        None => Wanted::Usage,
-        Some(Request::Run) => Wanted::Existing,
-        Some(Request::Format(params)) => Wanted::Fresh(image_len(params.slots())),
+    let Some(request) = words.request() else {
+        return Ok(Wanted::Usage);
+    };
+    Ok(match request {
+        Request::Run => Wanted::Existing,
+        Request::Format(params) => Wanted::Fresh(image_len(params.slots())),
     })
 }
