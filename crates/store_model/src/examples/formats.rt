@@ -2,7 +2,7 @@
 #![tactic(auto, unfolding(crate::specs::Compute::everything))]
 
 ghost use Rattle.std.specs.Prelude.{◌≡◌, ℕ, ◌+◌, ◌-◌, List, [], ◌∷◌, ◌++◌, codes, take, drop, length, Some, None};
-ghost use Rattle.store_model.specs.Lists.{zeros};
+ghost use Rattle.store_model.specs.Lists.{zeros, zero_filled};
 ghost use Rattle.store_model.specs.Parameters.{image_len};
 ghost use Rattle.store_model.specs.Labels.{label_bytes};
 ghost use Rattle.store_model.specs.Images.{header, slot_bytes};
@@ -39,4 +39,13 @@ pub fn slots_of_two_directories()
     ensures empty { slot_bytes None ≡ zeros 4096 }
     ensures uu { slot_bytes (Some (page (led_label 0 (codes "UU")) (directory_cell (codes "UU") ∷ []))) ≡
         1 ∷ 0 ∷ 1 ∷ 0x55 ∷ 0x55 ∷ zeros 126 ++ 1 ∷ 0x55 ∷ 0x55 ∷ zeros 122 ++ 0 ∷ 1 ∷ 1 ∷ zeros (4096 - 259) }
+{}
+
+/// The slot of the file `/U` of one byte in a table of eight slots: its first pair, and behind it its block.
+pub fn slot_of_a_file()
+    ensures { slot_bytes (Some (page (led_label 0 (codes "U"))
+        (record { key = key_of (codes "U"); value = Some (2 ∷ 0 ∷ 0 ∷ 0 ∷ 1 ∷ []) }
+        ∷ record { key = zero_filled 120 (codes "U") ++ 0 ∷ 0 ∷ 0 ∷ 1 ∷ []; value = Some (0 ∷ []) } ∷ []))) ≡
+        1 ∷ 0 ∷ 1 ∷ 0x55 ∷ zeros 127 ++ 2 ∷ 0x55 ∷ zeros 123 ++ 0 ∷ 5 ∷ 2 ∷ 0 ∷ 0 ∷ 0 ∷ 1 ∷ zeros 251
+        ++ 0x55 ∷ zeros 119 ++ 0 ∷ 0 ∷ 0 ∷ 1 ∷ 0 ∷ 1 ∷ 0 ∷ zeros (255 + 3200) }
 {}
