@@ -14,3 +14,5 @@ pub mod PlacementLemmasOrder
 pub mod PlacementLemmasTrees
 pub mod ScriptsLemmas
 pub mod TreesLemmas
+pub mod TreesLemmasMoves
+pub mod TreesLemmasPaths
