@@ -16,3 +16,4 @@ pub mod ScriptsLemmas
 pub mod TreesLemmas
 pub mod TreesLemmasMoves
 pub mod TreesLemmasPaths
+pub mod TreesLemmasSteps

@@ -1,5 +1,5 @@
 -- Lemmas on trees: what stands at a path after a change, and which changes keep a tree.
-use Rattle.std.proofs.Common.{◌≡◌, ℕ, ◌≤◌, List, [], ◌∷◌, length, Bool, true, false, not, ◌&&◌, ◌⊎◌, inl, inr, cond, IsTrue, T, Option, Some, None, is_some, refl, sym, ap, ap₂, subst, ◌∙◌, arith, ltb-false, Less, Equal, Greater}
+use Rattle.std.proofs.Common.{◌≡◌, ◌≤◌, [], ◌∷◌, length, Bool, true, false, not, ◌&&◌, ◌⊎◌, inl, inr, cond, IsTrue, T, Option, Some, None, is_some, refl, sym, ap, subst, ◌∙◌, arith, ltb-false, Less, Equal, Greater}
 use Rattle.std.specs.List.{AllByRecursion}
 use Rattle.std.specs.FinMap.{find, put, is_sorted}
 use Rattle.std.specs.FinMap.Entries.{by_order, is_sorted-put, find-put, where_key, is_sorted-where_key, find-where_key}

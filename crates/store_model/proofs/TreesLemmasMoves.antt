@@ -1,7 +1,7 @@
 -- Lemmas on moved trees: a rename keeps a tree.
-use Rattle.std.proofs.Common.{◌≡◌, ℕ, zero, suc, ◌+◌, ◌≤◌, List, [], ◌∷◌, ◌++◌, map, length, drop, Bool, true, false, not, ◌&&◌, ◌||◌, ◌⊎◌, inl, inr, cond, IsTrue, Option, Some, None, is_some, refl, sym, ap, ap₂, subst, ◌∙◌, arith}
+use Rattle.std.proofs.Common.{◌≡◌, ℕ, zero, suc, ◌≤◌, List, [], ◌∷◌, ◌++◌, map, length, drop, Bool, true, false, not, ◌&&◌, ◌⊎◌, inl, inr, cond, IsTrue, Some, refl, sym, ap, ap₂, ◌∙◌, arith}
 use Rattle.std.specs.List.{AllByRecursion, list_all, list_any}
-use Rattle.std.specs.FinMap.{find, put, is_sorted}
+use Rattle.std.specs.FinMap.{find, is_sorted}
 use Rattle.std.specs.FinMap.Entries.{find-put}
 use Rattle.std.specs.Cmp as cmp
 use Rattle.std.proofs.lemmas.Bool.{and_parts, and_from, and_cases, or_parts, not-false, false_from_ne_true, both_ways, cond_both}
@@ -122,10 +122,10 @@ IsTree-moved t from to h path fr tr inside up none fits = record {
   entries = all_tree_of (IsEntry (moved t from to)) (map (λ e. (moved_path from to e.0, e.1)) t)
       (all_map (λ e. IsEntry t e × ((is_at_or_inside e.0 from && not (fits_field (replanted from to e.0))) ≡ false)) (IsEntry (moved t from to)) (λ e. (moved_path from to e.0, e.1))
       (λ e g. record {
-      path = is_path-moved from to e.0 path (g.0).path g.1;
-      below_root = moved_not_root from to e.0 tr (g.0).below_root;
-      parent_directory = parent_directory-moved t from to e.0 h fr tr inside up none (g.0).below_root (g.0).parent_directory;
-      node = (g.0).node;
+        path = is_path-moved from to e.0 path (g.0).path g.1;
+        below_root = moved_not_root from to e.0 tr (g.0).below_root;
+        parent_directory = parent_directory-moved t from to e.0 h fr tr inside up none (g.0).below_root (g.0).parent_directory;
+        node = (g.0).node;
       })
       t (all_with (IsEntry t) _ _ (λ e p q. (p, q)) t h.entries (all_from_none _ t fits)));
 }

@@ -1,11 +1,11 @@
 -- Lemmas on paths: which are equal, which lie below another, and where a parent and a moved path lie.
-use Rattle.std.proofs.Common.{◌≡◌, ℕ, suc, ◌+◌, ◌-◌, ◌<◌, ◌≤◌, List, [], ◌∷◌, ◌++◌, length, take, drop, Bool, true, false, ◌||◌, ◌&&◌, ◌⊎◌, inl, inr, cond, nat_lt, arith, refl, sym, ap, subst, ◌∙◌, Ordering, Less, Equal, Greater, lt-ltb}
+use Rattle.std.proofs.Common.{◌≡◌, suc, ◌-◌, [], ◌∷◌, ◌++◌, length, take, drop, Bool, true, false, ◌&&◌, ◌⊎◌, inl, inr, nat_lt, arith, refl, sym, ap, ◌∙◌, Ordering, Less, Equal, Greater, lt-ltb}
 use Rattle.std.specs.Ordering.{is_eq}
 use Rattle.std.specs.Cmp.{IsTotalOrder, tied_itself}
 use Rattle.std.specs.Cmp.Lexicographic.{nat_list_cmp_total, lists_total}
 use Rattle.std.specs.FinMap.{slice_cmp-IsAntisymmetric, nat_cmp-IsAntisymmetric}
 use Rattle.std.proofs.lemmas.Bool.{and_parts, and_from, or_cases, or_left, or_right, cond-true, cond-false, cond_both, false_from_ne_true, both_ways}
-use Rattle.std.proofs.lemmas.List.{append-nil, append_assoc, append_cancel_left, length-append, length-drop, length-take, take-append-drop, take_at, drop_at, take_all, drop_all, nil_from_length}
+use Rattle.std.proofs.lemmas.List.{append-nil, append_assoc, append_cancel_left, length-append, length-drop, take-append-drop, take_at, drop_at, take_all}
 use Rattle.store_model.specs.Paths.{Path, Name, is_root, path_cmp, same_path, parent, is_inside, is_at_or_inside, replanted}
 use Rattle.store_model.specs.Trees.{moved_path}
 
@@ -165,6 +165,7 @@ parent-moved_path from to x below other = by_place (is_at_or_inside x from) refl
     not_itself : (s : Path) → x ≡ from ++ s → is_root s ≡ false
     not_itself [] e = absurd (other (e ∙ append-nil from))
     not_itself (n ∷ s) e = refl
+
     by_place : (b : Bool) → is_at_or_inside x from ≡ b → parent (moved_path from to x) ≡ moved_path from to (parent x)
     by_place true h =
         let e = at_or_inside-split x from h in
