@@ -15,3 +15,6 @@ pub mod PlacementLemmasOrder
 pub mod PlacementLemmasTrees
 pub mod ScriptsLemmas
 pub mod TreesLemmas
+pub mod TreesLemmasMoves
+pub mod TreesLemmasPaths
+pub mod TreesLemmasSteps
