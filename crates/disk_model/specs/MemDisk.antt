@@ -5,6 +5,7 @@ use Rattle.disk_model.specs.declared.memory.MemDisk.TheInside.{Inside}
 use Rattle.disk_model.specs.Memory.{Memory}
 use Rattle.disk_model.specs.Record.{IsConsistent}
 
+-- what clauses see of it: its record is kept with the newest call last
 abbrev pub memory_of : Inside → Memory
 memory_of disk = record {
   bytes = disk.bytes.items;
@@ -18,5 +19,6 @@ memory_of disk = record {
   fetched = disk.fetched;
 }
 
-abbrev pub AgreeInside : Inside → Type 0
-AgreeInside disk = IsConsistent (memory_of disk) (vec_capacity disk.calls) (vec_capacity disk.replaced)
+-- its parts agree, and its vectors have memory for all that its room allows
+abbrev pub IsConsistentInside : Inside → Type 0
+IsConsistentInside disk = IsConsistent (memory_of disk) (vec_capacity disk.calls) (vec_capacity disk.replaced)

@@ -33,11 +33,12 @@ pub record IsCrashImage (bytes : List ℕ) (calls : List Call) (image : List ℕ
   pub size : length image ≡ length bytes
   pub kept : (place : ℕ) → ¬ IsPending calls place → slice_index image place ≡ slice_index bytes place
 
--- the bytes before this call, which was the last, and what the calls before it had replaced
+-- the bytes before this call, which was the last
 abbrev pub undone : Call → List ℕ → List ℕ → List ℕ
 undone Sync replaced bytes = bytes
 undone (Write at len) replaced bytes = overwrite bytes at (drop (length replaced - len) replaced)
 
+-- what the calls before this one had replaced
 abbrev pub replaced_before : Call → List ℕ → List ℕ
 replaced_before Sync replaced = replaced
 replaced_before (Write at len) replaced = take (length replaced - len) replaced
@@ -66,7 +67,7 @@ memory_state memory = record {
 abbrev pub after_read : Memory → ℕ → Memory
 after_read memory len = record memory { fetched = raised_by memory.fetched len }
 
--- after a write that found room, and after one that did not, which changes nothing but the counts
+-- after a write that found room
 abbrev pub written : Memory → ℕ → List ℕ → Memory
 written memory at bytes = record memory {
   bytes = overwrite memory.bytes at bytes;
@@ -75,19 +76,23 @@ written memory at bytes = record memory {
   writes = raised memory.writes;
 }
 
+-- after a write that found too little, which changes nothing but the counts
 abbrev pub refused_write : Memory → Memory
 refused_write memory = record memory { faults = raised memory.faults; writes = raised memory.writes }
 
+-- after a write of these bytes
 abbrev pub after_write : Memory → ℕ → List ℕ → Memory
 after_write memory at bytes = if nat_lt (room_left memory) (length bytes + 16) then refused_write memory else written memory at bytes
 
--- after a sync that found room, and after one that did not
+-- after a sync that found room
 abbrev pub flushed : Memory → Memory
 flushed memory = record memory { synced = memory.bytes; calls = Sync ∷ memory.calls; syncs = raised memory.syncs }
 
+-- after a sync that found too little, which changes nothing but the counts
 abbrev pub refused_sync : Memory → Memory
 refused_sync memory = record memory { faults = raised memory.faults; syncs = raised memory.syncs }
 
+-- after a sync
 abbrev pub after_sync : Memory → Memory
 after_sync memory = if nat_lt (room_left memory) 16 then refused_sync memory else flushed memory
 

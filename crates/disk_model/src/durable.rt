@@ -1,5 +1,5 @@
 //! One write that is durable before the next step: what a commit record needs.
-ghost use Rattle.std.specs.Prelude.{◌≡◌, ◌+◌, ◌≤◌, ◌<◌, ◌^◌, length, OnOk, OnErr};
+ghost use Rattle.std.specs.Prelude.{◌≡◌, ◌+◌, ◌≤◌, length, OnOk};
 ghost use Rattle.disk_model.specs.DiskState.{IsObservable, IsDurable};
 ghost use Rattle.disk_model.specs.DiskCalls.{LeavesOnly, SameOutside, IsCall, overwrite, raised};
 
@@ -19,7 +19,7 @@ pub fn write_durably<D: Disk>(disk: &mut D, at: u64, bytes: &[u8]) -> Result<(),
     ensures written { IsObservable (D.state disk.old) → OnOk result ((D.state disk.new).bytes ≡ overwrite (D.state disk.old).bytes at bytes.now) }
     ensures outside { IsObservable (D.state disk.old) → SameOutside at (length bytes.now) (D.state disk.old).bytes (D.state disk.new).bytes }
 
-    // A crash at any moment of the call
+    // A crash at any moment of the call, failed or not.
     ensures crash { IsObservable (D.state disk.old)
         → LeavesOnly (D.state disk.old) (D.state disk.new) (SameOutside at (length bytes.now) (D.state disk.old).bytes) }
 

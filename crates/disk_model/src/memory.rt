@@ -1,8 +1,7 @@
 //! A disk in memory, which notes each call that changes it, so that it can show what a crash at any moment may leave.
 ghost use Rattle.std.specs.Prelude.{◌≡◌, ◌↔◌, ◌+◌, ◌<◌, ◌≤◌, length, IfOk, IsOk, IsErr};
-ghost use Rattle.disk_model.specs.DiskState.{IsObservable, IsDurable};
 ghost use Rattle.disk_model.specs.DiskCalls.{IsRead, IsWrite, IsSync};
-ghost use Rattle.disk_model.specs.Memory.{Memory, memory_state, room_left, after_read, after_write, after_sync, fresh, restarted};
+ghost use Rattle.disk_model.specs.Memory.{memory_state, room_left, after_read, after_write, after_sync, fresh, restarted};
 ghost use Rattle.disk_model.specs.MemoryLaws.{memory_is_sound};
 ghost use Rattle.disk_model.specs.StopChoice.{IsChosen};
 
@@ -37,11 +36,11 @@ impl Model for MemDisk {
 
     ghost Value = { Memory };
 
-    ghost use Rattle.disk_model.specs.MemDisk.{memory_of, AgreeInside};
+    ghost use Rattle.disk_model.specs.MemDisk.{memory_of, IsConsistentInside};
 
     ghost view = { memory_of };
 
-    ghost invariant = { AgreeInside };
+    ghost invariant = { IsConsistentInside };
 }
 
 impl MemDisk {
