@@ -6,12 +6,14 @@ use Rattle.std.specs.List.{AllByRecursion, filter, flat_map, enumerate_from}
 use Rattle.std.specs.List.Sorted.{IsStrictlySortedBy}
 use Rattle.std.specs.FinMap.{find}
 use Rattle.std.proofs.lemmas.List.{length-append, length-map}
+use Rattle.std.proofs.lemmas.List.FromFn.{length-enumerate_from}
+use Rattle.std.proofs.lemmas.Bool.{both_ways}
 use Rattle.store_model.specs.Lists.{run_count, runs, onto_part, cut_before, numbers_below}
 use Rattle.store_model.specs.Labels.{Lead}
 use Rattle.store_model.specs.Draws.{Draw}
 use Rattle.store_model.specs.Pairs.{Pair}
 use Rattle.store_model.specs.Pages.{Cell, page_room, cell_on, level_list, leads_group, groups, lead_of, group_pages, level_pages, pages_of_pairs}
-use Rattle.store_model.proofs.ListsLemmas.{length-runs}
+use Rattle.store_model.proofs.ListsLemmas.{all_weaker, length-runs}
 use Rattle.store_model.proofs.PagesLemmasOrder.{cell_on-key}
 
 -- ---- a list with some elements left out
@@ -159,3 +161,97 @@ parts_cost_from_none cost cuts ((y ∷ part) ∷ parts) e =
       | true ↦ omega arith
       | false ↦ (let same : 0 + suc (length part) ≡ suc (length part) = omega arith in ap (λ k. cost k + parts_cost cost parts) same)
     ]
+
+-- ---- the pages of a list of pairs, by its keys
+
+-- a run count is a cost
+cost_of_runs : (level : ℕ) → IsCost (run_count (page_room level))
+cost_of_runs level = elim (level == 0) as (λ b. IsCost (run_count (cond b 10 31))) [
+  | true ↦ record { none = refl; more = λ m n l. omega arith; together = λ m n. omega arith }
+  | false ↦ record { none = refl; more = λ m n l. omega arith; together = λ m n. omega arith }
+]
+
+-- how many pages a group has
+length-group_pages : (level : ℕ) (lead : Lead) (cells : List Cell) → length (group_pages level lead cells) ≡ run_count (page_room level) (length cells)
+unfolding group_pages
+length-group_pages level lead cells =
+    length-map (enumerate_from 0 (runs (page_room level) cells)) _ ∙ length-enumerate_from 0 (runs (page_room level) cells) ∙ length-runs (page_room level) cells
+
+-- parts that become as many elements as they cost
+length-flat_map_parts : {X Y : Type 0} (cost : ℕ → ℕ) (f : List X → List Y) (parts : List (List X)) → ((part : List X) → length (f part) ≡ cost (length part)) → length (flat_map f parts) ≡ parts_cost cost parts
+unfolding parts_cost
+length-flat_map_parts cost f [] e = refl
+length-flat_map_parts cost f (part ∷ parts) e = length-append (f part) (flat_map f parts) ∙ ap₂ (λ a b. a + b) (e part) (length-flat_map_parts cost f parts e)
+
+-- the keys of a list of pairs
+abbrev pub keys_of : List Pair → List (List ℕ)
+keys_of s = map (λ pair. pair.0) s
+
+-- whether a list of keys is cut before a key, and whether the key stands on the level
+abbrev leads_level : Draw → ℕ → List ℕ → Bool
+leads_level d level k = nat_lt level (d.level k)
+
+abbrev on_level : Draw → ℕ → List ℕ → Bool
+on_level d level k = nat_le level (d.level k)
+
+-- cells cost what their keys cost
+cost_of_cells : (cost : ℕ → ℕ) (d : Draw) (level n : ℕ) (s : List Pair)
+    → cost_from cost (leads_group d level) n (map (cell_on level) (filter (λ pair. on_level d level pair.0) s)) ≡ cost_from cost (leads_level d level) n (filter (on_level d level) (keys_of s))
+unfolding cost_from
+cost_of_cells cost d level n [] = refl
+cost_of_cells cost d level n (pair ∷ s) =
+    let apart = cost_of_cells cost d level 1 s in
+    let later = cost_of_cells cost d level (suc n) s in
+    let rest = cost_of_cells cost d level n s in
+    let cells = filter (λ pair. on_level d level pair.0) s in
+    elim (on_level d level pair.0) as (λ b. cost_from cost (leads_group d level) n (map (cell_on level) (cond b (pair ∷ cells) cells)) ≡ cost_from cost (leads_level d level) n (cond b (pair.0 ∷ filter (on_level d level) (keys_of s)) (filter (on_level d level) (keys_of s)))) [
+      | true ↦ λ i. cond (leads_level d level (cell_on-key level pair i)) (cost n + apart i) (later i)
+      | false ↦ rest
+    ]
+
+-- how many pages a level has, by the keys
+length-level_pages : (d : Draw) (s : List Pair) (level : ℕ) → length (level_pages d s level) ≡ cost_from (run_count (page_room level)) (leads_level d level) 0 (filter (on_level d level) (keys_of s))
+unfolding level_pages groups level_list
+length-level_pages d s level =
+    length-flat_map_parts (run_count (page_room level)) (λ cells. group_pages level (lead_of d level cells) cells) (groups d s level) (λ cells. length-group_pages level (lead_of d level cells) cells)
+    ∙ sym (parts_cost_from_none (run_count (page_room level)) (leads_group d level) (groups d s level) (cost_of_runs level).none)
+    ∙ parts_cost-cut_before (run_count (page_room level)) (leads_group d level) 0 (level_list d s level)
+    ∙ cost_of_cells (run_count (page_room level)) d level 0 s
+
+-- lists that are no longer, joined
+length-flat_map-le : {X Y : Type 0} (f g : X → List Y) (xs : List X) → ((x : X) → length (f x) ≤ length (g x)) → length (flat_map f xs) ≤ length (flat_map g xs)
+length-flat_map-le f g [] l = omega arith
+length-flat_map-le f g (x ∷ xs) l =
+    let first = l x in
+    let rest = length-flat_map-le f g xs l in
+    omega (arith, length-append (f x) (flat_map f xs), length-append (g x) (flat_map g xs))
+
+-- a level has no more pages with some keys left out
+level_pages_of_thinned : (d : Draw) (r s : List Pair) (level : ℕ) → IsThinned (keys_of r) (keys_of s) → length (level_pages d r level) ≤ length (level_pages d s level)
+level_pages_of_thinned d r s level h =
+    let fewer = cost_thinned (run_count (page_room level)) (leads_level d level) (cost_of_runs level) 0 (filter (on_level d level) (keys_of r)) (filter (on_level d level) (keys_of s)) (thinned_filters (on_level d level) (keys_of r) (keys_of s) h) in
+    omega (arith, length-level_pages d r level, length-level_pages d s level)
+
+-- nor has a list of pairs
+pub pages_of_thinned : (d : Draw) (r s : List Pair) → IsThinned (keys_of r) (keys_of s) → length (pages_of_pairs d r) ≤ length (pages_of_pairs d s)
+unfolding pages_of_pairs
+pages_of_thinned d r s h = length-flat_map-le (level_pages d r) (level_pages d s) (numbers_below d.height) (λ level. level_pages_of_thinned d r s level h)
+
+-- a list of pairs whose keys are those of another that pass a test
+pub pages_of_kept : (d : Draw) (r s : List Pair) (kept : List ℕ → Bool) → keys_of r ≡ filter kept (keys_of s) → length (pages_of_pairs d r) ≤ length (pages_of_pairs d s)
+pages_of_kept d r s kept e = pages_of_thinned d r s (subst (λ ks. IsThinned ks (keys_of s)) (sym e) (thinned_filter kept (keys_of s)))
+
+-- ---- sorted lists, each of whose keys is one of another's
+
+-- a key below all others is not found
+pub find_below_all : {K X : Type 0} (c : K → K → Ordering) (k : K) (es : List (K × X)) → AllByRecursion (λ e. c k e.0 ≡ Less) es → find c k es ≡ None
+find_below_all c k [] h = refl
+find_below_all c k (e ∷ es) h = ap (λ o. cond (is_eq o) (Some e.1) (find c k es)) h.0 ∙ find_below_all c k es h.1
+
+-- a key below one that is below all others is below them
+below_by_one : {K X : Type 0} {c : K → K → Ordering} (o : IsTotalOrder c) (k m : K) (es : List (K × X)) → c k m ≡ Less → AllByRecursion (λ e. c m e.0 ≡ Less) es → AllByRecursion (λ e. c k e.0 ≡ Less) es
+below_by_one o k m es l h = all_weaker _ _ (λ e g. o.trans k m e.0 l g) es h
+
+-- a key that is found in a sorted list is not below its first
+pub not_below_first : {K X : Type 0} {c : K → K → Ordering} (o : IsTotalOrder c) (k : K) (e : K × X) (es : List (K × X)) → AllByRecursion (λ f. c e.0 f.0 ≡ Less) es → c k e.0 ≡ Less → is_some (find c k (e ∷ es)) ≡ true → ⊥
+not_below_first {c = c} o k e es h l is = both_ways _ (ap is_some (find_below_all c k (e ∷ es) (l, below_by_one o k e.0 es l h))) is
