@@ -16,6 +16,7 @@ pub mod PlacementLemmasTrees
 pub mod ScriptsLemmas
 pub mod TreesLemmas
 pub mod TreesLemmasFewer
+pub mod TreesLemmasFits
 pub mod TreesLemmasMoves
 pub mod TreesLemmasPaths
 pub mod TreesLemmasSteps

@@ -1,19 +1,21 @@
 -- Lemmas on lists with some elements left out: fewer keys need no more pages.
-use Rattle.std.proofs.Common.{◌≡◌, ℕ, suc, ◌+◌, ◌-◌, ◌/◌, ◌≤◌, List, [], ◌∷◌, ◌++◌, map, length, Bool, true, false, ◌⊎◌, inl, inr, cond, nat_le, nat_lt, ◌==◌, IsTrue, Option, Some, None, is_some, Ordering, Less, Equal, Greater, refl, sym, ap, ap₂, subst, ◌∙◌, arith, add-one}
-use Rattle.std.specs.Ordering.{is_eq, eq_by_cmp}
+use Rattle.std.proofs.Common.{◌≡◌, ℕ, suc, ◌+◌, ◌≤◌, List, [], ◌∷◌, ◌++◌, map, length, Bool, true, false, ◌⊎◌, inl, inr, cond, nat_le, nat_lt, ◌==◌, IsTrue, Option, Some, None, is_some, Ordering, Less, Equal, Greater, refl, sym, ap, ap₂, subst, ◌∙◌, arith, add-one}
+use Rattle.std.specs.Ordering.{is_eq, eq_by_cmp, ordering_reverse}
 use Rattle.std.specs.Cmp.{IsTotalOrder, tied_itself}
+use Rattle.std.specs.Cmp.Lexicographic.{nat_list_cmp_total}
 use Rattle.std.specs.List.{AllByRecursion, filter, flat_map, enumerate_from}
 use Rattle.std.specs.List.Sorted.{IsStrictlySortedBy}
-use Rattle.std.specs.FinMap.{find}
+use Rattle.std.specs.FinMap.{find, is_sorted, slice_cmp-IsAntisymmetric, nat_cmp-IsAntisymmetric}
 use Rattle.std.proofs.lemmas.List.{length-append, length-map}
 use Rattle.std.proofs.lemmas.List.FromFn.{length-enumerate_from}
-use Rattle.std.proofs.lemmas.Bool.{both_ways}
+use Rattle.std.proofs.lemmas.Bool.{both_ways, false_from_ne_true}
 use Rattle.store_model.specs.Lists.{run_count, runs, onto_part, cut_before, numbers_below}
+use Rattle.store_model.specs.Paths.{key_cmp}
 use Rattle.store_model.specs.Labels.{Lead}
 use Rattle.store_model.specs.Draws.{Draw}
 use Rattle.store_model.specs.Pairs.{Pair}
 use Rattle.store_model.specs.Pages.{Cell, page_room, cell_on, level_list, leads_group, groups, lead_of, group_pages, level_pages, pages_of_pairs}
-use Rattle.store_model.proofs.ListsLemmas.{all_weaker, length-runs}
+use Rattle.store_model.proofs.ListsLemmas.{all_weaker, length-runs, rising_head, rising_tail, rising_from_is_sorted}
 use Rattle.store_model.proofs.PagesLemmasOrder.{cell_on-key}
 
 -- ---- a list with some elements left out
@@ -255,3 +257,53 @@ below_by_one o k m es l h = all_weaker _ _ (λ e g. o.trans k m e.0 l g) es h
 -- a key that is found in a sorted list is not below its first
 pub not_below_first : {K X : Type 0} {c : K → K → Ordering} (o : IsTotalOrder c) (k : K) (e : K × X) (es : List (K × X)) → AllByRecursion (λ f. c e.0 f.0 ≡ Less) es → c k e.0 ≡ Less → is_some (find c k (e ∷ es)) ≡ true → ⊥
 not_below_first {c = c} o k e es h l is = both_ways _ (ap is_some (find_below_all c k (e ∷ es) (l, below_by_one o k e.0 es l h))) is
+
+-- a test that fails, of what is found behind the first entry
+behind_first : {X : Type 0} (b : Bool) (x : X) (o : Option X) → b ≡ false → is_some (cond b (Some x) o) ≡ true → is_some o ≡ true
+behind_first true x o e h = cc
+behind_first false x o e h = h
+
+-- what is found behind the first entry is found
+with_first : {X : Type 0} (b : Bool) (x : X) (o : Option X) → is_some o ≡ true → is_some (cond b (Some x) o) ≡ true
+with_first true x o h = refl
+with_first false x o h = h
+
+-- keys that the test takes for the same tie
+tie_of_test : (o : Ordering) → is_eq o ≡ true → o ≡ Equal
+tie_of_test Less e = cc
+tie_of_test Equal e = refl
+tie_of_test Greater e = cc
+
+module _ {K X : Type 0} (c : K → K → Ordering) (o : IsTotalOrder c) (same : (x y : K) → c x y ≡ Equal → x ≡ y) where
+  -- a key that is found in one sorted list is found in the other
+  abbrev IsFoundIn : List (K × X) → List (K × X) → Type 0
+  IsFoundIn r s = (k : K) → is_some (find c k r) ≡ true → is_some (find c k s) ≡ true
+
+  -- the first entry is found
+  first_found : (e : K × X) (es : List (K × X)) → is_some (find c e.0 (e ∷ es)) ≡ true
+  first_found e es = ap (λ r. is_some (cond (is_eq r) (Some e.1) (find c e.0 es))) (tied_itself o e.0)
+
+  -- a key that is found in r, which has no entry at the first key of s, is found behind it
+  found_behind : (f : K × X) (r s : List (K × X)) → IsFoundIn r (f ∷ s) → (is_some (find c f.0 r) ≡ true → ⊥) → IsFoundIn r s
+  found_behind f r s h apart k is =
+      behind_first (eq_by_cmp c k f.0) f.1 (find c k s)
+      (false_from_ne_true _ (λ t. apart (ap (λ q. is_some (find c q r)) (sym (same k f.0 (tie_of_test (c k f.0) t))) ∙ is))) (h k is)
+
+  -- so its keys are the other's with some left out
+  thinned_keys : (r s : List (K × X)) → IsStrictlySortedBy (λ a b. c a.0 b.0) r → IsStrictlySortedBy (λ a b. c a.0 b.0) s → IsFoundIn r s → IsThinned (map (λ e. e.0) r) (map (λ e. e.0) s)
+  thinned_keys [] s g h sub = thinned_nil (map (λ e. e.0) s)
+  thinned_keys (e ∷ r) [] g h sub = absurd (both_ways _ refl (sub e.0 (first_found e r)))
+  thinned_keys (e ∷ r) (f ∷ s) g h sub =
+      (elim (c e.0 f.0) as (λ w. c e.0 f.0 ≡ w → IsThinned (map (λ e. e.0) (e ∷ r)) (map (λ e. e.0) (f ∷ s))) [
+        | Less ↦ λ l. absurd (not_below_first o e.0 f s (rising_head _ f s h) l (sub e.0 (first_found e r)))
+        | Equal ↦ λ l.
+            let one = same e.0 f.0 l in
+            let none : is_some (find c f.0 r) ≡ true → ⊥ = both_ways _ (ap is_some (find_below_all c f.0 r (subst (λ k. AllByRecursion (λ x. c k x.0 ≡ Less) r) one (rising_head _ e r g)))) in
+            inr (map (λ e. e.0) r, ap (λ k. k ∷ map (λ e. e.0) r) one, thinned_keys r s (rising_tail _ e r g) (rising_tail _ f s h) (found_behind f r s (λ k is. sub k (with_first (eq_by_cmp c k e.0) e.1 (find c k r) is)) none))
+        | Greater ↦ λ l. inl (thinned_keys (e ∷ r) s g (rising_tail _ f s h) (found_behind f (e ∷ r) s sub (not_below_first o f.0 e r (rising_head _ e r g) (o.antisymm f.0 e.0 ∙ ap ordering_reverse l))))
+      ]) refl
+
+-- a sorted list of pairs, each of whose keys is one of another's
+pub pages_of_subset : (d : Draw) (r s : List Pair) → IsTrue (is_sorted key_cmp r) → IsTrue (is_sorted key_cmp s) → ((k : List ℕ) → is_some (find key_cmp k r) ≡ true → is_some (find key_cmp k s) ≡ true) → length (pages_of_pairs d r) ≤ length (pages_of_pairs d s)
+pages_of_subset d r s g h sub =
+    pages_of_thinned d r s (thinned_keys key_cmp nat_list_cmp_total (slice_cmp-IsAntisymmetric nat_cmp-IsAntisymmetric) r s (rising_from_is_sorted key_cmp r g) (rising_from_is_sorted key_cmp s h) sub)

@@ -21,12 +21,12 @@ use Rattle.store_model.proofs.TreesLemmas.{IsTree-with_node, IsTree-make, IsTree
 use Rattle.store_model.proofs.TreesLemmasMoves.{IsTree-moved}
 
 -- each condition fails, where a command is not refused
-pub AllFail : List Condition → Type 0
+abbrev pub AllFail : List Condition → Type 0
 AllFail cs = AllByRecursion (λ condition. condition.0 ≡ false) cs
 
 -- where there is no refusal, each condition fails
 pub all_fail : (cs : List Condition) → first_refusal cs ≡ None → AllFail cs
-unfolding first_refusal AllFail
+unfolding first_refusal
 all_fail [] e = tt
 all_fail (condition ∷ cs) e =
     (elim condition.0 as (λ b. (if b then Some condition.1 else first_refusal cs) ≡ None → (b ≡ false) × AllByRecursion (λ condition. condition.0 ≡ false) cs) [
@@ -69,12 +69,12 @@ no_directory_lost t p bytes other is = cc
 
 -- `make`
 made : (t : Tree) (p : Path) → IsTree t → IsCommand (Make p) → AllFail (conditions t (Make p)) → IsTree (next_tree t (Make p))
-unfolding conditions AllFail
+unfolding conditions
 made t p h is fail = IsTree-make t p h is fail.0 (not-false _ (fail.1).0) ((fail.1).1).0
 
 -- `write`
 written : (t : Tree) (p : Path) (at : ℕ) (bytes : List ℕ) → IsTree t → IsCommand (Write p at bytes) → AllFail (conditions t (Write p at bytes)) → IsTree (next_tree t (Write p at bytes))
-unfolding conditions next_tree AllFail
+unfolding conditions next_tree
 written t p at bytes h is fail =
     let other = (fail.1).0 in
     let old = contents_of_tree t p h in
@@ -84,7 +84,7 @@ written t p at bytes h is fail =
 
 -- `cut`
 shortened : (t : Tree) (p : Path) (len : ℕ) → IsTree t → IsCommand (Cut p len) → AllFail (conditions t (Cut p len)) → IsTree (next_tree t (Cut p len))
-unfolding conditions next_tree AllFail
+unfolding conditions next_tree
 shortened t p len h is fail =
     let other = (fail.1).0 in
     let below = not_root_from_other t p other in
@@ -94,7 +94,7 @@ shortened t p len h is fail =
 
 -- `rename`
 renamed : (t : Tree) (p q : Path) → IsTree t → IsCommand (Rename p q) → AllFail (conditions t (Rename p q)) → IsTree (next_tree t (Rename p q))
-unfolding conditions next_tree AllFail
+unfolding conditions next_tree
 renamed t p q h is fail =
     let roots = or_parts (is_root p) _ fail.0 in
     let rest = (fail.1).1 in
@@ -102,7 +102,7 @@ renamed t p q h is fail =
 
 -- `remove`
 removed : (t : Tree) (p : Path) → IsTree t → AllFail (conditions t (Remove p)) → IsTree (next_tree t (Remove p))
-unfolding conditions next_tree AllFail
+unfolding conditions next_tree
 removed t p h fail = IsTree-without t p h ((fail.1).1).0
 
 -- the tree after a command that is not refused
@@ -122,7 +122,7 @@ IsTree-next_tree t Digest h is e = h
 -- ---- steps and answers
 
 -- the tree of one of two steps, by a test
-picked_tree : (P : Tree → Type 0) (b : Bool) (x y : Step) → P x.tree → P y.tree → P (if b then x else y).tree
+pub picked_tree : (P : Tree → Type 0) (b : Bool) (x y : Step) → P x.tree → P y.tree → P (if b then x else y).tree
 picked_tree P true x y h g = h
 picked_tree P false x y h g = g
 
