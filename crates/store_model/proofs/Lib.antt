@@ -3,6 +3,7 @@ pub mod ImagesLemmas
 pub mod ListsLemmas
 pub mod ListsLemmasCuts
 pub mod PagesLemmas
+pub mod PagesLemmasGroups
 pub mod PagesLemmasKeys
 pub mod PagesLemmasOrder
 pub mod PagesLemmasSizes
@@ -14,3 +15,8 @@ pub mod PlacementLemmasOrder
 pub mod PlacementLemmasTrees
 pub mod ScriptsLemmas
 pub mod TreesLemmas
+pub mod TreesLemmasFewer
+pub mod TreesLemmasFits
+pub mod TreesLemmasMoves
+pub mod TreesLemmasPaths
+pub mod TreesLemmasSteps
