@@ -1,0 +1,3 @@
+pub mod CellBytes
+pub mod Filled
+pub mod CellLists
