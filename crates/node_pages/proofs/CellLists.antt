@@ -28,7 +28,7 @@ first_cell level left last rest cell key cell_is key_is long =
     (λ h. subst (λ x. P x key) (sym cell_is) (subst (P (take (cell_size level) rest)) key_same h),
      λ h. subst (P (take (cell_size level) rest)) (sym key_same) (subst (λ x. P x key) cell_is h))
 
-key_within : (level : ℕ) → 124 ≤ cell_size level
+pub key_within : (level : ℕ) → 124 ≤ cell_size level
 key_within zero = omega arith
 key_within (suc level) = omega arith
 

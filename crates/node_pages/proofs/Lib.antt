@@ -1,3 +1,4 @@
 pub mod CellBytes
 pub mod Filled
 pub mod CellLists
+pub mod PageBytes

@@ -1,11 +1,11 @@
 -- Where the cells of a page lie in its slot, and how they are read there.
-use Rattle.std.specs.Prelude.{◌≡◌, ℕ, zero, suc, ◌-◌, ◌≤◌, List, [], ◌∷◌, take, drop, Option, Some, None, slice_index}
+use Rattle.std.specs.Prelude.{◌≡◌, ℕ, zero, suc, ◌-◌, ◌≤◌, ◌*◌, length, List, [], ◌∷◌, take, drop, Option, Some, None, slice_index}
 use Rattle.std.specs.Int.{w16, from_be_bytes}
 use Rattle.std.specs.declared.cmp.Ordering.TheVariants.{Less}
 use Rattle.store_model.specs.Lists.{zeros}
 use Rattle.store_model.specs.Paths.{key_cmp}
 use Rattle.store_model.specs.Labels.{Label}
-use Rattle.store_model.specs.Pages.{Cell, Page, IsPage}
+use Rattle.store_model.specs.Pages.{Cell, Page, page_room, IsPage}
 use Rattle.store_model.specs.Images.{page_bytes}
 
 -- how many bytes a cell of a level has
@@ -41,6 +41,13 @@ SpellsCell level bytes = level ≡ 0 → SpellsValue (drop 124 bytes)
 unfoldable pub SpellsRising : ℕ → List ℕ → ℕ → List ℕ → Type 0
 SpellsRising level last zero bytes = Unit {0}
 SpellsRising level last (suc count) bytes = SpellsCell level (take (cell_size level) bytes) × (key_cmp last (take 124 bytes) ≡ Less) × SpellsRising level (take 124 bytes) count (drop (cell_size level) bytes)
+
+-- the 3,964 bytes behind the count of a page spell so many cells of the level, as many as a page may have, and zeros
+pub record SpellsCells (level count : ℕ) (area : List ℕ) : Type 0 where
+  pub some : 1 ≤ count
+  pub room : count ≤ page_room level
+  pub rising : SpellsRising level [] count area
+  pub rest : drop (cell_size level * count) area ≡ zeros (length (drop (cell_size level * count) area))
 
 -- the page of a label whose cells stand in a slot: their number at byte 131, and then the cells
 abbrev pub page_in : Label → List ℕ → Page

@@ -5,10 +5,12 @@
 #![tactic(auto)]
 
 mod cell;
+mod page;
 mod spelling;
 
 
 
 pub use cell::Cell;
+pub use page::{Page, decode_page, encode_page};
 
 

@@ -13,7 +13,7 @@ use crate::cell::Cell;
 use store_base::{Key, Value};
 
 /// The bytes of a key.
-const KEY_LEN: usize = 124;
+pub const KEY_LEN: usize = 124;
 
 /// How many bytes a cell of the level has.
 pub fn cell_len(level: u8) -> usize

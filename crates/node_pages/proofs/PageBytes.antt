@@ -1,0 +1,264 @@
+-- Pages and their slots: what stands where in a slot, and that a slot is one page's alone.
+use Rattle.std.proofs.Common.{◌≡◌, ℕ, zero, suc, ◌+◌, ◌-◌, ◌*◌, ◌≤◌, ◌<◌, ◌↔◌, Bool, List, [], ◌∷◌, ◌++◌, map, length, take, drop, get_or, slice_index, refl, sym, ap, ap₂, subst, ◌∙◌, arith, append_assoc, length-append, cond, true, false, ◌==◌, Less, mul-suc, mul-le-mul_left, take-add, Some}
+use Rattle.std.specs.Prelude.{slice_get}
+use Rattle.std.specs.List.{flat_map, AllByRecursion}
+use Rattle.std.specs.List.Sorted.{IsStrictlySortedBy}
+use Rattle.std.specs.Cmp.Lexicographic.{nat_list_cmp_total}
+use Rattle.std.proofs.lemmas.List.{take_at, drop_at, take_all, get_or_at, append-nil, length-take, length-take-le, length-drop, drop-drop, take-take, take-append-drop, drop_more, length_push}
+use Rattle.store_model.specs.Lists.{IsBytes, zeros, zero_filled}
+use Rattle.store_model.specs.Paths.{key_cmp}
+use Rattle.store_model.specs.Labels.{Label, IsLabel, label_bytes}
+use Rattle.store_model.specs.Pages.{Cell, Page, page_room, IsCell, IsPage}
+use Rattle.store_model.specs.Images.{value_bytes, cell_bytes, page_bytes}
+use Rattle.store_model.proofs.ListsLemmas.{all_weaker, rising_nil, rising_cons, rising_head, rising_tail}
+use Rattle.store_base.proofs.LabelBytes.{length-label_bytes, label_bytes-same}
+use Rattle.node_pages.specs.Cells.{cell_size, cell_in, cells_in, page_in, SpellsCell, SpellsRising, SpellsCells, IsSlotOf}
+use Rattle.node_pages.proofs.Filled.{zero_filled-append, length-zeros, length-zero_filled}
+use Rattle.node_pages.proofs.CellBytes.{IsBytes-take, IsBytes-drop, length-cell_bytes, length-cells_bytes, cell_read, cells_in-cell_bytes, SpellsCell-cell_bytes}
+use Rattle.node_pages.proofs.CellLists.{key_within}
+
+pub length-cells_in : (level count : ℕ) (bytes : List ℕ) → length (cells_in level count bytes) ≡ count
+unfolding cells_in
+length-cells_in level zero bytes = refl
+length-cells_in level (suc count) bytes = ap suc (length-cells_in level count (drop (cell_size level) bytes))
+
+-- what is read of bytes that spell cells
+pub record AreRead (level : ℕ) (last : List ℕ) (cells : List Cell) (bytes : List ℕ) : Type 0 where
+  pub each : AllByRecursion (IsCell level) cells
+  pub above : AllByRecursion (λ k. key_cmp last k ≡ Less) (map (λ c. c.key) cells)
+  pub rising : IsStrictlySortedBy key_cmp (map (λ c. c.key) cells)
+  pub spelled : flat_map cell_bytes cells ≡ bytes
+
+cells_are_read : (level count : ℕ) (last bytes : List ℕ) → cell_size level * count ≤ length bytes → IsBytes bytes → SpellsRising level last count bytes → AreRead level last (cells_in level count bytes) (take (cell_size level * count) bytes)
+unfolding SpellsRising cells_in cell_in
+cells_are_read level zero last bytes room fits spells = record { each = tt; above = tt; rising = rising_nil key_cmp; spelled = ap (λ n. take n bytes) (let none : 0 ≡ cell_size level * 0 = omega arith in none) }
+cells_are_read level (suc count) last bytes room fits spells =
+    let size = cell_size level in
+    let first_room : size ≤ length bytes = omega (arith, room, mul-suc size count) in
+    let first_long : length (take size bytes) ≡ size = length-take-le size bytes first_room in
+    let first = cell_read level (take size bytes) first_long (IsBytes-take size bytes fits) spells.0 in
+    let key_is : take 124 (take size bytes) ≡ take 124 bytes = take-take 124 size bytes (key_within level) in
+    let rest = cells_are_read level count (take 124 bytes) (drop size bytes) (omega (arith, room, mul-suc size count, length-drop size bytes)) (IsBytes-drop size bytes fits) spells.2 in
+    let below : key_cmp last (take 124 (take size bytes)) ≡ Less = subst (λ k. key_cmp last k ≡ Less) (sym key_is) spells.1 in
+    let all_above = all_weaker (λ k. key_cmp (take 124 bytes) k ≡ Less) (λ k. key_cmp last k ≡ Less) (λ k h. nat_list_cmp_total.trans last (take 124 bytes) k spells.1 h) (map (λ (c : Cell). c.key) (cells_in level count (drop size bytes))) rest.above in
+    record {
+      each = (first.0, rest.each);
+      above = (below, all_above);
+      rising = rising_cons key_cmp (take 124 (take size bytes)) (map (λ (c : Cell). c.key) (cells_in level count (drop size bytes))) (subst (λ k. AllByRecursion (λ x. key_cmp k x ≡ Less) (map (λ (c : Cell). c.key) (cells_in level count (drop size bytes)))) (sym key_is) rest.above) rest.rising;
+      spelled = ap₂ (λ (xs ys : List ℕ). xs ++ ys) first.1 rest.spelled ∙ sym (take-add size (size * count) bytes) ∙ ap (λ n. take n bytes) (let sum : size + size * count ≡ size * suc count = omega arith in sum);
+    }
+
+key_of_bytes : (level : ℕ) (cell : Cell) → IsCell level cell → take 124 (cell_bytes cell) ≡ cell.key
+unfolding cell_bytes
+key_of_bytes level cell is = take_at cell.key (value_bytes cell.value) 124 is.key_length
+
+-- cells of a level whose keys rise are spelled by their bytes
+cells_are_spelled : (level : ℕ) (last : List ℕ) (cells : List Cell) (rest : List ℕ) → AllByRecursion (IsCell level) cells → AllByRecursion (λ k. key_cmp last k ≡ Less) (map (λ c. c.key) cells) → IsStrictlySortedBy key_cmp (map (λ c. c.key) cells)
+    → SpellsRising level last (length cells) (flat_map cell_bytes cells ++ rest)
+unfolding SpellsRising
+cells_are_spelled level last [] rest each above rising = tt
+cells_are_spelled level last (cell ∷ cells) rest each above rising =
+    let size = cell_size level in
+    let long = length-cell_bytes level cell each.0 in
+    let behind = flat_map cell_bytes cells ++ rest in
+    let regrouped : flat_map cell_bytes (cell ∷ cells) ++ rest ≡ cell_bytes cell ++ behind = append_assoc (cell_bytes cell) (flat_map cell_bytes cells) rest in
+    let first_is : take size (cell_bytes cell ++ behind) ≡ cell_bytes cell = take_at (cell_bytes cell) behind size long in
+    let rest_is : drop size (cell_bytes cell ++ behind) ≡ behind = drop_at (cell_bytes cell) behind size long in
+    let key_is : take 124 (cell_bytes cell ++ behind) ≡ cell.key = sym (take-take 124 size (cell_bytes cell ++ behind) (key_within level)) ∙ ap (take 124) first_is ∙ key_of_bytes level cell each.0 in
+    let P : List ℕ → Type 0 = λ bytes. SpellsCell level (take size bytes) × (key_cmp last (take 124 bytes) ≡ Less) × SpellsRising level (take 124 bytes) (length cells) (drop size bytes) in
+    subst P (sym regrouped)
+    (subst (SpellsCell level) (sym first_is) (SpellsCell-cell_bytes level cell each.0),
+     subst (λ k. key_cmp last k ≡ Less) (sym key_is) above.0,
+     subst (λ k. SpellsRising level k (length cells) (drop size (cell_bytes cell ++ behind))) (sym key_is)
+       (subst (SpellsRising level cell.key (length cells)) (sym rest_is) (cells_are_spelled level cell.key cells rest each.1 (rising_head key_cmp cell.key (map (λ (c : Cell). c.key) cells) rising) (rising_tail key_cmp cell.key (map (λ (c : Cell). c.key) cells) rising))))
+
+-- ---- pages
+
+zeros-suc : (n m : ℕ) → n ≡ suc m → zeros n ≡ 0 ∷ zeros m
+zeros-suc n m e = ap zeros e
+
+zero_filled-cons : (n x : ℕ) (xs : List ℕ) → zero_filled (suc n) (x ∷ xs) ≡ x ∷ zero_filled n xs
+unfolding zero_filled
+zero_filled-cons n x xs = let same : suc n - suc (length xs) ≡ n - length xs = omega arith in ap (λ m. x ∷ (xs ++ zeros m)) same
+
+-- a page's bytes: 1 and the label, the number of cells, the cells and zeros
+pub page_parts : (page : Page) → IsLabel page.label → page_bytes page ≡ (1 ∷ label_bytes page.label) ++ (length page.cells ∷ zero_filled 3964 (flat_map cell_bytes page.cells))
+unfolding page_bytes
+page_parts page is =
+    let front = 1 ∷ label_bytes page.label in
+    let left : 4096 - length front ≡ suc 3964 = omega (arith, length-label_bytes page.label is) in
+    zero_filled-append 4096 front (length page.cells ∷ flat_map cell_bytes page.cells)
+    ∙ ap (λ (xs : List ℕ). front ++ xs) (ap (λ n. zero_filled n (length page.cells ∷ flat_map cell_bytes page.cells)) left ∙ zero_filled-cons 3964 (length page.cells) (flat_map cell_bytes page.cells))
+
+-- a slot in its parts: byte 0, the label, the count, and the area of the cells
+pub record HasParts (label : Label) (count : ℕ) (area slot : List ℕ) : Type 0 where
+  pub whole : slot ≡ (1 ∷ label_bytes label) ++ (count ∷ area)
+  pub valid : IsLabel label
+
+pub count_of_parts : (label : Label) (count : ℕ) (area slot : List ℕ) → HasParts label count area slot → slice_index slot 131 ≡ count
+count_of_parts label count area slot h = ap (λ (xs : List ℕ). slice_index xs 131) h.whole ∙ get_or_at (1 ∷ label_bytes label) count area 0 131 (ap suc (length-label_bytes label h.valid))
+
+pub area_of_parts : (label : Label) (count : ℕ) (area slot : List ℕ) → HasParts label count area slot → drop 132 slot ≡ area
+area_of_parts label count area slot h =
+    ap (drop 132) (h.whole ∙ sym (append_assoc (1 ∷ label_bytes label) (count ∷ []) area))
+    ∙ drop_at ((1 ∷ label_bytes label) ++ count ∷ []) area 132 (omega (arith, length-append (1 ∷ label_bytes label) (count ∷ []), length-label_bytes label h.valid))
+
+pub label_of_parts : (label : Label) (count : ℕ) (area slot : List ℕ) → HasParts label count area slot → take 130 (drop 1 slot) ≡ label_bytes label
+label_of_parts label count area slot h = ap (λ (xs : List ℕ). take 130 (drop 1 xs)) h.whole ∙ take_at (label_bytes label) (count ∷ area) 130 (length-label_bytes label h.valid)
+
+pub first_of_parts : (label : Label) (count : ℕ) (area slot : List ℕ) → HasParts label count area slot → slice_index slot 0 ≡ 1
+first_of_parts label count area slot h = ap (λ (xs : List ℕ). slice_index xs 0) h.whole
+
+-- a slot of 4,096 bytes has these parts where byte 0 is 1 and the label's bytes stand behind it
+pub parts_of_slot : (label : Label) (slot : List ℕ) → length slot ≡ 4096 → slice_index slot 0 ≡ 1 → IsLabel label → label_bytes label ≡ take 130 (drop 1 slot) → HasParts label (slice_index slot 131) (drop 132 slot) slot
+parts_of_slot label slot long first valid label_is =
+    let zero_is : slot ≡ slice_index slot 0 ∷ drop 1 slot = drop_more slot 0 0 (omega arith) in
+    let count_is : drop 131 slot ≡ slice_index slot 131 ∷ drop 132 slot = drop_more slot 131 0 (omega arith) in
+    let behind : drop 130 (drop 1 slot) ≡ slice_index slot 131 ∷ drop 132 slot = drop-drop 130 1 slot ∙ count_is in
+    record {
+      whole = zero_is ∙ ap (λ n. n ∷ drop 1 slot) first ∙ ap (λ (xs : List ℕ). 1 ∷ xs) (sym (take-append-drop 130 (drop 1 slot)) ∙ ap₂ (λ (xs ys : List ℕ). xs ++ ys) (sym label_is) behind);
+      valid = valid;
+    }
+
+-- the page of a label and cells
+abbrev page_with : Label → List Cell → Page
+page_with label cells = record { label = label; cells = cells }
+
+-- as many cells as a page may have fit behind its count
+pub cells_fit : (level count : ℕ) → count ≤ page_room level → cell_size level * count ≤ 3964
+cells_fit zero count h = omega arith
+cells_fit (suc level) count h = either (suc level == 0) h
+  where
+    either : (b : Bool) → count ≤ cond b 10 31 → 124 * count ≤ 3964
+    either true h = omega arith
+    either false h = omega arith
+
+-- the empty string is below each key
+keys_above_nothing : (level : ℕ) (cells : List Cell) → AllByRecursion (IsCell level) cells → AllByRecursion (λ k. key_cmp [] k ≡ Less) (map (λ c. c.key) cells)
+keys_above_nothing level [] each = tt
+keys_above_nothing level (cell ∷ cells) each = (above cell.key (each.0).key_length, keys_above_nothing level cells each.1)
+  where
+    above : (k : List ℕ) → length k ≡ 124 → key_cmp [] k ≡ Less
+    above [] long = absurd (omega arith)
+    above (b ∷ k) long = refl
+
+-- a front with zeros behind it is zero-filled
+filled_is : (n : ℕ) (area front : List ℕ) → n ≤ length area → front ≡ take n area → drop n area ≡ zeros (length (drop n area)) → zero_filled (length area) front ≡ area
+unfolding zero_filled
+filled_is n area front fits front_is blank =
+    let long : length area - length front ≡ length (drop n area) = omega (arith, length-drop n area, ap length front_is, length-take-le n area fits) in
+    ap₂ (λ (xs ys : List ℕ). xs ++ ys) front_is (ap zeros long ∙ sym blank) ∙ take-append-drop n area
+
+-- what holds of the cells of a page and their bytes
+pub parts_of_page : (page : Page) (slot : List ℕ) → IsLabel page.label → page_bytes page ≡ slot → HasParts page.label (length page.cells) (zero_filled 3964 (flat_map cell_bytes page.cells)) slot
+parts_of_page page slot valid spells = record { whole = sym spells ∙ page_parts page valid; valid = valid }
+
+-- a slot that spells a page is read as that page
+pub page_in-page_bytes : (page : Page) (slot : List ℕ) → IsLabel page.label → AllByRecursion (IsCell page.label.level) page.cells → page_bytes page ≡ slot → page_in page.label slot ≡ page
+unfolding zero_filled
+page_in-page_bytes page slot valid each spells =
+    let parts = parts_of_page page slot valid spells in
+    let cells = ap₂ (cells_in page.label.level) (count_of_parts _ _ _ slot parts) (area_of_parts _ _ _ slot parts) ∙ cells_in-cell_bytes page.label.level page.cells (zeros (3964 - length (flat_map cell_bytes page.cells))) each in
+    λ i. page_with page.label (cells i)
+
+-- so it is a slot of the page's label
+pub IsSlotOf-page_bytes : (page : Page) (slot : List ℕ) → IsPage page → page_bytes page ≡ slot → IsSlotOf page.label slot
+IsSlotOf-page_bytes page slot is spells =
+    let same = page_in-page_bytes page slot is.label is.cells spells in
+    record { page = subst IsPage (sym same) is; bytes = ap page_bytes same ∙ spells }
+
+-- what is decoded is a page, and its bytes are the slot's
+pub page_read : (label : Label) (slot : List ℕ) → length slot ≡ 4096 → IsBytes slot → slice_index slot 0 ≡ 1 → IsLabel label → label_bytes label ≡ take 130 (drop 1 slot)
+    → SpellsCells label.level (slice_index slot 131) (drop 132 slot) → IsSlotOf label slot
+page_read label slot long fits first valid label_is spells =
+    let level = label.level in
+    let count = slice_index slot 131 in
+    let area = drop 132 slot in
+    let area_long : length area ≡ 3964 = omega (arith, length-drop 132 slot) in
+    let cells = cells_in level count area in
+    let counted = length-cells_in level count area in
+    let room : cell_size level * count ≤ length area = subst (λ n. cell_size level * count ≤ n) (sym area_long) (cells_fit level count spells.room) in
+    let read = cells_are_read level count [] area room (IsBytes-drop 132 slot fits) spells.rising in
+    let page : IsPage (page_with label cells) = record {
+      label = valid;
+      some_cell = subst (λ n. 1 ≤ n) (sym counted) spells.some;
+      room = subst (λ n. n ≤ page_room level) (sym counted) spells.room;
+      cells = read.each;
+      rising = read.rising;
+    } in
+    let filled : zero_filled 3964 (flat_map cell_bytes cells) ≡ area = ap (λ n. zero_filled n (flat_map cell_bytes cells)) (sym area_long) ∙ filled_is (cell_size level * count) area (flat_map cell_bytes cells) room read.spelled spells.rest in
+    record {
+      page = page;
+      bytes = page_parts (page_with label cells) valid ∙ ap₂ (λ n (xs : List ℕ). (1 ∷ label_bytes label) ++ (n ∷ xs)) counted filled ∙ sym (parts_of_slot label slot long first valid label_is).whole;
+    }
+
+-- a slot that spells a page spells its cells
+pub cells_spelled : (page : Page) (slot : List ℕ) → IsPage page → page_bytes page ≡ slot → SpellsCells page.label.level (slice_index slot 131) (drop 132 slot)
+unfolding zero_filled
+cells_spelled page slot is spells =
+    let level = page.label.level in
+    let flat = flat_map cell_bytes page.cells in
+    let fill = 3964 - length flat in
+    let parts = parts_of_page page slot is.label spells in
+    let long : length flat ≡ cell_size level * length page.cells = length-cells_bytes level page.cells is.cells in
+    let behind : drop (cell_size level * length page.cells) (flat ++ zeros fill) ≡ zeros fill = drop_at flat (zeros fill) (cell_size level * length page.cells) long in
+    let whole : SpellsCells level (length page.cells) (flat ++ zeros fill) = record {
+      some = is.some_cell;
+      room = is.room;
+      rising = cells_are_spelled level [] page.cells (zeros fill) is.cells (keys_above_nothing level page.cells is.cells) is.rising;
+      rest = behind ∙ ap zeros (sym (length-zeros fill) ∙ ap length (sym behind));
+    } in
+    let counted : SpellsCells level (slice_index slot 131) (flat ++ zeros fill) = subst (λ n. SpellsCells level n (flat ++ zeros fill)) (sym (count_of_parts _ _ _ slot parts)) whole in
+    subst (SpellsCells level (slice_index slot 131)) (sym (area_of_parts _ _ _ slot parts)) counted
+
+-- a page has one spelling, and a spelling is one page's
+pub page_bytes-same : (a b : Page) → IsPage a → IsPage b → page_bytes a ≡ page_bytes b → a ≡ b
+page_bytes-same a b a_is b_is same =
+    let a_parts = parts_of_page a (page_bytes b) a_is.label same in
+    let b_parts = parts_of_page b (page_bytes b) b_is.label refl in
+    let label : a.label ≡ b.label = label_bytes-same a.label b.label a_is.label b_is.label (sym (label_of_parts _ _ _ _ a_parts) ∙ label_of_parts _ _ _ _ b_parts) in
+    sym (page_in-page_bytes a (page_bytes b) a_is.label a_is.cells same) ∙ ap (λ (l : Label). page_in l (page_bytes b)) label ∙ page_in-page_bytes b (page_bytes b) b_is.label b_is.cells refl
+
+-- what a slot that spells a page shows: byte 0, the label's bytes, its cells
+pub record Shows (page : Page) (slot : List ℕ) : Type 0 where
+  pub first : slice_index slot 0 ≡ 1
+  pub label_bytes_are : label_bytes page.label ≡ take 130 (drop 1 slot)
+  pub cells : SpellsCells page.label.level (slice_index slot 131) (drop 132 slot)
+  pub read : page_in page.label slot ≡ page
+
+pub shown : (page : Page) (slot : List ℕ) → IsPage page → page_bytes page ≡ slot → Shows page slot
+shown page slot is spells =
+    let parts = parts_of_page page slot is.label spells in
+    record {
+      first = first_of_parts _ _ _ slot parts;
+      label_bytes_are = sym (label_of_parts _ _ _ slot parts);
+      cells = cells_spelled page slot is spells;
+      read = page_in-page_bytes page slot is.label is.cells spells;
+    }
+
+-- ---- one cell of a page
+
+-- cell i of some that are spelled
+pub nth_cell : (level count i : ℕ) (last bytes : List ℕ) → SpellsRising level last count bytes → i < count
+    → SpellsCell level (take (cell_size level) (drop (cell_size level * i) bytes)) × (slice_get (cells_in level count bytes) i ≡ Some (cell_in level (take (cell_size level) (drop (cell_size level * i) bytes))))
+unfolding SpellsRising cells_in
+nth_cell level zero i last bytes spells below = absurd (omega arith)
+nth_cell level (suc count) zero last bytes spells below =
+    let start : cell_size level * 0 ≡ 0 = omega arith in
+    let here : take (cell_size level) bytes ≡ take (cell_size level) (drop (cell_size level * 0) bytes) = ap (λ n. take (cell_size level) (drop n bytes)) (sym start) in
+    (subst (SpellsCell level) here spells.0, ap (λ (b : List ℕ). Some (cell_in level b)) here)
+nth_cell level (suc count) (suc i) last bytes spells below =
+    let size = cell_size level in
+    let rest = nth_cell level count i (take 124 bytes) (drop size bytes) spells.2 (omega arith) in
+    let there : take size (drop (size * i) (drop size bytes)) ≡ take size (drop (size * suc i) bytes) = ap (take size) (drop-drop (size * i) size bytes ∙ ap (λ n. drop n bytes) (let sum : size + size * i ≡ size * suc i = omega arith in sum)) in
+    (subst (SpellsCell level) there rest.0, rest.1 ∙ ap (λ (b : List ℕ). Some (cell_in level b)) there)
+
+-- where cell i lies
+pub cell_within : (level count i : ℕ) (area : List ℕ) → count ≤ page_room level → i < count → length area ≡ 3964 → cell_size level * i + cell_size level ≤ length area
+cell_within level count i area room below long =
+    let more : cell_size level * suc i ≤ cell_size level * count = mul-le-mul_left (cell_size level) below in
+    omega (arith, more, mul-suc (cell_size level) i, cells_fit level count room)
+
+-- a page's slot spells its cells
+pub spelled_in_slot : (label : Label) (slot : List ℕ) → IsSlotOf label slot → SpellsCells label.level (slice_index slot 131) (drop 132 slot)
+spelled_in_slot label slot is = cells_spelled (page_in label slot) slot is.page is.bytes
