@@ -1,10 +1,9 @@
 -- The bytes of labels.
 use Rattle.std.proofs.Common.{◌≡◌, ℕ, ◌<◌, ◌≤◌, List, [], ◌∷◌, ◌++◌, length, take, drop, slice_index, refl, ap, sym, ◌∙◌, Bool, true, false, nat_eq, ◌&&◌, arith, rules, length-append}
 use Rattle.store_base.proofs.Orders.{append-same, IsBytes-cons, IsBytes-append, IsBytes-zeros, IsBytes-take, IsBytes-drop, IsBytes-to_be_bytes, to_be_bytes-same, ordering_then-then, slice_cmp-append, slice_cmp-to_be_bytes, pointwise-append, pointwise-to_be_bytes}
-use Rattle.std.proofs.lemmas.List.{take_at, drop_at, drop_all, take_all, length-take, length-drop, take-append-drop}
+use Rattle.std.proofs.lemmas.List.{take_at, take_all, length-take, length-drop, take-append-drop}
 use Rattle.std.proofs.lemmas.Nat.{be_bytes_4}
 use Rattle.std.proofs.Math.Bool.{and_comm}
-use borrow.Rule.Slice.PartMut.{put_mid}
 use Rattle.store_base.specs.declared.key.Key.{Key}
 use Rattle.store_base.specs.declared.label.Lead.{Lead as DeclaredLead}
 use Rattle.store_base.specs.declared.label.Lead.TheVariants as declared
@@ -15,10 +14,6 @@ use Rattle.std.specs.Int.{w32, to_be_bytes, from_be_bytes}
 use Rattle.std.specs.Ordering.{nat_cmp, ordering_then}
 use Rattle.std.specs.Cmp.Lexicographic.{slice_cmp, pointwise, bytes_decides}
 use Rattle.store_base.specs.Leads.{lead_of}
-
--- a write over the last four elements
-pub put_mid-last : (front rest index : List ℕ) (n : ℕ) → length front ≡ n → length rest ≡ 4 → put_mid n 4 (front ++ rest) index ≡ front ++ index
-put_mid-last front rest index n front_is rest_is = rw (take_at front rest n front_is, drop_at front rest n front_is, drop_all 4 rest (omega arith)) (search rules)
 
 -- a lead that is no key is the start
 pub lead_of-no_key : (lead : DeclaredLead) → ((key : Key) → lead ≡ declared.Key key → ⊥) → lead_of lead ≡ Start
@@ -93,14 +88,15 @@ parts_of (x ∷ xs) long =
 
 -- 130 bytes with a lead's bytes behind the first spell the label of their parts
 pub label_bytes-parts : (bytes index_bytes : List ℕ) (lead : Lead) (index : ℕ) → length bytes ≡ 130 → IsBytes bytes → IsLead lead → lead_bytes lead ≡ take 125 (drop 1 bytes)
-  → index_bytes ≡ take 4 (drop 126 bytes) → index ≡ from_be_bytes w32 index_bytes → index < 4294967296
-  → IsLabel (record { level = slice_index bytes 0; lead = lead; index = index }) × (label_bytes (record { level = slice_index bytes 0; lead = lead; index = index }) ≡ bytes)
+    → index_bytes ≡ take 4 (drop 126 bytes) → index ≡ from_be_bytes w32 index_bytes → index < 4294967296
+    → IsLabel (record { level = slice_index bytes 0; lead = lead; index = index }) × (label_bytes (record { level = slice_index bytes 0; lead = lead; index = index }) ≡ bytes)
 unfolding label_bytes
 label_bytes-parts bytes index_bytes lead index long are_bytes is_lead lead_is index_bytes_is index_is fits =
     let four : length (take 4 (drop 126 bytes)) ≡ 4 = omega (arith, long, length-take 4 (drop 126 bytes), length-drop 126 bytes) in
-    let spelled = be_bytes_4 (take 4 (drop 126 bytes)) index four (IsBytes-take 4 (drop 126 bytes) (IsBytes-drop 126 bytes are_bytes)) (index_is ∙ ap (from_be_bytes w32) index_bytes_is) in
-    (record { level = are_bytes 0; lead = is_lead; index = fits },
-    ap (λ rest. slice_index bytes 0 ∷ (rest ++ to_be_bytes w32 index)) lead_is ∙ ap (λ rest. slice_index bytes 0 ∷ (take 125 (drop 1 bytes) ++ rest)) spelled ∙ sym (parts_of bytes long))
+    let spelled = be_bytes_4 (take 4 (drop 126 bytes)) index four (IsBytes-take 4 (drop 126 bytes) (IsBytes-drop 126 bytes are_bytes)) (index_is ∙ ap (from_be_bytes w32) index_bytes_is) in (
+      record { level = are_bytes 0; lead = is_lead; index = fits },
+      ap (λ rest. slice_index bytes 0 ∷ (rest ++ to_be_bytes w32 index)) lead_is ∙ ap (λ rest. slice_index bytes 0 ∷ (take 125 (drop 1 bytes) ++ rest)) spelled ∙ sym (parts_of bytes long),
+    )
 
 -- where the lead lies in the bytes of a label
 pub lead_bytes-spelled : (l : Label) (bytes : List ℕ) → IsLabel l → label_bytes l ≡ bytes → lead_bytes l.lead ≡ take 125 (drop 1 bytes)

@@ -9,13 +9,15 @@ use Rattle.std.specs.Cmp.Lexicographic.{slice_cmp, pointwise, unequal, bytes_dec
 use Rattle.std.proofs.lemmas.List.{take_at, drop_at, drop_all, length-take, get_or-take, get_or-drop, get_or_past}
 use Rattle.std.proofs.lemmas.Nat.{from_be_bytes-to_be_bytes_4}
 use Rattle.std.proofs.lemmas.Bool.{cases_lt, cases_order, eq-eqb, eqb-true}
+use borrow.Rule.Slice.PartMut.{put_mid}
 use Rattle.store_model.specs.Lists.{IsBytes, zeros}
 
 -- equal strings whose fronts are as long have equal fronts and equal ends
 pub append-same : (xs ys us vs : List ℕ) → length xs ≡ length ys → xs ++ us ≡ ys ++ vs → (xs ≡ ys) × (us ≡ vs)
-append-same xs ys us vs long same =
-    (sym (take_at xs us (length xs) refl) ∙ ap (take (length xs)) same ∙ take_at ys vs (length xs) (sym long),
-    sym (drop_at xs us (length xs) refl) ∙ ap (drop (length xs)) same ∙ drop_at ys vs (length xs) (sym long))
+append-same xs ys us vs long same = (
+  sym (take_at xs us (length xs) refl) ∙ ap (take (length xs)) same ∙ take_at ys vs (length xs) (sym long),
+  sym (drop_at xs us (length xs) refl) ∙ ap (drop (length xs)) same ∙ drop_at ys vs (length xs) (sym long),
+)
 
 -- a byte in front of bytes
 pub IsBytes-cons : (x : ℕ) (xs : List ℕ) → x < 256 → IsBytes xs → IsBytes (x ∷ xs)
@@ -52,6 +54,10 @@ IsBytes-to_be_bytes n =
     IsBytes-cons (n / 16777216 % 256) (n / 65536 % 256 ∷ n / 256 % 256 ∷ n % 256 ∷ []) (omega arith)
     (IsBytes-cons (n / 65536 % 256) (n / 256 % 256 ∷ n % 256 ∷ []) (omega arith)
     (IsBytes-cons (n / 256 % 256) (n % 256 ∷ []) (omega arith) (IsBytes-cons (n % 256) [] (omega arith) (IsBytes-zeros 0))))
+
+-- a write over the last elements
+pub put_mid-last : (front rest last : List ℕ) (n k : ℕ) → length front ≡ n → length rest ≤ k → put_mid n k (front ++ rest) last ≡ front ++ last
+put_mid-last front rest last n k front_is rest_is = rw (take_at front rest n front_is, drop_at front rest n front_is, drop_all k rest rest_is) (search rules)
 
 -- what a slice of n elements holds past the first n
 pub drop-take : (n : ℕ) (xs : List ℕ) → drop n (take n xs) ≡ []
@@ -108,10 +114,10 @@ slice_cmp-to_be_bytes m n m_fits n_fits =
     let m_first : m / 16777216 % 256 ≡ m / 16777216 = omega arith in
     let n_first : n / 16777216 % 256 ≡ n / 16777216 = omega arith in
     four_in_turn (nat_cmp (m / 16777216 % 256) (n / 16777216 % 256)) (nat_cmp (m / 65536 % 256) (n / 65536 % 256)) (nat_cmp (m / 256 % 256) (n / 256 % 256)) (nat_cmp (m % 256) (n % 256))
-        (nat_cmp (m / 65536) (n / 65536)) (nat_cmp (m / 256) (n / 256)) (nat_cmp m n)
-        (nat_cmp-digits (m / 65536) (n / 65536) (m / 16777216 % 256) (m / 65536 % 256) (n / 16777216 % 256) (n / 65536 % 256) (omega arith) (omega arith) (omega arith) (omega arith))
-        (nat_cmp-digits (m / 256) (n / 256) (m / 65536) (m / 256 % 256) (n / 65536) (n / 256 % 256) (omega arith) (omega arith) (omega arith) (omega arith))
-        (nat_cmp-digits m n (m / 256) (m % 256) (n / 256) (n % 256) (omega arith) (omega arith) (omega arith) (omega arith))
+    (nat_cmp (m / 65536) (n / 65536)) (nat_cmp (m / 256) (n / 256)) (nat_cmp m n)
+    (nat_cmp-digits (m / 65536) (n / 65536) (m / 16777216 % 256) (m / 65536 % 256) (n / 16777216 % 256) (n / 65536 % 256) (omega arith) (omega arith) (omega arith) (omega arith))
+    (nat_cmp-digits (m / 256) (n / 256) (m / 65536) (m / 256 % 256) (n / 65536) (n / 256 % 256) (omega arith) (omega arith) (omega arith) (omega arith))
+    (nat_cmp-digits m n (m / 256) (m % 256) (n / 256) (n % 256) (omega arith) (omega arith) (omega arith) (omega arith))
 
 -- strings whose ends are as long are equal exactly where their fronts and their ends are
 pub pointwise-append : (xs ys us vs : List ℕ) → length us ≡ length vs → pointwise nat_eq (xs ++ us) (ys ++ vs) ≡ (pointwise nat_eq xs ys && pointwise nat_eq us vs)

@@ -38,7 +38,6 @@ pub struct Label {
 
 impl Model for Label {
     ghost use Rattle.store_model.specs.Labels as model;
-
     ghost use Rattle.store_model.specs.Labels.{IsLabel};
 
     ghost Value = { model.Label };
