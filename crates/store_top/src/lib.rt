@@ -4,6 +4,7 @@
 //! name and `list /`. All other words are a fault of usage, and all other lines are answered `no syntax`.
 #![tactic(auto)]
 
+mod format;
 mod status;
 mod words;
 
