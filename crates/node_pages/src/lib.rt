@@ -5,12 +5,13 @@
 #![tactic(auto)]
 
 mod cell;
+mod group;
 mod page;
+mod sequence;
 mod spelling;
 
-
-
 pub use cell::Cell;
+pub use group::cut_group;
 pub use page::{Page, decode_page, encode_page};
-
+pub use sequence::{Cells, PageList, PairList, Sequence};
 

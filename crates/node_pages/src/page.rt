@@ -6,7 +6,8 @@ ghost use Rattle.store_model.specs.Lists.{zeros};
 ghost use Rattle.store_model.specs.Paths.{key_cmp};
 ghost use Rattle.store_model.specs.Pages as model;
 ghost use Rattle.store_model.specs.Pages.{IsCell, IsPage, page_room};
-ghost use Rattle.store_model.specs.Images.{page_bytes};
+ghost use Rattle.store_model.specs.Images.{cell_bytes, page_bytes};
+ghost use Rattle.store_model.specs.Labels.{IsLabel};
 ghost use Rattle.store_base.specs.Keys.{IsKey};
 ghost use Rattle.node_pages.specs.Cells as cells;
 
@@ -83,6 +84,29 @@ fn cell_of(label: &Label, slot: &Slot, i: u32) -> Cell
     spelling::read_cell(label.level, bytes_of_cell(label, slot, i))
 }
 
+/// Begins the slot of a page of the label, with no cell yet.
+fn begin(label: &Label, slot: &mut Slot)
+    requires { slot.old ≡ zeros 4096 }
+    ensures value { slot.new ≡ page_bytes (record { label = label.now; cells = [] }) }
+    ensures valid { IsLabel label.now }
+{
+    slot[0] = 1;
+    slot[1..COUNT_AT].copy_from_slice(&label.to_bytes());
+}
+
+/// Adds a cell to the slot of a page of the label.
+fn append(label: &Label, slot: &mut Slot, cell: &Cell)
+    requires cell { IsCell label.now.level cell.now }
+    requires room { slice_index slot.old COUNT_AT < page_room label.now.level }
+    requires blank { drop (cells.cell_size label.now.level * slice_index slot.old COUNT_AT) (drop CELLS_AT slot.old)
+        ≡ zeros (3964 - cells.cell_size label.now.level * slice_index slot.old COUNT_AT) }
+    ensures { slot.new ≡ cells.appended label.now.level slot.old (cell_bytes cell.now) }
+{
+    let at = CELLS_AT + spelling::cell_len(label.level) * usize::from(slot[COUNT_AT]);
+    slot[COUNT_AT] += 1;
+    spelling::write_cell(&mut slot[at..], cell);
+}
+
 /// The page that a slot holds; `None` exactly where its bytes are no page's: byte 0 is not 1, the label's
 /// bytes are no label's, there is no cell or more than the level has room for, the length of a value is not
 /// 1 to 256 or other bytes than zeros fill it up, the keys do not strictly rise, or other bytes than zeros
@@ -112,6 +136,49 @@ pub fn encode_page(page: &Page, slot: &mut Slot)
 }
 
 impl Page {
+    /// The page of a label with one cell, which has to be one of the label's level.
+    pub fn new(label: Label, first: Cell) -> Self
+        requires { IsCell label.level first }
+        ensures value { result ≡ record { label = label; cells = first ∷ [] } }
+        ensures valid { IsPage result }
+    {
+        Page::with_first(label, &first)
+    }
+
+    /// Adds a cell behind the others: one of the page's level, with a key above theirs, where there is room.
+    pub fn push(&mut self, cell: Cell)
+        requires cell { IsCell self.old.label.level cell }
+        requires room { length self.old.cells < page_room self.old.label.level }
+        requires rising { IsStrictlySortedBy key_cmp (map (λ c. c.key) (self.old.cells ++ cell ∷ [])) }
+        ensures value { self.new ≡ record self.old { cells = self.old.cells ++ cell ∷ [] } }
+        ensures valid { IsPage self.new }
+    {
+        self.add(&cell);
+    }
+
+    /// As `new`, from a cell that stays where it is.
+    pub fn with_first(label: Label, first: &Cell) -> Self
+        requires { IsCell label.level first.now }
+        ensures value { result ≡ record { label = label; cells = first.now ∷ [] } }
+        ensures valid { IsPage result }
+    {
+        let mut slot = [0; 4096];
+        begin(&label, &mut slot);
+        append(&label, &mut slot, first);
+        Page { label, slot }
+    }
+
+    /// As `push`, from a cell that stays where it is.
+    pub fn add(&mut self, cell: &Cell)
+        requires cell { IsCell self.old.label.level cell.now }
+        requires room { length self.old.cells < page_room self.old.label.level }
+        requires rising { IsStrictlySortedBy key_cmp (map (λ c. c.key) (self.old.cells ++ cell.now ∷ [])) }
+        ensures value { self.new ≡ record self.old { cells = self.old.cells ++ cell.now ∷ [] } }
+        ensures valid { IsPage self.new }
+    {
+        append(&self.label, &mut self.slot, cell);
+    }
+
     /// Its label.
     pub fn label(&self) -> Label
         ensures value { result ≡ self.now.label }
