@@ -19,8 +19,9 @@ fn page_of(label: Label, run: &[Cell]) -> Page
     requires { IsPage (record { label = label; cells = run.now }) }
     ensures { result ≡ record { label = label; cells = run.now } }
 {
-    let mut page = Page::with_first(label, &run[0]);
-    for cell in &run[1..] {
+    let (first, others) = run.split_at(1);
+    let mut page = Page::with_first(label, &first[0]);
+    for cell in others {
         page.add(cell);
     }
     page
@@ -44,7 +45,7 @@ pub fn cut_group(
     let mut index = 0;
     let mut rest = cells.as_slice();
     while !rest.is_empty() {
-        let (run, behind) = rest.split_at(rest.len().min(room));
+        let (run, behind) = rest.split_at(room.min(rest.len()));
         let label = Label {
             level,
             lead: *lead,
