@@ -3,6 +3,7 @@ pub mod ImagesLemmas
 pub mod ListsLemmas
 pub mod ListsLemmasCuts
 pub mod PagesLemmas
+pub mod PagesLemmasGroups
 pub mod PagesLemmasKeys
 pub mod PagesLemmasOrder
 pub mod PagesLemmasSizes

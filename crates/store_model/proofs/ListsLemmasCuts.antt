@@ -115,3 +115,50 @@ rising_runs c n xs h g = rising_parts c (runs n xs) (subst (IsStrictlySortedBy c
 pub all_enumerate_from : {A : Type 0} (P : A → Type 0) (n : ℕ) (xs : List A) → AllByRecursion P xs → AllByRecursion (λ e. P e.1) (enumerate_from n xs)
 all_enumerate_from P n [] h = tt
 all_enumerate_from P n (x ∷ xs) h = (h.0, all_enumerate_from P (n + 1) xs h.1)
+
+-- a part is not empty, and no element of it but the first is cut from what stands before it
+abbrev pub IsUncut : {A : Type 0} → (A → Bool) → List A → Type 0
+IsUncut cuts [] = ⊥
+IsUncut cuts (x ∷ xs) = AllByRecursion (λ y. cuts y ≡ false) xs
+
+-- a part begins where the list is cut
+abbrev pub BeginsAtCut : {A : Type 0} → (A → Bool) → List A → Type 0
+BeginsAtCut cuts [] = ⊥
+BeginsAtCut cuts (x ∷ xs) = cuts x ≡ true
+
+-- each part but the first
+abbrev pub AllButFirst : {A : Type 0} → (A → Type 0) → List A → Type 0
+AllButFirst P [] = Unit {0}
+AllButFirst P (x ∷ xs) = AllByRecursion P xs
+
+onto_part_is_uncut : {A : Type 0} (cuts : A → Bool) (x : A) (parts : List (List A)) → AllByRecursion (IsUncut cuts) parts → AllByRecursion (IsUncut cuts) (onto_part cuts x parts)
+unfolding onto_part
+onto_part_is_uncut cuts x [] h = (tt, tt)
+onto_part_is_uncut cuts x ([] ∷ parts) h = absurd h.0
+onto_part_is_uncut cuts x ((y ∷ part) ∷ parts) h = picked (cuts y) refl
+  where
+    picked : (b : Bool) → cuts y ≡ b → AllByRecursion (IsUncut cuts) (cond b ((x ∷ []) ∷ (y ∷ part) ∷ parts) ((x ∷ y ∷ part) ∷ parts))
+    picked true e = (tt, (h.0, h.1))
+    picked false e = ((e, h.0), h.1)
+
+-- the parts of a list are not empty, and are cut nowhere within
+pub cut_before_is_uncut : {A : Type 0} (cuts : A → Bool) (xs : List A) → AllByRecursion (IsUncut cuts) (cut_before cuts xs)
+unfolding cut_before
+cut_before_is_uncut cuts [] = tt
+cut_before_is_uncut cuts (x ∷ xs) = onto_part_is_uncut cuts x (cut_before cuts xs) (cut_before_is_uncut cuts xs)
+
+onto_part_begins : {A : Type 0} (cuts : A → Bool) (x : A) (parts : List (List A)) → AllByRecursion (IsUncut cuts) parts → AllButFirst (BeginsAtCut cuts) parts → AllButFirst (BeginsAtCut cuts) (onto_part cuts x parts)
+unfolding onto_part
+onto_part_begins cuts x [] u h = tt
+onto_part_begins cuts x ([] ∷ parts) u h = absurd u.0
+onto_part_begins cuts x ((y ∷ part) ∷ parts) u h = picked (cuts y) refl
+  where
+    picked : (b : Bool) → cuts y ≡ b → AllButFirst (BeginsAtCut cuts) (cond b ((x ∷ []) ∷ (y ∷ part) ∷ parts) ((x ∷ y ∷ part) ∷ parts))
+    picked true e = (e, h)
+    picked false e = h
+
+-- each part of a list but the first begins where the list is cut
+pub cut_before_begins : {A : Type 0} (cuts : A → Bool) (xs : List A) → AllButFirst (BeginsAtCut cuts) (cut_before cuts xs)
+unfolding cut_before
+cut_before_begins cuts [] = tt
+cut_before_begins cuts (x ∷ xs) = onto_part_begins cuts x (cut_before cuts xs) (cut_before_is_uncut cuts xs) (cut_before_begins cuts xs)

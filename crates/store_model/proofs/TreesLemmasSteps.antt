@@ -12,7 +12,8 @@ use Rattle.store_model.specs.Trees.Node.{Directory, File}
 use Rattle.store_model.specs.Pages.{page_count}
 use Rattle.store_model.specs.Commands.{Command, IsCommand}
 use Rattle.store_model.specs.Commands.Command.{Make, Write, Cut, Rename, Remove, Prune, ListChildren, Read, Space, Digest}
-use Rattle.store_model.specs.Steps.{Step, Condition, first_refusal, conditions, refusal_of, overwritten, next_tree, may_fill, step, step_by}
+use Rattle.store_model.specs.Steps.{Step, Condition, first_refusal, conditions, refusal_of, next_tree, may_fill, step, step_by}
+use Rattle.store_model.specs.Lists.{overwrite}
 use Rattle.store_model.specs.Grammar.{parse}
 use Rattle.store_model.specs.Scripts.{line_limit, answer, answer_by, tree_by, tree_after}
 use Rattle.store_model.proofs.ListsLemmas.{all_append, all_front, all_back, bytes_from_all, all_from_bytes}
@@ -49,8 +50,7 @@ file_cut : (len : ℕ) (old : List ℕ) → length old ≤ file_limit → IsByte
 file_cut len old l h = (simp length-take (omega arith), bytes_from_all _ (all_take _ len old (all_from_bytes old h)))
 
 -- a file written over is a node, where what is written stays below the limit
-file_overwritten : (old : List ℕ) (at : ℕ) (bytes : List ℕ) → length old ≤ file_limit → IsBytes old → at + length bytes ≤ file_limit → IsBytes bytes → IsNode (File (overwritten old at bytes))
-unfolding overwritten
+file_overwritten : (old : List ℕ) (at : ℕ) (bytes : List ℕ) → length old ≤ file_limit → IsBytes old → at + length bytes ≤ file_limit → IsBytes bytes → IsNode (File (overwrite old at bytes))
 file_overwritten old at bytes l h fits g = (
   simp (length-append, length-take, length-drop) (omega arith),
   bytes_from_all _ (all_append _ (take at old ++ bytes) (drop (at + length bytes) old) (all_append _ (take at old) bytes (all_take _ at old (all_from_bytes old h)) (all_from_bytes bytes g)) (all_drop _ (at + length bytes) old (all_from_bytes old h))),
@@ -78,7 +78,7 @@ unfolding conditions next_tree
 written t p at bytes h is fail =
     let other = (fail.1).0 in
     let old = contents_of_tree t p h in
-    IsTree-with_node t p (File (overwritten (contents t p) at bytes)) h is.0 (not_root_from_other t p other) (not-false _ fail.0)
+    IsTree-with_node t p (File (overwrite (contents t p) at bytes)) h is.0 (not_root_from_other t p other) (not-false _ fail.0)
     (file_overwritten (contents t p) at bytes old.0 old.1 (ltb-false file_limit (at + length bytes) (((fail.1).1).1).0) is.2)
     (no_directory_lost t p _ other)
 

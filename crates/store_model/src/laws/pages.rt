@@ -1,7 +1,7 @@
 //! Laws of lists of pairs and their pages.
 #![tactic(auto)]
 
-ghost use Rattle.std.specs.Prelude.{◌≡◌, ℕ, ◌≤◌, ◌^◌, List, map, length, ◌&&◌, IsTrue, nat_le, count_by, if◌then◌else◌};
+ghost use Rattle.std.specs.Prelude.{◌≡◌, ℕ, ◌≤◌, ◌^◌, List, map, length, ◌&&◌, IsTrue, nat_le, count_by, if◌then◌else◌, ◌-◌, drop};
 ghost use Rattle.std.specs.Ordering.{eq_by_cmp};
 ghost use Rattle.std.specs.List.{flat_map, list_any, AllByRecursion, IsDistinct};
 ghost use Rattle.std.specs.List.Sorted.{IsStrictlySortedBy};
@@ -12,8 +12,9 @@ ghost use Rattle.store_model.specs.Paths.{key_cmp};
 ghost use Rattle.store_model.specs.Trees.{Tree, IsTree};
 ghost use Rattle.store_model.specs.Pairs.{Pair, IsPairs};
 ghost use Rattle.store_model.specs.Labels.{label_cmp};
-ghost use Rattle.store_model.specs.Draws.{Draw};
-ghost use Rattle.store_model.specs.Pages.{cell_on, level_list, level_pages, pages_of_pairs, pages, Fits, IsPage};
+ghost use Rattle.store_model.specs.Draws.{Draw, IsLawful};
+ghost use Rattle.store_model.specs.Pages.{cell_on, level_list, level_pages, pages_of_pairs, pages, Fits, IsPage, Cell, groups, lead_of, IsGroup, IsLedGroup};
+ghost use Rattle.store_model.specs.Labels.Lead.{Start};
 ghost use Rattle.store_model.specs.Placement.{page_cmp};
 
 /// The pages of a level, one after another, hold the cells of that level's list, each once and in
@@ -51,4 +52,15 @@ pub fn pages_come_by_rank()
 pub fn pages_are_pages()
     ensures of_pairs { (d : Draw) (s : List Pair) → d.height ≤ 256 → IsPairs s → length s ≤ 2 ^ 32 → AllByRecursion IsPage (pages_of_pairs d s) }
     ensures of_tree { (t : Tree) (p : Parameters) → IsParameters p → IsTree t → Fits t p → AllByRecursion IsPage (pages t p) }
+{}
+
+/// The groups of a level, one after another, are its list. None is empty or holds, behind its first key, a key
+/// that stands on a higher level; each but the first is led by its first key. The highest level has one group
+/// at most, led by the start.
+pub fn groups_are_cut_at_higher_keys()
+    ensures list { (d : Draw) (s : List Pair) (level : ℕ) → flat_map (λ group. group) (groups d s level) ≡ level_list d s level }
+    ensures within { (d : Draw) (s : List Pair) (level : ℕ) → AllByRecursion (IsGroup d level) (groups d s level) }
+    ensures led { (d : Draw) (s : List Pair) (level : ℕ) → AllByRecursion (IsLedGroup d level) (drop 1 (groups d s level)) }
+    ensures highest { (d : Draw) (s : List Pair) → IsLawful d → length (groups d s (d.height - 1)) ≤ 1 }
+    ensures highest_lead { (d : Draw) (cells : List Cell) → IsLawful d → lead_of d (d.height - 1) cells ≡ Start }
 {}

@@ -1,0 +1,34 @@
+//! The types that every layer of the store shares: keys, labels, values, parameters and faults, the bytes
+//! that they have in an image, where its areas lie, and the slots that the table's calls work on. No call
+//! of this crate takes memory.
+#![tactic(auto)]
+
+mod areas;
+mod fault;
+mod header;
+mod key;
+mod label;
+mod params;
+mod slots;
+mod store_fault;
+mod value;
+
+pub use areas::{areas_fill_the_image, gate_at, image_len, mark_at, shadow_at, table_at};
+pub use fault::{DiskFault, NoMemory};
+pub use header::{read_header, write_header};
+pub use key::Key;
+pub use label::{Label, Lead};
+pub use params::{BadParams, Params};
+pub use slots::{ReadSlots, Slots};
+pub use store_fault::Fault;
+pub use store_model::{DrawKind, Refusal};
+pub use value::{Bytes, Value};
+
+/// The bytes of a slot of the table, and of each other block of an image.
+pub type Slot = [u8; 4096];
+
+/// What a call of the tree's layer answers where no fault came: a value, or why the command is refused.
+pub type Answer<T> = Result<T, Refusal>;
+
+#[cfg(test)]
+mod tests;

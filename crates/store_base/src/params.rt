@@ -1,0 +1,86 @@
+//! Parameters.
+
+use std::marker::Model;
+use store_model::DrawKind;
+use thiserror::Error;
+
+/// The parameters are out of their range: the slots are not 1 to 16,384, or the height is not 1 to 8.
+#[derive(Clone, Copy, Debug, PartialEq, Eq, Error)]
+#[error("the parameters are out of range")]
+pub struct BadParams;
+
+/// What an image is made with: 1 to 16,384 slots, a height of 1 to 8 levels, the kind of draw, and a seed
+/// of 32 bytes. A tree has one image under its parameters.
+#[derive(Clone, Copy, Debug)]
+pub struct Params {
+    slots: u32,
+    height: u8,
+    kind: DrawKind,
+    seed: [u8; 32],
+}
+
+impl Model for Params {
+    ghost use Rattle.store_model.specs.Parameters.{Parameters, IsParameters};
+
+    ghost Value = { Parameters };
+
+    ghost view = { λ p. record { slots = p.slots; height = p.height; kind = p.kind; seed = p.seed } };
+
+    ghost invariant = { λ p. IsParameters (record { slots = p.slots; height = p.height; kind = p.kind; seed = p.seed }) };
+
+    ghost inverse = { λ p. record { slots = p.slots; height = p.height; kind = p.kind; seed = p.seed } };
+}
+
+impl Params {
+    ghost use Rattle.std.specs.Prelude.{◌≡◌, IfOk, IsOk, ◌↔◌};
+    ghost use Rattle.store_model.specs.Parameters.{Parameters, IsParameters};
+
+    /// The parameters, or `BadParams` exactly where they are out of range.
+    pub fn new(slots: u32, height: u8, kind: DrawKind, seed: [u8; 32]) -> Result<Self, BadParams>
+        ensures exact { IsOk result ↔ IsParameters (record { slots = slots; height = height; kind = kind; seed = seed }) }
+        ensures value { IfOk result (λ p. p ≡ record { slots = slots; height = height; kind = kind; seed = seed }) }
+        ensures valid { IfOk result IsParameters }
+    {
+        if slots < 1 || slots > 16384 || height < 1 || height > 8 {
+            return Err(BadParams);
+        }
+        Ok(Params {
+            slots,
+            height,
+            kind,
+            seed,
+        })
+    }
+
+    /// The number of slots of the table, 1 to 16,384.
+    pub fn slots(&self) -> u32
+        ensures value { result ≡ self.now.slots }
+        ensures valid { IsParameters self.now }
+    {
+        self.slots
+    }
+
+    /// The number of levels of the lists, 1 to 8.
+    pub fn height(&self) -> u8
+        ensures value { result ≡ self.now.height }
+        ensures valid { IsParameters self.now }
+    {
+        self.height
+    }
+
+    /// How the starts of labels and the levels of keys are drawn.
+    pub fn kind(&self) -> DrawKind
+        ensures value { result ≡ self.now.kind }
+        ensures valid { IsParameters self.now }
+    {
+        self.kind
+    }
+
+    /// The seed of the draws.
+    pub fn seed(&self) -> [u8; 32]
+        ensures value { result ≡ self.now.seed }
+        ensures valid { IsParameters self.now }
+    {
+        self.seed
+    }
+}
