@@ -18,10 +18,12 @@ zero_filled-append n xs ys =
 pub zero_filled-zero_filled : (n m : ℕ) (xs : List ℕ) → length xs ≤ n → n ≤ m → zero_filled m (zero_filled n xs) ≡ zero_filled m xs
 unfolding zero_filled
 zero_filled-zero_filled n m xs fits more =
-    let long : m - length (xs ++ zeros (n - length xs)) ≡ m - n = omega (arith, length-append xs (zeros (n - length xs)), length-zeros (n - length xs)) in
-    let sum : n - length xs + (m - n) ≡ m - length xs = omega arith in
-    ap (λ k. (xs ++ zeros (n - length xs)) ++ zeros k) long ∙ append_assoc xs (zeros (n - length xs)) (zeros (m - n))
-    ∙ ap (λ (ys : List ℕ). xs ++ ys) (replicate-append-replicate (n - length xs) (m - n) 0 ∙ ap zeros sum)
+    let fill = n - length xs in
+    let long : m - length (xs ++ zeros fill) ≡ m - n = omega (arith, length-append xs (zeros fill), length-zeros fill) in
+    let sum : fill + (m - n) ≡ m - length xs = omega arith in
+    let joined : zeros fill ++ zeros (m - n) ≡ zeros (m - length xs) = replicate-append-replicate fill (m - n) 0 ∙ ap zeros sum in
+    let regrouped : (xs ++ zeros fill) ++ zeros (m - n) ≡ xs ++ zeros (m - length xs) = append_assoc xs (zeros fill) (zeros (m - n)) ∙ ap (λ (ys : List ℕ). xs ++ ys) joined in
+    ap (λ k. (xs ++ zeros fill) ++ zeros k) long ∙ regrouped
 
 pub length-zero_filled : (n : ℕ) (xs : List ℕ) → length xs ≤ n → length (zero_filled n xs) ≡ n
 unfolding zero_filled

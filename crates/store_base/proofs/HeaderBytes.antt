@@ -1,5 +1,5 @@
 -- The header's bytes: their length, and that they say all that the parameters are.
-use Rattle.std.proofs.Common.{◌≡◌, ℕ, ◌+◌, ◌-◌, ◌<◌, ◌≤◌, List, [], ◌∷◌, ◌++◌, length, take, drop, slice_index, refl, subst, ap, sym, ◌∙◌, arith, rules, length-append}
+use Rattle.std.proofs.Common.{◌≡◌, ℕ, ◌-◌, ◌<◌, List, [], ◌∷◌, ◌++◌, length, take, drop, slice_index, refl, subst, ap, sym, ◌∙◌, arith, length-append}
 use Rattle.std.specs.Prelude.{codes, Result, Ok, Err, Some, IfOk}
 use Rattle.std.specs.Result.{result_ok}
 use Rattle.std.specs.Int.{w32, to_be_bytes, from_be_bytes}
@@ -10,7 +10,7 @@ use Rattle.store_model.specs.declared.draw_kind.DrawKind.TheVariants.{Ruler, Sha
 use Rattle.store_model.specs.Lists.{IsBytes, zeros, zero_filled}
 use Rattle.store_model.specs.Parameters.{Parameters, IsParameters}
 use Rattle.store_model.specs.Images.{kind_byte, header}
-use Rattle.store_base.proofs.Orders.{IsBytes-cons, IsBytes-append, IsBytes-zeros, IsBytes-to_be_bytes, to_be_bytes-same}
+use Rattle.store_base.proofs.Orders.{IsBytes-cons, IsBytes-append, IsBytes-zeros, IsBytes-to_be_bytes}
 
 -- the 48 bytes in front of the zeros
 abbrev pub header_front : Parameters → List ℕ
@@ -37,10 +37,10 @@ IsBytes-header_front : (p : Parameters) → IsParameters p → IsBytes (header_f
 IsBytes-header_front p valid =
     let rest : List ℕ = p.height ∷ kind_byte p.kind ∷ 1 ∷ 0 ∷ p.seed in
     let rest_bytes : IsBytes rest = IsBytes-cons p.height (kind_byte p.kind ∷ 1 ∷ 0 ∷ p.seed) (omega (arith, valid.height_in_range))
-      (IsBytes-cons (kind_byte p.kind) (1 ∷ 0 ∷ p.seed) (kind_byte-below p.kind) (IsBytes-cons 1 (0 ∷ p.seed) (omega arith) (IsBytes-cons 0 p.seed (omega arith) valid.seed_bytes))) in
+    (IsBytes-cons (kind_byte p.kind) (1 ∷ 0 ∷ p.seed) (kind_byte-below p.kind) (IsBytes-cons 1 (0 ∷ p.seed) (omega arith) (IsBytes-cons 0 p.seed (omega arith) valid.seed_bytes))) in
     let magic : IsBytes (codes "HSTORE01") = IsBytes-cons 72 (83 ∷ 84 ∷ 79 ∷ 82 ∷ 69 ∷ 48 ∷ 49 ∷ []) (omega arith) (IsBytes-cons 83 (84 ∷ 79 ∷ 82 ∷ 69 ∷ 48 ∷ 49 ∷ []) (omega arith)
-      (IsBytes-cons 84 (79 ∷ 82 ∷ 69 ∷ 48 ∷ 49 ∷ []) (omega arith) (IsBytes-cons 79 (82 ∷ 69 ∷ 48 ∷ 49 ∷ []) (omega arith) (IsBytes-cons 82 (69 ∷ 48 ∷ 49 ∷ []) (omega arith)
-      (IsBytes-cons 69 (48 ∷ 49 ∷ []) (omega arith) (IsBytes-cons 48 (49 ∷ []) (omega arith) (IsBytes-cons 49 [] (omega arith) (IsBytes-zeros 0)))))))) in
+    (IsBytes-cons 84 (79 ∷ 82 ∷ 69 ∷ 48 ∷ 49 ∷ []) (omega arith) (IsBytes-cons 79 (82 ∷ 69 ∷ 48 ∷ 49 ∷ []) (omega arith) (IsBytes-cons 82 (69 ∷ 48 ∷ 49 ∷ []) (omega arith)
+    (IsBytes-cons 69 (48 ∷ 49 ∷ []) (omega arith) (IsBytes-cons 48 (49 ∷ []) (omega arith) (IsBytes-cons 49 [] (omega arith) (IsBytes-zeros 0)))))))) in
     IsBytes-append (codes "HSTORE01") (to_be_bytes w32 p.slots ++ rest) magic (IsBytes-append (to_be_bytes w32 p.slots) rest (IsBytes-to_be_bytes p.slots) rest_bytes)
 
 -- which are bytes
@@ -73,13 +73,13 @@ kind_byte-same Sha256 Sha256 same = refl
 
 -- what is read from a header is what it was written for
 pub header-read : (p : Parameters) (block slots_bytes seed : List ℕ) (slots : ℕ) (kind : DrawKind) → IsParameters p → header p ≡ block
-  → slots_bytes ≡ take 4 (drop 8 block) → slots ≡ from_be_bytes w32 slots_bytes → Some kind ≡ Some p.kind → seed ≡ take 32 (drop 16 block)
-  → record { slots = slots; height = slice_index block 12; kind = kind; seed = seed } ≡ p
+    → slots_bytes ≡ take 4 (drop 8 block) → slots ≡ from_be_bytes w32 slots_bytes → Some kind ≡ Some p.kind → seed ≡ take 32 (drop 16 block)
+    → record { slots = slots; height = slice_index block 12; kind = kind; seed = seed } ≡ p
 header-read p block slots_bytes seed slots kind valid is_header slots_bytes_are slots_is some_kind seed_is =
     let kind_is : kind ≡ p.kind = cc in
     let slots_same : slots ≡ p.slots =
-        slots_is ∙ ap (from_be_bytes w32) slots_bytes_are ∙ ap (λ (b : List ℕ). from_be_bytes w32 (take 4 (drop 8 b))) (sym is_header)
-        ∙ ap (from_be_bytes w32) (header-slots p) ∙ from_be_bytes-to_be_bytes_4 p.slots (omega (arith, valid.slots_in_range)) in
+    slots_is ∙ ap (from_be_bytes w32) slots_bytes_are ∙ ap (λ (b : List ℕ). from_be_bytes w32 (take 4 (drop 8 b))) (sym is_header)
+    ∙ ap (from_be_bytes w32) (header-slots p) ∙ from_be_bytes-to_be_bytes_4 p.slots (omega (arith, valid.slots_in_range)) in
     let height_same = ap (λ (b : List ℕ). slice_index b 12) (sym is_header) ∙ header-height p in
     let seed_same = seed_is ∙ ap (λ (b : List ℕ). take 32 (drop 16 b)) (sym is_header) ∙ header-seed p valid in
     λ i. record { slots = slots_same i; height = height_same i; kind = kind_is i; seed = seed_same i }

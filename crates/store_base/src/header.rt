@@ -68,5 +68,9 @@ pub fn read_header(block: &Slot) -> Option<Params>
     // Every other byte of a header is as it is written.
     let mut written = [0; 4096];
     write_header(&params, &mut written);
-    if written == *block { Some(params) } else { None }
+    if written == *block {
+        Some(params)
+    } else {
+        None
+    }
 }

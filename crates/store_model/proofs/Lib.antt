@@ -1,7 +1,9 @@
+pub mod GrammarLemmas
 pub mod ImagesLemmas
 pub mod ListsLemmas
 pub mod ListsLemmasCuts
 pub mod PagesLemmas
+pub mod PagesLemmasGroups
 pub mod PagesLemmasKeys
 pub mod PagesLemmasOrder
 pub mod PagesLemmasSizes
@@ -12,3 +14,11 @@ pub mod PlacementLemmasDraws
 pub mod PlacementLemmasOrder
 pub mod PlacementLemmasTrees
 pub mod ScriptsLemmas
+pub mod TreesLemmas
+pub mod TreesLemmasBytes
+pub mod TreesLemmasFewer
+pub mod TreesLemmasFits
+pub mod TreesLemmasLayouts
+pub mod TreesLemmasMoves
+pub mod TreesLemmasPaths
+pub mod TreesLemmasSteps

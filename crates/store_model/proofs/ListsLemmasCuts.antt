@@ -12,14 +12,17 @@ pub flat_map-flat_map : {X Y Z : Type 0} (f : Y → List Z) (g : X → List Y) (
 flat_map-flat_map f g [] = refl
 flat_map-flat_map f g (x ∷ xs) = flat_map-append f (g x) (flat_map g xs) ∙ ap (λ zs. flat_map f (g x) ++ zs) (flat_map-flat_map f g xs)
 
+-- joining what a map gives
 pub flat_map-map : {X Y Z : Type 0} (f : Y → List Z) (g : X → Y) (xs : List X) → flat_map f (map g xs) ≡ flat_map (λ x. f (g x)) xs
 flat_map-map f g [] = refl
 flat_map-map f g (x ∷ xs) = ap (λ zs. f (g x) ++ zs) (flat_map-map f g xs)
 
+-- joining by functions that answer alike
 pub flat_map_same : {X Y : Type 0} (f g : X → List Y) (xs : List X) → ((x : X) → f x ≡ g x) → flat_map f xs ≡ flat_map g xs
 flat_map_same f g [] e = refl
 flat_map_same f g (x ∷ xs) e = ap₂ (λ us vs. us ++ vs) (e x) (flat_map_same f g xs e)
 
+-- numbers in front of the parts change nothing
 pub flat_map-enumerate_from : {X Y : Type 0} (f : X → List Y) (n : ℕ) (xs : List X) → flat_map (λ e. f e.1) (enumerate_from n xs) ≡ flat_map f xs
 flat_map-enumerate_from f n [] = refl
 flat_map-enumerate_from f n (x ∷ xs) = ap (λ zs. f x ++ zs) (flat_map-enumerate_from f (n + 1) xs)
@@ -57,6 +60,7 @@ flat_map-onto_part cuts x ((y ∷ part) ∷ parts) =
       | false ↦ refl
     ]
 
+-- a list that is cut before some elements
 pub flat_map-cut_before : {A : Type 0} (cuts : A → Bool) (xs : List A) → flat_map (λ part. part) (cut_before cuts xs) ≡ xs
 unfolding cut_before
 flat_map-cut_before cuts [] = refl
@@ -74,12 +78,14 @@ length_of_parts n (part ∷ parts) h =
     let e = length-append part (flat_map (λ p. p) parts) in
     (omega arith, length_of_parts n parts (omega arith))
 
+-- a filter keeps no more than there was
 pub length-filter-le : {A : Type 0} (test : A → Bool) (xs : List A) → length (filter test xs) ≤ length xs
 length-filter-le test [] = omega arith
 length-filter-le test (x ∷ xs) =
     let rest = length-filter-le test xs in
     elim (test x) as (λ b. length (cond b (x ∷ filter test xs) (filter test xs)) ≤ suc (length xs)) [ true ↦ omega arith | false ↦ omega arith ]
 
+-- each part of a list that rises
 pub rising_parts : {A : Type 0} (c : A → A → Ordering) (parts : List (List A)) → IsStrictlySortedBy c (flat_map (λ part. part) parts) → AllByRecursion (IsStrictlySortedBy c) parts
 rising_parts c [] h = tt
 rising_parts c (part ∷ parts) h = (rising_front c part (flat_map (λ p. p) parts) h, rising_parts c parts (rising_back c part (flat_map (λ p. p) parts) h))
@@ -92,6 +98,7 @@ run_lengths_from n xs h i l =
     let within : n * suc i ≤ n * run_count n (length xs) = mul-le-mul_left n l in
     (omega arith, omega arith)
 
+-- the same for all runs
 pub lengths_of_runs : {A : Type 0} (n : ℕ) (xs : List A) → 1 ≤ n → AllByRecursion (λ run. (1 ≤ length run) × (length run ≤ n)) (runs n xs)
 unfolding runs
 lengths_of_runs n xs h = all_map (λ i. i < run_count n (length xs)) _ (run_at n xs) (λ i l. run_lengths_from n xs h i l) (numbers_below (run_count n (length xs))) (all_weaker _ _ (λ i l. omega arith) (numbers_below (run_count n (length xs))) (all_numbers_below 0 (run_count n (length xs))))
@@ -100,6 +107,7 @@ lengths_of_runs n xs h = all_map (λ i. i < run_count n (length xs)) _ (run_at n
 pub all_runs : {A : Type 0} (P : A → Type 0) (n : ℕ) (xs : List A) → 1 ≤ n → AllByRecursion P xs → AllByRecursion (AllByRecursion P) (runs n xs)
 all_runs P n xs h g = all_parts P (runs n xs) (subst (AllByRecursion P) (sym (flat_map-runs n xs h)) g)
 
+-- each run of a list that rises
 pub rising_runs : {A : Type 0} (c : A → A → Ordering) (n : ℕ) (xs : List A) → 1 ≤ n → IsStrictlySortedBy c xs → AllByRecursion (IsStrictlySortedBy c) (runs n xs)
 rising_runs c n xs h g = rising_parts c (runs n xs) (subst (IsStrictlySortedBy c) (sym (flat_map-runs n xs h)) g)
 
@@ -107,3 +115,50 @@ rising_runs c n xs h g = rising_parts c (runs n xs) (subst (IsStrictlySortedBy c
 pub all_enumerate_from : {A : Type 0} (P : A → Type 0) (n : ℕ) (xs : List A) → AllByRecursion P xs → AllByRecursion (λ e. P e.1) (enumerate_from n xs)
 all_enumerate_from P n [] h = tt
 all_enumerate_from P n (x ∷ xs) h = (h.0, all_enumerate_from P (n + 1) xs h.1)
+
+-- a part is not empty, and no element of it but the first is cut from what stands before it
+abbrev pub IsUncut : {A : Type 0} → (A → Bool) → List A → Type 0
+IsUncut cuts [] = ⊥
+IsUncut cuts (x ∷ xs) = AllByRecursion (λ y. cuts y ≡ false) xs
+
+-- a part begins where the list is cut
+abbrev pub BeginsAtCut : {A : Type 0} → (A → Bool) → List A → Type 0
+BeginsAtCut cuts [] = ⊥
+BeginsAtCut cuts (x ∷ xs) = cuts x ≡ true
+
+-- each part but the first
+abbrev pub AllButFirst : {A : Type 0} → (A → Type 0) → List A → Type 0
+AllButFirst P [] = Unit {0}
+AllButFirst P (x ∷ xs) = AllByRecursion P xs
+
+onto_part_is_uncut : {A : Type 0} (cuts : A → Bool) (x : A) (parts : List (List A)) → AllByRecursion (IsUncut cuts) parts → AllByRecursion (IsUncut cuts) (onto_part cuts x parts)
+unfolding onto_part
+onto_part_is_uncut cuts x [] h = (tt, tt)
+onto_part_is_uncut cuts x ([] ∷ parts) h = absurd h.0
+onto_part_is_uncut cuts x ((y ∷ part) ∷ parts) h = picked (cuts y) refl
+  where
+    picked : (b : Bool) → cuts y ≡ b → AllByRecursion (IsUncut cuts) (cond b ((x ∷ []) ∷ (y ∷ part) ∷ parts) ((x ∷ y ∷ part) ∷ parts))
+    picked true e = (tt, (h.0, h.1))
+    picked false e = ((e, h.0), h.1)
+
+-- the parts of a list are not empty, and are cut nowhere within
+pub cut_before_is_uncut : {A : Type 0} (cuts : A → Bool) (xs : List A) → AllByRecursion (IsUncut cuts) (cut_before cuts xs)
+unfolding cut_before
+cut_before_is_uncut cuts [] = tt
+cut_before_is_uncut cuts (x ∷ xs) = onto_part_is_uncut cuts x (cut_before cuts xs) (cut_before_is_uncut cuts xs)
+
+onto_part_begins : {A : Type 0} (cuts : A → Bool) (x : A) (parts : List (List A)) → AllByRecursion (IsUncut cuts) parts → AllButFirst (BeginsAtCut cuts) parts → AllButFirst (BeginsAtCut cuts) (onto_part cuts x parts)
+unfolding onto_part
+onto_part_begins cuts x [] u h = tt
+onto_part_begins cuts x ([] ∷ parts) u h = absurd u.0
+onto_part_begins cuts x ((y ∷ part) ∷ parts) u h = picked (cuts y) refl
+  where
+    picked : (b : Bool) → cuts y ≡ b → AllButFirst (BeginsAtCut cuts) (cond b ((x ∷ []) ∷ (y ∷ part) ∷ parts) ((x ∷ y ∷ part) ∷ parts))
+    picked true e = (e, h)
+    picked false e = h
+
+-- each part of a list but the first begins where the list is cut
+pub cut_before_begins : {A : Type 0} (cuts : A → Bool) (xs : List A) → AllButFirst (BeginsAtCut cuts) (cut_before cuts xs)
+unfolding cut_before
+cut_before_begins cuts [] = tt
+cut_before_begins cuts (x ∷ xs) = onto_part_begins cuts x (cut_before cuts xs) (cut_before_is_uncut cuts xs) (cut_before_begins cuts xs)

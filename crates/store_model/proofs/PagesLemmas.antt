@@ -8,6 +8,7 @@ use Rattle.store_model.specs.Pairs.{Pair}
 use Rattle.store_model.specs.Pages.{Cell, Page, page_room, cell_on, level_list, leads_group, groups, lead_of, group_pages, level_pages}
 use Rattle.store_model.proofs.ListsLemmasCuts.{flat_map-flat_map, flat_map-map, flat_map_same, flat_map-enumerate_from, flat_map-runs, flat_map-cut_before}
 
+-- a page of any level has room for a cell
 pub some_room : (level : ℕ) → 1 ≤ page_room level
 some_room level = elim (level == 0) as (λ b. 1 ≤ cond b 10 31) [ true ↦ omega arith | false ↦ omega arith ]
 
@@ -35,6 +36,7 @@ filter_level_0 d (pair ∷ s) =
     ap (λ b. cond b (pair ∷ filter (λ x. nat_le 0 (d.level x.0)) s) (filter (λ x. nat_le 0 (d.level x.0)) s)) (le-leb 0 (d.level pair.0) (omega arith))
     ∙ ap (λ rest. pair ∷ rest) (filter_level_0 d s)
 
+-- so the cells of level 0 are those of the pairs
 pub cells_of_level_0 : (d : Draw) (s : List Pair) → flat_map (λ page. page.cells) (level_pages d s 0) ≡ map (cell_on 0) s
 unfolding level_list
 cells_of_level_0 d s = cells_of_level d s 0 ∙ ap (map (cell_on 0)) (filter_level_0 d s)

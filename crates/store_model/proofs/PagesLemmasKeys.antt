@@ -1,12 +1,13 @@
 -- Lemmas on where a key stands: in one page of each level up to its own.
 use Rattle.std.proofs.Common.{◌≡◌, ℕ, ◌+◌, List, [], ◌∷◌, ◌++◌, map, refl, sym, ap, ap₂, subst, ◌∙◌, cond, arith, Bool, true, false, ◌&&◌, ◌||◌, IsTrue, nat_le, count_by, Less, Equal}
-use Rattle.std.specs.List.{AllByRecursion, flat_map, filter, list_any}
+use Rattle.std.specs.List.{flat_map, filter, list_any}
 use Rattle.std.specs.List.Sorted.{IsStrictlySortedBy}
 use Rattle.std.specs.FinMap.{is_sorted}
 use Rattle.std.specs.Cmp.{tied_itself}
 use Rattle.std.specs.Cmp.Lexicographic.{bytes_decides, nat_list_cmp_total}
 use Rattle.std.proofs.lemmas.List.Sums.{sum_by-cons}
-use Rattle.std.proofs.lemmas.List.Folds.{list_any-append}
+use Rattle.std.proofs.lemmas.List.Folds.{list_any-append, list_any_none}
+use Rattle.std.proofs.lemmas.List.Elements.{All-from_recursion}
 use Rattle.store_model.specs.Lists.{same_bytes}
 use Rattle.store_model.specs.Paths.{key_cmp}
 use Rattle.store_model.specs.Draws.{Draw}
@@ -20,22 +21,19 @@ use Rattle.store_model.proofs.PagesLemmasOrder.{cell_cmp, cell_on-key, rising_le
 abbrev cell_has : List ℕ → Cell → Bool
 cell_has k cell = same_bytes cell.key k
 
+-- whether a pair has the key
 abbrev pair_has : List ℕ → Pair → Bool
 pair_has k pair = same_bytes pair.0 k
 
+-- whether a page has it in some cell
 abbrev page_has : List ℕ → Page → Bool
 page_has k page = list_any (cell_has k) page.cells
-
--- no cell of another key has the key
-list_any_none : {X : Type 0} (test : X → Bool) (xs : List X) → AllByRecursion (λ x. test x ≡ false) xs → list_any test xs ≡ false
-list_any_none test [] h = refl
-list_any_none test (x ∷ xs) h = ap₂ (λ a b. a || b) h.0 (list_any_none test xs h.1)
 
 -- of cells that rise, those behind one that has the key have other keys
 other_keys : (k : List ℕ) (x : Cell) (xs : List Cell) → IsStrictlySortedBy cell_cmp (x ∷ xs) → cell_has k x ≡ true → list_any (cell_has k) xs ≡ false
 other_keys k x xs h e =
     let here = (bytes_decides x.key k).0 e in
-    list_any_none (cell_has k) xs (all_weaker _ _ (λ y l. go y l here (cell_has k y) refl) xs (rising_head cell_cmp x xs h))
+    list_any_none (cell_has k) xs (All-from_recursion _ xs (all_weaker _ _ (λ y l. go y l here (cell_has k y) refl) xs (rising_head cell_cmp x xs h)))
   where
     go : (y : Cell) → cell_cmp x y ≡ Less → x.key ≡ k → (b : Bool) → cell_has k y ≡ b → b ≡ false
     go y l here false f = refl
@@ -44,6 +42,7 @@ other_keys k x xs h e =
         let tied : cell_cmp x y ≡ Equal = ap₂ key_cmp here there ∙ tied_itself nat_list_cmp_total k in
         cc
 
+-- the second part of a choice that fails
 second_false : (a b : Bool) → (a || b) ≡ false → b ≡ false
 second_false true b h = cc
 second_false false b h = h

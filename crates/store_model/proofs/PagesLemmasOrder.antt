@@ -27,13 +27,16 @@ abbrev pub HasKeyLength : Lead → Type 0
 HasKeyLength Start = Unit {0}
 HasKeyLength (Leader k) = length k ≡ 124
 
+-- the bytes of what leads a group: one and those of a key
 length-lead_bytes : (lead : Lead) → HasKeyLength lead → length (lead_bytes lead) ≡ 125
 length-lead_bytes Start h = refl
 length-lead_bytes (Leader k) h = ap suc h
 
+-- leads are compared as their bytes
 abbrev pub lead_cmp : Lead → Lead → Ordering
 lead_cmp a b = slice_cmp nat_cmp (lead_bytes a) (lead_bytes b)
 
+-- cells are compared by their keys
 abbrev pub cell_cmp : Cell → Cell → Ordering
 cell_cmp a b = key_cmp a.key b.key
 
@@ -61,6 +64,7 @@ record IsPageOn (level : ℕ) (page : Page) : Type 0 where
 run_count_below : (level count : ℕ) → run_count (page_room level) count ≤ count
 run_count_below level count = elim (level == 0) as (λ b. run_count (cond b 10 31) count ≤ count) [ true ↦ omega arith | false ↦ omega arith ]
 
+-- the number of a run can be spelled in four bytes
 pub run_number_in_range : (level : ℕ) (cells : List Cell) → length cells ≤ 4294967296 → AllByRecursion (λ run. run.0 < 4294967296) (enumerate_from 0 (runs (page_room level) cells))
 run_number_in_range level cells h =
     let few = run_count_below level (length cells) in
@@ -78,6 +82,7 @@ pages_of_group level lead cells h =
     all_map (λ run. run.0 < 4294967296) (IsPageOf level lead) (page_of level lead) (λ run r. record { on_level = refl; led = refl; counted = r })
     (enumerate_from 0 (runs (page_room level) cells)) (run_number_in_range level cells h)
 
+-- the pages of a group rise by label
 rising_group_pages : (level : ℕ) (lead : Lead) (cells : List Cell) → HasKeyLength lead → length cells ≤ 4294967296 → IsStrictlySortedBy page_cmp (group_pages level lead cells)
 unfolding group_pages
 rising_group_pages level lead cells g h =
@@ -111,13 +116,16 @@ below_levels level higher xs ys less h g =
 abbrev lead_at : Draw → ℕ → Cell → Lead
 lead_at d level cell = lead_of d level (cell ∷ [])
 
+-- the lead that a cell gives
 abbrev leader : Cell → Lead
 leader cell = Leader cell.key
 
+-- a group is led from its first cell on
 lead_of-cons : (d : Draw) (level : ℕ) (cell : Cell) (cells : List Cell) → lead_of d level (cell ∷ cells) ≡ lead_at d level cell
 unfolding lead_of
 lead_of-cons d level cell cells = refl
 
+-- a cell that the list is cut before leads its group
 lead_of_cut : (d : Draw) (level : ℕ) (cell : Cell) → leads_group d level cell ≡ true → lead_at d level cell ≡ leader cell
 unfolding lead_of
 lead_of_cut d level cell e = ap (λ b. cond b (leader cell) Start) e
@@ -140,6 +148,7 @@ record IsCutFrom (x : Cell) (parts : List (List Cell)) : Type 0 where
   rest : List (List Cell)
   is : parts ≡ (x ∷ part) ∷ rest
 
+-- the parts of a list that begins with x
 cut_from : (cuts : Cell → Bool) (x : Cell) (xs : List Cell) → IsCutFrom x (cut_before cuts (x ∷ xs))
 unfolding cut_before onto_part
 cut_from cuts x xs = go (cut_before cuts xs)
@@ -199,9 +208,11 @@ pub record IsKeyed (s : List Pair) : Type 0 where
   pub lengths : AllByRecursion (λ pair. length pair.0 ≡ 124) s
   pub few : length s ≤ 4294967296
 
+-- the cell of a pair has its key
 pub cell_on-key : (level : ℕ) (pair : Pair) → (cell_on level pair).key ≡ pair.0
 cell_on-key level pair = elim (level == 0) as (λ b. (cond {A = Cell} b (record { key = pair.0; value = Some pair.1 }) (record { key = pair.0; value = None })).key ≡ pair.0) [ true ↦ refl | false ↦ refl ]
 
+-- the list of a level rises by key
 pub rising_level_list : (d : Draw) (s : List Pair) (level : ℕ) → IsTrue (is_sorted key_cmp s) → IsStrictlySortedBy cell_cmp (level_list d s level)
 unfolding level_list
 rising_level_list d s level h =
@@ -209,12 +220,14 @@ rising_level_list d s level h =
     rising_map pair_cmp cell_cmp (cell_on level) (λ pair. Unit {0}) (λ a b u v l. ap₂ key_cmp (cell_on-key level a) (cell_on-key level b) ∙ l)
     (filter stays s) (all_none _ (λ pair. tt) (filter stays s)) (IsStrictlySortedBy-filter pair_cmp stays s (rising_from_is_sorted key_cmp s h))
 
+-- its keys have 124 bytes
 lengths_of_level_list : (d : Draw) (s : List Pair) (level : ℕ) → IsKeyed s → AllByRecursion (λ cell. length cell.key ≡ 124) (level_list d s level)
 unfolding level_list
 lengths_of_level_list d s level h =
     let stays = λ (pair : Pair). nat_le level (d.level pair.0) in
     all_map (λ pair. length pair.0 ≡ 124) (λ cell. length cell.key ≡ 124) (cell_on level) (λ pair e. ap length (cell_on-key level pair) ∙ e) (filter stays s) (all_filter _ stays s h.lengths)
 
+-- it is no longer than the list of pairs
 pub few_cells : (d : Draw) (s : List Pair) (level : ℕ) → IsKeyed s → length (level_list d s level) ≤ 4294967296
 unfolding level_list
 few_cells d s level h =
@@ -227,10 +240,12 @@ unfolding lead_of
 led_by_key d level [] h = tt
 led_by_key d level (cell ∷ cells) h = elim (leads_group d level cell) as (λ b. HasKeyLength (cond b (Leader cell.key) Start)) [ true ↦ h.0 | false ↦ tt ]
 
+-- a group whose labels can be spelled
 record IsGroup (d : Draw) (level : ℕ) (cells : List Cell) : Type 0 where
   led : HasKeyLength (lead_of d level cells)
   few : length cells ≤ 4294967296
 
+-- each group of a level is one
 all_groups : (d : Draw) (s : List Pair) (level : ℕ) → IsKeyed s → AllByRecursion (IsGroup d level) (groups d s level)
 unfolding groups
 all_groups d s level h =
@@ -241,6 +256,7 @@ all_groups d s level h =
     (all_parts _ parts (subst (AllByRecursion (λ cell. length cell.key ≡ 124)) (sym whole) (lengths_of_level_list d s level h)))
     (length_of_parts 4294967296 parts (subst (λ cs. length cs ≤ 4294967296) (sym whole) (few_cells d s level h)))
 
+-- the pages of a level are of that level
 pages_of_level : (d : Draw) (s : List Pair) (level : ℕ) → IsKeyed s → AllByRecursion (IsPageOn level) (level_pages d s level)
 unfolding level_pages
 pages_of_level d s level h =
@@ -248,6 +264,7 @@ pages_of_level d s level h =
     (λ cells g. all_weaker _ _ (λ page p. record { on_level = p.on_level; led = subst HasKeyLength (sym p.led) g.led; counted = p.counted }) (group_pages level (lead_of d level cells) cells) (pages_of_group level (lead_of d level cells) cells g.few))
     (groups d s level) (all_groups d s level h)
 
+-- and they rise by label
 rising_level_pages : (d : Draw) (s : List Pair) (level : ℕ) → IsKeyed s → IsStrictlySortedBy page_cmp (level_pages d s level)
 unfolding level_pages groups
 rising_level_pages d s level h =
@@ -265,8 +282,10 @@ rising_pages d s h =
     (λ a b u v l. below_levels a b (level_pages d s a) (level_pages d s b) (less_from_nat_cmp a b l) (pages_of_level d s a h) (pages_of_level d s b h))
     (numbers_below d.height) (all_none _ (λ level. tt) (numbers_below d.height)) (rising_numbers_from 0 d.height)
 
+-- the same for the labels alone
 pub rising_labels : (d : Draw) (s : List Pair) → IsKeyed s → IsStrictlySortedBy label_cmp (map (λ page. page.label) (pages_of_pairs d s))
 rising_labels d s h = rising_to_map label_cmp (λ page. page.label) (pages_of_pairs d s) (rising_pages d s h)
 
+-- so no two labels have the same bytes
 pub distinct_labels : (d : Draw) (s : List Pair) → IsKeyed s → IsDistinct (eq_by_cmp label_cmp) (map (λ page. page.label) (pages_of_pairs d s))
 distinct_labels d s h = IsDistinct-from_sorted label_cmp (map (λ page. page.label) (pages_of_pairs d s)) (rising_labels d s h)

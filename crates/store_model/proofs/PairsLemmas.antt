@@ -9,8 +9,7 @@ use Rattle.std.specs.Cmp.Lexicographic.{nat_list_cmp_total, lists_total}
 use Rattle.store_model.specs.Lists.{IsBytes, runs}
 use Rattle.store_model.specs.Parameters.{Parameters}
 use Rattle.store_model.specs.Paths.{Path, is_path, key, path_cmp, key_cmp}
-use Rattle.store_model.specs.Pairs.{Pair, file_block, directory_value, file_value, node_pairs, pairs}
-use Rattle.store_model.specs.Pairs.{IsValue}
+use Rattle.store_model.specs.Pairs.{Pair, file_block, directory_value, file_value, node_pairs, pairs, IsValue, IsPair, IsPairs}
 use Rattle.store_model.specs.Trees.{Tree, Node, IsNode, IsEntry, IsTree}
 use Rattle.store_model.specs.Trees.Node.{Directory, File}
 use Rattle.store_model.proofs.ListsLemmas.{all_none, all_weaker, all_with, all_map, all_flat_map, IsBelow, rising_cons, rising_one, rising_map, rising_flat_map, rising_from_is_sorted, is_sorted_from_rising, numbers_in_range, numbers_rise, less_from_nat_cmp, nat_cmp-lt, length-runs, bytes_from_all, all_from_bytes, be_bytes_are_bytes}
@@ -21,6 +20,7 @@ use Rattle.store_model.proofs.PathsLemmas.{order_of_keys, length-key, bytes_of_k
 abbrev pub pair_cmp : Pair → Pair → Ordering
 pair_cmp a b = key_cmp a.0 b.0
 
+-- entries are compared by their paths
 abbrev pub entry_cmp : (Path × Node) → (Path × Node) → Ordering
 entry_cmp a b = path_cmp a.0 b.0
 
@@ -28,6 +28,7 @@ entry_cmp a b = path_cmp a.0 b.0
 IsOfPath : Path → Pair → Type 0
 IsOfPath path pair = (block : ℕ) × (block < 4294967296) × (pair.0 ≡ key path block)
 
+-- a path compared with itself
 path_cmp-itself : (path : Path) → path_cmp path path ≡ Equal
 path_cmp-itself path = tied_itself (lists_total nat_list_cmp_total) path
 
@@ -81,24 +82,25 @@ rising_pairs t p h =
     (λ e f g k l. below_paths e.0 f.0 (node_pairs e.0 e.1 p) (node_pairs f.0 f.1 p) g.path k.path l (of_path e.0 e.1 p g.node) (of_path f.0 f.1 p k.node))
     t h.entries (rising_from_is_sorted path_cmp t h.sorted)
 
+-- so they are a finite map
 pub is_sorted-pairs : (t : Tree) (p : Parameters) → IsTree t → IsTrue (is_sorted key_cmp (pairs t p))
 is_sorted-pairs t p h = is_sorted_from_rising key_cmp (pairs t p) (rising_pairs t p h)
 
+-- and the keys alone rise
 pub rising_keys : (t : Tree) (p : Parameters) → IsTree t → IsStrictlySortedBy key_cmp (map (λ pair. pair.0) (pairs t p))
 rising_keys t p h = rising_map pair_cmp key_cmp (λ pair. pair.0) (λ pair. Unit {0}) (λ a b u v l. l) (pairs t p) (all_none _ (λ pair. tt) (pairs t p)) (rising_pairs t p h)
 
 -- ---- each pair has a key of 124 bytes and a value of 1 to 256
 
--- the pair has a key and a value of the sizes that a slot holds
-abbrev pub IsPair : Pair → Type 0
-IsPair pair = (length pair.0 ≡ 124) × IsBytes pair.0 × IsValue pair.1
-
+-- a pair of a key and a value
 key_pair : (path : Path) (block : ℕ) (value : List ℕ) → IsTrue (is_path path) → IsValue value → IsPair (key path block, value)
-key_pair path block value h v = (length-key path block h, bytes_of_key path block h, v)
+key_pair path block value h v = record { key_length = length-key path block h; key_bytes = bytes_of_key path block h; value = v }
 
+-- a directory's value is a value
 directory_value_is_value : IsValue directory_value
 directory_value_is_value = (omega arith, omega arith, bytes_from_all directory_value (omega arith, tt))
 
+-- a file's first value is a value
 file_value_is_value : (n : ℕ) → IsValue (file_value n)
 file_value_is_value n = (omega arith, omega arith, bytes_from_all (file_value n) (omega arith, be_bytes_are_bytes n))
 
@@ -108,6 +110,7 @@ blocks_are_values bytes h =
     all_with _ _ _ (λ run l b. (l.0, l.1, bytes_from_all run b)) (runs file_block bytes) (lengths_of_runs file_block bytes (omega arith))
     (all_runs (λ c. c < 256) file_block bytes (omega arith) (all_from_bytes bytes h))
 
+-- the pairs of what stands at a path
 node_pairs_are_pairs : (path : Path) (node : Node) (p : Parameters) → IsTrue (is_path path) → IsNode node → AllByRecursion IsPair (node_pairs path node p)
 unfolding node_pairs
 node_pairs_are_pairs path Directory p h g = (key_pair path 0 directory_value h directory_value_is_value, tt)
@@ -117,6 +120,10 @@ node_pairs_are_pairs path (File bytes) p h g = (
       (all_enumerate_from IsValue 1 (runs file_block bytes) (blocks_are_values bytes g.1)),
 )
 
-pub pairs_are_pairs : (t : Tree) (p : Parameters) → IsTree t → AllByRecursion IsPair (pairs t p)
+-- the pairs of a tree
+pub pairs_are_pairs : (t : Tree) (p : Parameters) → IsTree t → IsPairs (pairs t p)
 unfolding pairs
-pairs_are_pairs t p h = all_flat_map (IsEntry t) IsPair (λ e. node_pairs e.0 e.1 p) (λ e g. node_pairs_are_pairs e.0 e.1 p g.path g.node) t h.entries
+pairs_are_pairs t p h = record {
+  sorted = is_sorted-pairs t p h;
+  pairs = all_flat_map (IsEntry t) IsPair (λ e. node_pairs e.0 e.1 p) (λ e g. node_pairs_are_pairs e.0 e.1 p g.path g.node) t h.entries;
+}

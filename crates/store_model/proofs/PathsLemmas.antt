@@ -16,6 +16,7 @@ record IsZeroFree (n : List ℕ) : Type 0 where
   some_byte : 1 ≤ length n
   bytes : AllByRecursion (λ c. 0 < c) n
 
+-- a name is such a byte string
 zero_free_name : (n : List ℕ) → IsTrue (is_name n) → IsZeroFree n
 zero_free_name n h =
     let front = first_true _ _ (first_true _ _ h) in
@@ -39,6 +40,7 @@ zeros_before_name a [] ys ha hn = let none = hn.some_byte in absurd (omega arith
 zeros_before_name zero (y ∷ n) ys ha hn = absurd (omega arith)
 zeros_before_name (suc a) (y ∷ n) ys ha hn = ap (λ o. ordering_then o (slice_cmp nat_cmp (zeros a) (n ++ ys))) (nat_cmp-lt 0 y (hn.bytes).0)
 
+-- a name stands behind zeros
 name_behind_zeros : (b : ℕ) (n xs : List ℕ) → 0 < b → IsZeroFree n → slice_cmp nat_cmp (n ++ xs) (zeros b) ≡ Greater
 name_behind_zeros b [] xs hb hn = let none = hn.some_byte in absurd (omega arith)
 name_behind_zeros zero (x ∷ n) xs hb hn = absurd (omega arith)
@@ -48,6 +50,7 @@ name_behind_zeros (suc b) (x ∷ n) xs hb hn = ap (λ o. ordering_then o (slice_
 append_name : (n xs ys : List ℕ) → ((n ++ 0 ∷ []) ++ xs) ++ ys ≡ n ++ 0 ∷ (xs ++ ys)
 append_name n xs ys = simp append_assoc
 
+-- the length of a name with a byte 0 in front of more names
 length-append_name : (n xs : List ℕ) → length ((n ++ 0 ∷ []) ++ xs) ≡ suc (length n + length xs)
 length-append_name n xs = simp (length-append, length-append) (omega arith)
 
@@ -71,9 +74,11 @@ order_of_filled_names (n ∷ p) (m ∷ q) a b hp hq e =
     let same = slice_cmp-IsAntisymmetric nat_cmp-IsAntisymmetric n m tied in
     order_of_filled_names p q a b hp.1 hq.1 (omega (arith, ap length same, length-append_name n (name_bytes p), length-append_name m (name_bytes q))))
 
+-- each name of a path is such a byte string
 zero_free_path : (p : Path) → IsTrue (is_path p) → AllByRecursion IsZeroFree p
 zero_free_path p h = all_from_test is_name IsZeroFree zero_free_name p (first_true _ _ h)
 
+-- the names of a path fit its field
 field_len_of_path : (p : Path) → IsTrue (is_path p) → field_len p ≤ 120
 field_len_of_path p h = leb-true _ _ (second_true (list_all is_name p) _ h)
 
@@ -85,6 +90,7 @@ order_of_fields p q hp hq =
     let lq = field_len_of_path q hq in
     order_of_filled_names p q (120 - field_len p) (120 - field_len q) (zero_free_path p hp) (zero_free_path q hq) (omega arith)
 
+-- a field has 120 bytes
 pub length-field : (p : Path) → IsTrue (is_path p) → length (field p) ≡ 120
 unfolding field zero_filled
 length-field p h = let l = field_len_of_path p h in simp (length-append, length-replicate) (omega arith)
@@ -97,10 +103,12 @@ order_of_keys p q i j hp hq hi hj =
     slice_cmp-append nat_cmp (field p) (field q) (to_be_bytes w32 i) (to_be_bytes w32 j) (length-field p hp ∙ sym (length-field q hq))
     ∙ ap₂ ordering_then (order_of_fields p q hp hq) (be_bytes_order i j hi hj)
 
+-- a key has 124 bytes
 pub length-key : (p : Path) (i : ℕ) → IsTrue (is_path p) → length (key p i) ≡ 124
 unfolding key
 length-key p i h = length-append (field p) (to_be_bytes w32 i) ∙ ap (λ n. n + 4) (length-field p h)
 
+-- a name with its byte 0 is made of bytes
 bytes_of_name : (n : List ℕ) → IsTrue (is_name n) → AllByRecursion (λ c. c < 256) (n ++ 0 ∷ [])
 bytes_of_name n h =
     let front : IsTrue (nat_le 1 (length n) && list_all is_name_byte n) = first_true _ _ (first_true _ _ h) in

@@ -74,6 +74,14 @@ recovered_slot slots image i = bytes_at image (if is_flag_set image && is_marked
 unfoldable pub recovered : ℕ → List ℕ → List ℕ
 recovered slots image = take block_len image ++ zeros (journal_len slots) ++ flat_map (recovered_slot slots image) (numbers_below slots)
 
+-- what scrubbing leaves in slot i: zeros where byte 0 of what recovery leaves is 0, and else that
+unfoldable pub scrubbed_slot : ℕ → List ℕ → ℕ → List ℕ
+scrubbed_slot slots image i = if slice_index (recovered_slot slots image i) 0 == 0 then zeros block_len else recovered_slot slots image i
+
+-- what scrubbing leaves of an image: the recovered image, with the slots whose byte 0 is 0 made zero
+unfoldable pub scrubbed : ℕ → List ℕ → List ℕ
+scrubbed slots image = take block_len image ++ zeros (journal_len slots) ++ flat_map (scrubbed_slot slots image) (numbers_below slots)
+
 -- the image represents the tree, which is one: its header names the parameters, it has their length, the tree
 -- fits, and recovery leaves the tree's layout
 pub record Represents (image : List ℕ) (t : Tree) (p : Parameters) : Type 0 where

@@ -1,5 +1,5 @@
 -- How a list of pairs becomes pages: levels, groups, runs. This cut is the store's own.
-use Rattle.std.specs.Prelude.{◌≡◌, ℕ, ◌≤◌, ◌<◌, List, [], ◌∷◌, map, length, Bool, Option, Some, None, nat_le, nat_lt, ◌==◌, if◌then◌else◌}
+use Rattle.std.specs.Prelude.{◌≡◌, ℕ, ◌≤◌, ◌<◌, List, [], ◌∷◌, map, length, Bool, Option, Some, None, nat_le, nat_lt, ◌==◌, if◌then◌else◌, false}
 use Rattle.std.specs.List.{filter, flat_map, enumerate_from, AllByRecursion}
 use Rattle.std.specs.List.Sorted.{IsStrictlySortedBy}
 use Rattle.store_model.specs.Lists.{IsBytes, runs, cut_before, numbers_below}
@@ -45,6 +45,16 @@ groups d s level = cut_before (leads_group d level) (level_list d s level)
 unfoldable pub lead_of : Draw → ℕ → List Cell → Lead
 lead_of d level [] = Start
 lead_of d level (cell ∷ cells) = if leads_group d level cell then Leader cell.key else Start
+
+-- a group is not empty and is cut nowhere within
+abbrev pub IsGroup : Draw → ℕ → List Cell → Type 0
+IsGroup d level [] = ⊥
+IsGroup d level (cell ∷ cells) = AllByRecursion (λ other. leads_group d level other ≡ false) cells
+
+-- a group that is led by its first key
+abbrev pub IsLedGroup : Draw → ℕ → List Cell → Type 0
+IsLedGroup d level [] = ⊥
+IsLedGroup d level (cell ∷ cells) = lead_of d level (cell ∷ cells) ≡ Leader cell.key
 
 -- the pages of one group: its runs, numbered from 0
 unfoldable pub group_pages : ℕ → Lead → List Cell → List Page

@@ -1,9 +1,10 @@
 -- What a command answers on a tree, and the tree after it.
-use Rattle.std.specs.Prelude.{ℕ, ◌+◌, List, [], ◌∷◌, ◌++◌, map, length, take, drop, Bool, true, false, not, ◌&&◌, ◌||◌, Option, Some, None, nat_lt, if◌then◌else◌}
+use Rattle.std.specs.Prelude.{ℕ, ◌+◌, List, [], ◌∷◌, map, length, take, drop, Bool, true, false, not, ◌&&◌, ◌||◌, Option, Some, None, nat_lt, if◌then◌else◌}
 use Rattle.std.specs.List.{list_any}
 use Rattle.sha2.specs.Sha256.{sha256}
 use Rattle.store_model.specs.declared.refusal.Refusal.{Refusal}
 use Rattle.store_model.specs.declared.refusal.Refusal.TheVariants as refusals
+use Rattle.store_model.specs.Lists.{overwrite}
 use Rattle.store_model.specs.Parameters.{Parameters}
 use Rattle.store_model.specs.Paths.{Path, is_root, parent, last_name, is_inside, is_at_or_inside, replanted, fits_field}
 use Rattle.store_model.specs.Trees.{Tree, Node, file_limit, exists, is_directory, is_file, contents, children, with_node, without, without_subtree, moved}
@@ -65,14 +66,10 @@ conditions t Digest = []
 abbrev pub refusal_of : Tree → Command → Option Refusal
 refusal_of t c = first_refusal (conditions t c)
 
--- a file's bytes with other bytes put at a place, over what is there and past the end
-unfoldable pub overwritten : List ℕ → ℕ → List ℕ → List ℕ
-overwritten old at bytes = take at old ++ bytes ++ drop (at + length bytes) old
-
 -- the tree after a command that is not refused
 unfoldable pub next_tree : Tree → Command → Tree
 next_tree t (Make p) = with_node t p Directory
-next_tree t (Write p at bytes) = with_node t p (File (overwritten (contents t p) at bytes))
+next_tree t (Write p at bytes) = with_node t p (File (overwrite (contents t p) at bytes))
 next_tree t (Cut p len) = with_node t p (File (take len (contents t p)))
 next_tree t (Rename p q) = moved t p q
 next_tree t (Remove p) = without t p

@@ -1,17 +1,14 @@
 //! Laws of the pairs of a tree.
 #![tactic(auto)]
 
-ghost use Rattle.std.specs.Prelude.{◌≡◌, ℕ, ◌<◌, ◌^◌, IsTrue, map, length};
+ghost use Rattle.std.specs.Prelude.{◌≡◌, ℕ, ◌<◌, ◌^◌, IsTrue, map};
 ghost use Rattle.std.specs.Ordering.{nat_cmp, ordering_then};
-ghost use Rattle.std.specs.List.{AllByRecursion};
 ghost use Rattle.std.specs.FinMap.{is_sorted};
 ghost use Rattle.std.specs.List.Sorted.{IsStrictlySortedBy};
-ghost use Rattle.store_model.specs.Lists.{IsBytes};
 ghost use Rattle.store_model.specs.Parameters.{Parameters};
 ghost use Rattle.store_model.specs.Paths.{Path, is_path, key, path_cmp, key_cmp};
 ghost use Rattle.store_model.specs.Trees.{Tree, IsTree};
-ghost use Rattle.store_model.specs.Pairs.{pairs};
-ghost use Rattle.store_model.specs.Pairs.{IsValue};
+ghost use Rattle.store_model.specs.Pairs.{pairs, IsPairs};
 
 /// Keys have the order of their paths, and at one path that of the block numbers.
 pub fn fields_order_as_paths()
@@ -25,8 +22,7 @@ pub fn pairs_are_sorted()
     ensures keys_rise { (t : Tree) (p : Parameters) → IsTree t → IsStrictlySortedBy key_cmp (map (λ pair. pair.0) (pairs t p)) }
 {}
 
-/// Each pair of a tree has a key of 124 bytes and a value of 1 to 256 bytes.
+/// The pairs of a tree are a list of pairs: the keys rise, each key has 124 bytes, and each value 1 to 256.
 pub fn pairs_are_pairs()
-    ensures keys { (t : Tree) (p : Parameters) → IsTree t → AllByRecursion (λ pair. (length pair.0 ≡ 124) × IsBytes pair.0) (pairs t p) }
-    ensures values { (t : Tree) (p : Parameters) → IsTree t → AllByRecursion (λ pair. IsValue pair.1) (pairs t p) }
+    ensures { (t : Tree) (p : Parameters) → IsTree t → IsPairs (pairs t p) }
 {}
