@@ -1,10 +1,10 @@
 -- Pages and their slots: what stands where in a slot, and that a slot is one page's alone.
-use Rattle.std.proofs.Common.{◌≡◌, ℕ, zero, suc, ◌+◌, ◌-◌, ◌*◌, ◌≤◌, ◌<◌, ◌↔◌, Bool, List, [], ◌∷◌, ◌++◌, map, length, take, drop, set, get_or, slice_index, refl, sym, ap, ap₂, subst, ◌∙◌, arith, append_assoc, length-append, cond, true, false, ◌==◌, Less, mul-suc, mul-le-mul_left, take-add, Some}
+use Rattle.std.proofs.Common.{◌≡◌, ℕ, zero, suc, ◌+◌, ◌-◌, ◌*◌, ◌≤◌, ◌<◌, Bool, List, [], ◌∷◌, ◌++◌, map, length, take, drop, set, slice_index, refl, sym, ap, ap₂, subst, ◌∙◌, arith, append_assoc, length-append, cond, true, false, ◌==◌, Less, mul-suc, mul-le-mul_left, take-add, Some}
 use Rattle.std.specs.Prelude.{slice_get}
 use Rattle.std.specs.List.{flat_map, AllByRecursion}
 use Rattle.std.specs.List.Sorted.{IsStrictlySortedBy}
 use Rattle.std.specs.Cmp.Lexicographic.{nat_list_cmp_total}
-use Rattle.std.proofs.lemmas.List.{take_at, drop_at, take_all, get_or_at, append-nil, length-take, length-take-le, length-drop, drop-drop, take-take, take-append-drop, drop_more, length_push, set_split, drop-set-lt}
+use Rattle.std.proofs.lemmas.List.{take_at, drop_at, get_or_at, append-nil, length-take-le, length-drop, drop-drop, take-take, take-append-drop, drop_more, length_push, set_split, drop-set-lt}
 use Rattle.store_model.specs.Lists.{IsBytes, zeros, zero_filled}
 use Rattle.store_model.specs.Paths.{key_cmp}
 use Rattle.store_model.specs.Labels.{Label, IsLabel, label_bytes}
@@ -13,9 +13,10 @@ use Rattle.store_model.specs.Images.{value_bytes, cell_bytes, page_bytes}
 use Rattle.store_model.proofs.ListsLemmas.{all_weaker, all_append, rising_nil, rising_cons, rising_head, rising_tail}
 use Rattle.store_base.proofs.LabelBytes.{length-label_bytes, label_bytes-same}
 use borrow.Rule.Slice.PartMut.{put_mid}
+use Rattle.store_base.proofs.Orders.{IsBytes-take, IsBytes-drop}
 use Rattle.node_pages.specs.Cells.{appended, cell_size, cell_in, cells_in, page_in, SpellsCell, SpellsRising, SpellsCells, IsSlotOf}
 use Rattle.node_pages.proofs.Filled.{zero_filled-append, length-zeros, put_mid_to_end, written_behind}
-use Rattle.node_pages.proofs.CellBytes.{IsBytes-take, IsBytes-drop, length-cell_bytes, length-cells_bytes, cell_read, cells_in-cell_bytes, SpellsCell-cell_bytes}
+use Rattle.node_pages.proofs.CellBytes.{length-cell_bytes, length-cells_bytes, cell_read, cells_in-cell_bytes, SpellsCell-cell_bytes}
 use Rattle.node_pages.proofs.CellLists.{key_within}
 
 pub length-cells_in : (level count : ℕ) (bytes : List ℕ) → length (cells_in level count bytes) ≡ count
@@ -67,11 +68,12 @@ cells_are_spelled level last (cell ∷ cells) rest each above rising =
     let rest_is : drop size (cell_bytes cell ++ behind) ≡ behind = drop_at (cell_bytes cell) behind size long in
     let key_is : take 124 (cell_bytes cell ++ behind) ≡ cell.key = sym (take-take 124 size (cell_bytes cell ++ behind) (key_within level)) ∙ ap (take 124) first_is ∙ key_of_bytes level cell each.0 in
     let P : List ℕ → Type 0 = λ bytes. SpellsCell level (take size bytes) × (key_cmp last (take 124 bytes) ≡ Less) × SpellsRising level (take 124 bytes) (length cells) (drop size bytes) in
-    subst P (sym regrouped)
-    (subst (SpellsCell level) (sym first_is) (SpellsCell-cell_bytes level cell each.0),
-     subst (λ k. key_cmp last k ≡ Less) (sym key_is) above.0,
-     subst (λ k. SpellsRising level k (length cells) (drop size (cell_bytes cell ++ behind))) (sym key_is)
-       (subst (SpellsRising level cell.key (length cells)) (sym rest_is) (cells_are_spelled level cell.key cells rest each.1 (rising_head key_cmp cell.key (map (λ (c : Cell). c.key) cells) rising) (rising_tail key_cmp cell.key (map (λ (c : Cell). c.key) cells) rising))))
+    subst P (sym regrouped) (
+      subst (SpellsCell level) (sym first_is) (SpellsCell-cell_bytes level cell each.0),
+      subst (λ k. key_cmp last k ≡ Less) (sym key_is) above.0,
+      subst (λ k. SpellsRising level k (length cells) (drop size (cell_bytes cell ++ behind))) (sym key_is)
+          (subst (SpellsRising level cell.key (length cells)) (sym rest_is) (cells_are_spelled level cell.key cells rest each.1 (rising_head key_cmp cell.key (map (λ (c : Cell). c.key) cells) rising) (rising_tail key_cmp cell.key (map (λ (c : Cell). c.key) cells) rising))),
+    )
 
 -- ---- pages
 
@@ -361,3 +363,21 @@ grown page old new cell valid each spells is room rising new_is =
 -- how many cells a slot counts
 pub count_in_slot : (page : Page) (slot : List ℕ) → IsLabel page.label → page_bytes page ≡ slot → slice_index slot 131 ≡ length page.cells
 count_in_slot page slot valid spells = count_of_parts _ _ _ slot (parts_of_page page slot valid spells)
+
+-- ---- the front of a slot: 1 and a label
+
+-- a page's slot begins with 1 and its label
+pub front_shown : (page : Page) (slot : List ℕ) → IsPage page → page_bytes page ≡ slot → take 131 slot ≡ 1 ∷ label_bytes page.label
+front_shown page slot is spells =
+    let parts = parts_of_page page slot is.label spells in
+    ap (take 131) parts.whole ∙ take_at (1 ∷ label_bytes page.label) (length page.cells ∷ zero_filled 3964 (flat_map cell_bytes page.cells)) 131 (ap suc (length-label_bytes page.label is.label))
+
+-- what stands at byte 0 and behind it
+pub front_read : (label : Label) (slot : List ℕ) → IsLabel label → take 131 slot ≡ 1 ∷ label_bytes label → (slice_index slot 0 ≡ 1) × (label_bytes label ≡ take 130 (drop 1 slot))
+front_read label [] valid front = absurd (let long = ap length front in omega arith)
+front_read label (b ∷ slot) valid front = (ap (λ (xs : List ℕ). slice_index xs 0) front, sym (ap (drop 1) front))
+
+-- and the other way round
+pub front_is : (slot bytes : List ℕ) → 131 ≤ length slot → slice_index slot 0 ≡ 1 → bytes ≡ take 130 (drop 1 slot) → take 131 slot ≡ 1 ∷ bytes
+front_is [] bytes long first bytes_are = absurd (omega arith)
+front_is (b ∷ slot) bytes long first bytes_are = ap₂ (λ x (xs : List ℕ). x ∷ xs) first (sym bytes_are)

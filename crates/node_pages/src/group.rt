@@ -29,12 +29,7 @@ fn page_of(label: Label, run: &[Cell]) -> Page
 
 /// The pages of the group that `lead` leads on the level: its cells cut into runs of 10 at level 0 and of 31
 /// above, the last run holding the rest, with labels numbered from 0.
-pub fn cut_group(
-    alloc: Global,
-    level: u8,
-    lead: &Lead,
-    cells: &Cells,
-) -> Result<PageList, NoMemory>
+pub fn cut_group(alloc: Global, level: u8, lead: &Lead, cells: &Cells) -> Result<PageList, NoMemory>
     requires each { AllByRecursion (IsCell level) cells.now }
     requires rising { IsStrictlySortedBy key_cmp (map (λ c. c.key) cells.now) }
     ensures { IfOk result (λ pages. pages ≡ group_pages level (lead_of lead.now) cells.now) }

@@ -12,6 +12,5 @@ mod spelling;
 
 pub use cell::Cell;
 pub use group::cut_group;
-pub use page::{Page, decode_page, encode_page};
+pub use page::{Page, decode_page, encode_page, label_in};
 pub use sequence::{Cells, PageList, PairList, Sequence};
-

@@ -1,13 +1,16 @@
 //! Pages, and their slots.
 
-ghost use Rattle.std.specs.Prelude.{◌≡◌, ◌+◌, ◌-◌, ◌*◌, ◌<◌, ◌≤◌, ◌↔◌, [], ◌∷◌, ◌++◌, length, map, take, drop, Some, IfSome, IsTrue, slice_get, slice_index};
+ghost use Rattle.std.specs.Prelude.{◌≡◌, ◌+◌, ◌-◌, ◌*◌, ◌<◌, ◌≤◌, ◌↔◌, [], ◌∷◌, ◌++◌, length, map, take, drop, None, Some, IfSome, IsTrue, nat_eq, slice_get, slice_index};
 ghost use Rattle.std.specs.List.Sorted.{IsStrictlySortedBy};
+ghost use Rattle.std.specs.Cmp.{partial_equiv_from_equiv, on_equiv, on_per};
+ghost use Rattle.std.specs.Cmp.Lexicographic.{pointwise, nat_list_eq_equiv};
 ghost use Rattle.store_model.specs.Lists.{zeros};
 ghost use Rattle.store_model.specs.Paths.{key_cmp};
 ghost use Rattle.store_model.specs.Pages as model;
 ghost use Rattle.store_model.specs.Pages.{IsCell, IsPage, page_room};
-ghost use Rattle.store_model.specs.Images.{cell_bytes, page_bytes};
-ghost use Rattle.store_model.specs.Labels.{IsLabel};
+ghost use Rattle.store_model.specs.Images.{cell_bytes, page_bytes, slot_bytes};
+ghost use Rattle.store_model.specs.Labels as labels;
+ghost use Rattle.store_model.specs.Labels.{IsLabel, label_bytes};
 ghost use Rattle.store_base.specs.Keys.{IsKey};
 ghost use Rattle.node_pages.specs.Cells as cells;
 
@@ -107,6 +110,24 @@ fn append(label: &Label, slot: &mut Slot, cell: &Cell)
     spelling::write_cell(&mut slot[at..], cell);
 }
 
+/// The label of the page that a slot holds, by its first 131 bytes alone: the cells are not looked at.
+/// `None` exactly where byte 0 is not 1 or no label stands behind it, as in a free slot.
+pub fn label_in(slot: &Slot) -> Option<Label>
+    ensures found { IfSome result (λ label. IsLabel label × (take COUNT_AT slot.now ≡ 1 ∷ label_bytes label)) }
+    ensures only { (label : labels.Label) → IsLabel label → take COUNT_AT slot.now ≡ 1 ∷ label_bytes label → result ≡ Some label }
+
+    // What a slot of the table holds is free or a page.
+    ensures free { slot.now ≡ slot_bytes None → result ≡ None }
+    ensures page { (page : model.Page) → IsPage page → slot.now ≡ slot_bytes (Some page) → result ≡ Some page.label }
+{
+    if slot[0] != 1 {
+        return None;
+    }
+    let mut label = [0; 130];
+    label.copy_from_slice(&slot[1..COUNT_AT]);
+    Label::from_bytes(&label)
+}
+
 /// The page that a slot holds; `None` exactly where its bytes are no page's: byte 0 is not 1, the label's
 /// bytes are no label's, there is no cell or more than the level has room for, the length of a value is not
 /// 1 to 256 or other bytes than zeros fill it up, the keys do not strictly rise, or other bytes than zeros
@@ -115,12 +136,7 @@ pub fn decode_page(slot: &Slot) -> Option<Page>
     ensures found { IfSome result (λ page. IsPage page × (page_bytes page ≡ slot.now)) }
     ensures only { (page : model.Page) → IsPage page → page_bytes page ≡ slot.now → result ≡ Some page }
 {
-    if slot[0] != 1 {
-        return None;
-    }
-    let mut label = [0; 130];
-    label.copy_from_slice(&slot[1..COUNT_AT]);
-    let label = Label::from_bytes(&label)?;
+    let label = label_in(slot)?;
     let (_, area) = slot.split_at(CELLS_AT);
     if !are_whole(label.level, slot[COUNT_AT], area) {
         return None;
@@ -221,4 +237,21 @@ impl Page {
         let (key, _) = bytes_of_cell(&self.label, &self.slot, i).split_at(spelling::KEY_LEN);
         spelling::read_key(key)
     }
+}
+
+impl PartialEq for Page {
+    ghost eq = { λ a b. pointwise nat_eq (page_bytes a) (page_bytes b) };
+
+    ghost laws = { on_per page_bytes (partial_equiv_from_equiv nat_list_eq_equiv) };
+
+    fn eq(&self, other: &Self) -> bool
+        ensures value { result ≡ pointwise nat_eq (page_bytes self.now) (page_bytes other.now) }
+        ensures same { IsTrue result ↔ (self.now ≡ other.now) }
+    {
+        self.slot == other.slot
+    }
+}
+
+impl Eq for Page {
+    ghost laws = { on_equiv page_bytes nat_list_eq_equiv };
 }

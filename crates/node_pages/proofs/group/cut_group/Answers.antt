@@ -1,8 +1,7 @@
-use Rattle.std.proofs.Common.{◌≡◌, ◌+◌, ◌≤◌, [], ◌∷◌, ◌++◌, ℕ, Bool, true, false, List, min, length, take, drop, ◌==◌, sym, ap, ap₂, subst, ◌∙◌, refl, arith, eqb-true}
+use Rattle.std.proofs.Common.{◌≡◌, ◌+◌, ◌≤◌, [], ◌∷◌, ◌++◌, ℕ, Bool, true, false, List, min, length, take, drop, ◌==◌, sym, ap, subst, ◌∙◌, arith, eqb-true}
 use Rattle.std.proofs.lemmas.Bool.{eqb-false}
 use Rattle.std.proofs.lemmas.List.{take_min, drop_min, nil_from_length}
-use Rattle.store_model.specs.Labels.{Lead}
-use Rattle.store_model.specs.Pages.{Cell, Page, page_room, IsPage}
+use Rattle.store_model.specs.Pages.{Cell, page_room, IsPage}
 use Rattle.store_base.specs.Leads.{lead_of}
 use Rattle.node_pages.proofs.Runs.{CutsOn, page_of_run, cut_none, cut_all, cut_more, run_is_page}
 use Rattle.node_pages.proofs.group.cut_group.Goals as goal

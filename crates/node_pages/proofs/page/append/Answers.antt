@@ -1,8 +1,7 @@
-use Rattle.std.proofs.Common.{◌≡◌, ◌+◌, ◌-◌, ◌*◌, ◌≤◌, ◌<◌, ℕ, List, length, take, drop, set, slice_index, ap, ap₂, sym, subst, ◌∙◌, refl, arith, mul-suc, mul-le-mul_left, suc}
-use Rattle.std.proofs.lemmas.List.{length-drop, length-set, take_all, length-take-le}
+use Rattle.std.proofs.Common.{◌≡◌, ◌+◌, ◌-◌, ◌*◌, ◌≤◌, ℕ, List, length, take, drop, set, slice_index, ap, ap₂, sym, ◌∙◌, arith, mul-suc, suc}
+use Rattle.std.proofs.lemmas.List.{take_all}
 use Rattle.store_model.specs.Labels.{Label}
 use Rattle.store_model.specs.Lists.{zeros, zero_filled}
-use Rattle.store_model.specs.Pages.{page_room}
 use Rattle.store_model.specs.Images.{cell_bytes}
 use Rattle.node_pages.specs.Cells.{cell_size}
 use Rattle.node_pages.proofs.Filled.{length-zeros}

@@ -1,4 +1,4 @@
-use Rattle.std.proofs.Common.{◌≡◌, length, ap, sym, ◌∙◌}
+use Rattle.std.proofs.Common.{ap, sym, ◌∙◌}
 use Rattle.store_model.specs.Lists.{zeros}
 use Rattle.node_pages.proofs.PageBytes.{begun_is}
 use Rattle.node_pages.proofs.page.begin.Goals as goal

@@ -1,8 +1,8 @@
-use Rattle.std.proofs.Common.{◌≡◌, ◌*◌, ◌+◌, ◌≤◌, ◌<◌, ℕ, List, [], Some, length, take, drop, slice_index, refl, sym, ap, ap₂, subst, ◌∙◌, arith, rules}
+use Rattle.std.proofs.Common.{◌≡◌, ◌*◌, ◌+◌, ◌≤◌, ◌<◌, ℕ, List, [], Some, length, take, drop, slice_index, sym, ap, ap₂, subst, ◌∙◌, arith}
 use Rattle.std.specs.Prelude.{slice_get}
 use Rattle.std.proofs.lemmas.List.{length-drop}
 use Rattle.store_model.specs.Labels.{Label}
-use Rattle.node_pages.specs.Cells.{cell_size, cell_in, cells_in, SpellsCell, IsSlotOf, page_in}
+use Rattle.node_pages.specs.Cells.{cell_size, cell_in, SpellsCell, IsSlotOf, page_in}
 use Rattle.node_pages.proofs.PageBytes.{length-cells_in, spelled_in_slot, nth_cell, cell_within}
 use Rattle.node_pages.proofs.page.bytes_of_cell.Goals as goal
 

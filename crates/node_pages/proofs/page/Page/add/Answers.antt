@@ -1,9 +1,9 @@
-use Rattle.std.proofs.Common.{◌≡◌, ◌<◌, [], ◌∷◌, ◌++◌, map, length, subst, sym, ap, ◌∙◌}
+use Rattle.std.proofs.Common.{◌<◌, [], ◌∷◌, ◌++◌, map, length, subst, sym, ap, ◌∙◌}
 use Rattle.std.specs.List.Sorted.{IsStrictlySortedBy}
 use Rattle.store_model.specs.Paths.{key_cmp}
-use Rattle.store_model.specs.Pages.{Cell, Page, page_room, IsCell, IsPage}
+use Rattle.store_model.specs.Pages.{Cell, Page, page_room, IsCell}
 use Rattle.node_pages.specs.Cells.{page_in}
-use Rattle.node_pages.proofs.PageBytes.{IsGrown, grown, blank_behind, count_in_slot}
+use Rattle.node_pages.proofs.PageBytes.{grown, blank_behind, count_in_slot}
 use Rattle.node_pages.proofs.page.Page.add.Goals as goal
 
 pub append-requires-clause-room : goal.append-requires-clause-room

@@ -1,4 +1,4 @@
-use Rattle.std.proofs.Common.{◌≡◌, Some, take, slice_index, refl, sym, ap, subst, ◌∙◌}
+use Rattle.std.proofs.Common.{◌≡◌, sym, ap, subst, ◌∙◌}
 use Rattle.std.specs.Prelude.{IfSome, slice_get}
 use Rattle.store_model.specs.Pages.{Cell, Page}
 use Rattle.node_pages.specs.Cells.{cell_in}

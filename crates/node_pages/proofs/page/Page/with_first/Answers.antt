@@ -1,10 +1,10 @@
-use Rattle.std.proofs.Common.{◌≡◌, ◌<◌, [], ◌∷◌, length, subst, sym, ap, ◌∙◌, arith}
+use Rattle.std.proofs.Common.{◌<◌, [], subst, sym}
 use Rattle.store_model.specs.Paths.{key_cmp}
 use Rattle.store_model.specs.Labels.{Label}
-use Rattle.store_model.specs.Pages.{Cell, Page, page_room, IsPage}
+use Rattle.store_model.specs.Pages.{Page, page_room}
 use Rattle.store_model.proofs.ListsLemmas.{rising_one}
 use Rattle.store_model.proofs.PagesLemmas.{some_room}
-use Rattle.node_pages.proofs.PageBytes.{IsGrown, grown, blank_behind, count_in_slot}
+use Rattle.node_pages.proofs.PageBytes.{grown, blank_behind, count_in_slot}
 use Rattle.node_pages.proofs.page.Page.with_first.Goals as goal
 
 -- the page of a label with no cell
