@@ -1,36 +1,17 @@
 -- Cells and their bytes: what spells a cell is read as that cell, and the other way round.
-use Rattle.std.proofs.Common.{◌≡◌, ℕ, zero, suc, ◌+◌, ◌-◌, ◌*◌, ◌<◌, ◌≤◌, Bool, true, false, cond, List, [], ◌∷◌, ◌++◌, map, length, take, drop, get_or, Option, Some, None, refl, sym, ap, ap₂, subst, ◌∙◌, arith, append_assoc, length-append, slice_index, eqb-true, ◌==◌, nat_eq, Less}
+use Rattle.std.proofs.Common.{◌≡◌, ℕ, zero, suc, ◌+◌, ◌-◌, ◌*◌, ◌≤◌, List, [], ◌∷◌, ◌++◌, length, take, drop, Option, Some, None, refl, sym, ap, ap₂, subst, ◌∙◌, arith, append_assoc, length-append}
 use Rattle.std.specs.Int.{w16, to_be_bytes, from_be_bytes}
 use Rattle.std.specs.List.{flat_map, AllByRecursion}
-use Rattle.std.proofs.lemmas.List.{take_at, drop_at, take-append-drop, take_all, drop_all, length-take, length-take-le, length-drop, length-replicate, get_or-drop, get_or-take, get_or_past, append-nil, drop-replicate}
+use Rattle.std.proofs.lemmas.List.{take_at, drop_at, take-append-drop, take_all, length-take, length-drop, length-replicate, append-nil, drop-replicate}
 use Rattle.std.proofs.lemmas.Nat.{be_bytes_2, from_be_bytes-to_be_bytes_2}
-use Rattle.std.proofs.lemmas.Bool.{eqb-false}
 use Rattle.store_model.specs.Lists.{IsBytes, zeros, zero_filled}
-use Rattle.store_model.specs.Paths.{key_cmp}
 use Rattle.store_model.specs.Pairs.{IsValue}
 use Rattle.store_model.specs.Pages.{Cell, IsCell, IsCellValue}
 use Rattle.store_model.specs.Images.{value_bytes, cell_bytes}
 use borrow.Rule.Slice.PartMut.{put_mid}
 use Rattle.node_pages.proofs.Filled.{length-zeros, zero_filled-append, zero_filled-zero_filled, written_front, written_behind, put_mid_to_end}
+use Rattle.store_base.proofs.Orders.{IsBytes-take, IsBytes-drop}
 use Rattle.node_pages.specs.Cells.{cell_size, value_in, cell_in, cells_in, SpellsValue, SpellsCell}
-
--- a part of bytes is bytes
-pub IsBytes-drop : (n : ℕ) (bytes : List ℕ) → IsBytes bytes → IsBytes (drop n bytes)
-IsBytes-drop n bytes h i = rw get_or-drop (h (n + i))
-
-pub IsBytes-take : (n : ℕ) (bytes : List ℕ) → IsBytes bytes → IsBytes (take n bytes)
-IsBytes-take zero bytes h i = omega arith
-IsBytes-take (suc n) [] h i = omega arith
-IsBytes-take (suc n) (b ∷ bytes) h zero = h 0
-IsBytes-take (suc n) (b ∷ bytes) h (suc i) = IsBytes-take n bytes (λ k. h (suc k)) i
-
--- the size of a cell on each kind of level
-pub cell_size-0 : (level : ℕ) → level ≡ 0 → cell_size level ≡ 382
-cell_size-0 level h = ap cell_size h
-
-pub cell_size-above : (level : ℕ) → 0 < level → cell_size level ≡ 124
-cell_size-above zero h = absurd (omega arith)
-cell_size-above (suc level) h = refl
 
 -- ---- from a cell to its bytes and back
 
@@ -99,20 +80,23 @@ value_read bytes long fits spells =
     let below : n ≤ 256 = spells.fits in
     let value_long : length value ≡ n = omega (arith, length-take n (drop 2 bytes), length-drop 2 bytes) in
     let front : to_be_bytes w16 (length value) ≡ take 2 bytes = ap (to_be_bytes w16) value_long ∙ be_bytes_2 (take 2 bytes) n (omega (arith, length-take 2 bytes)) (IsBytes-take 2 bytes fits) (length_in-take bytes) in
-    let back : value ++ zeros (256 - length value) ≡ drop 2 bytes = ap (λ m. value ++ zeros (256 - m)) value_long ∙ ap (λ (ys : List ℕ). value ++ ys) (sym spells.fill) ∙ take-append-drop n (drop 2 bytes) in
-    ((omega arith, omega arith, IsBytes-take n (drop 2 bytes) (IsBytes-drop 2 bytes fits)),
-     ap₂ (λ (xs ys : List ℕ). xs ++ ys) front back ∙ take-append-drop 2 bytes)
+    let back : value ++ zeros (256 - length value) ≡ drop 2 bytes = ap (λ m. value ++ zeros (256 - m)) value_long ∙ ap (λ (ys : List ℕ). value ++ ys) (sym spells.fill) ∙ take-append-drop n (drop 2 bytes) in (
+      (omega arith, omega arith, IsBytes-take n (drop 2 bytes) (IsBytes-drop 2 bytes fits)),
+      ap₂ (λ (xs ys : List ℕ). xs ++ ys) front back ∙ take-append-drop 2 bytes,
+    )
 
 -- bytes that spell a cell are those of the cell that is read from them
 pub cell_read : (level : ℕ) (bytes : List ℕ) → length bytes ≡ cell_size level → IsBytes bytes → SpellsCell level bytes → IsCell level (cell_in level bytes) × (cell_bytes (cell_in level bytes) ≡ bytes)
 unfolding cell_in cell_bytes
 cell_read zero bytes long fits spells =
-    let value = value_read (drop 124 bytes) (omega (arith, length-drop 124 bytes)) (IsBytes-drop 124 bytes fits) (spells refl) in
-    (record { key_length = omega (arith, length-take 124 bytes); key_bytes = IsBytes-take 124 bytes fits; value = (refl, value.0) },
-     ap (λ (ys : List ℕ). take 124 bytes ++ ys) value.1 ∙ take-append-drop 124 bytes)
-cell_read (suc level) bytes long fits spells =
-    (record { key_length = omega (arith, length-take 124 bytes); key_bytes = IsBytes-take 124 bytes fits; value = omega arith },
-     append-nil (take 124 bytes) ∙ take_all 124 bytes (omega arith))
+    let value = value_read (drop 124 bytes) (omega (arith, length-drop 124 bytes)) (IsBytes-drop 124 bytes fits) (spells refl) in (
+      record { key_length = omega (arith, length-take 124 bytes); key_bytes = IsBytes-take 124 bytes fits; value = (refl, value.0) },
+      ap (λ (ys : List ℕ). take 124 bytes ++ ys) value.1 ∙ take-append-drop 124 bytes,
+    )
+cell_read (suc level) bytes long fits spells = (
+  record { key_length = omega (arith, length-take 124 bytes); key_bytes = IsBytes-take 124 bytes fits; value = omega arith },
+  append-nil (take 124 bytes) ∙ take_all 124 bytes (omega arith),
+)
 
 -- the bytes of a value spell one
 SpellsValue-value_bytes : (v : List ℕ) → IsValue v → SpellsValue (value_bytes (Some v))

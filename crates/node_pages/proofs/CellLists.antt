@@ -1,14 +1,8 @@
 -- Cells one behind the other: reading them in a loop.
-use Rattle.std.proofs.Common.{◌≡◌, ℕ, zero, suc, ◌+◌, ◌-◌, ◌*◌, ◌≤◌, ◌<◌, ◌↔◌, List, [], ◌∷◌, ◌++◌, map, length, take, drop, get_or, refl, sym, ap, ap₂, subst, ◌∙◌, arith, append_assoc, Less, mul-suc}
-use Rattle.std.specs.List.{flat_map, AllByRecursion}
-use Rattle.std.specs.List.Sorted.{IsStrictlySortedBy}
-use Rattle.std.proofs.lemmas.List.{length-take, length-drop, take_at, drop_at, take-append-drop, drop-drop, take-take}
-use Rattle.store_model.specs.Lists.{IsBytes}
+use Rattle.std.proofs.Common.{◌≡◌, ℕ, zero, suc, ◌+◌, ◌-◌, ◌*◌, ◌≤◌, ◌<◌, ◌↔◌, List, [], length, take, drop, sym, ap, subst, ◌∙◌, arith, Less, mul-suc}
+use Rattle.std.proofs.lemmas.List.{length-drop, take-take}
 use Rattle.store_model.specs.Paths.{key_cmp}
-use Rattle.store_model.specs.Pages.{Cell, IsCell}
-use Rattle.store_model.specs.Images.{cell_bytes}
-use Rattle.node_pages.specs.Cells.{cell_size, cell_in, cells_in, SpellsCell, SpellsRising}
-use Rattle.node_pages.proofs.CellBytes.{IsBytes-take, IsBytes-drop, length-cell_bytes, cell_read, SpellsCell-cell_bytes}
+use Rattle.node_pages.specs.Cells.{cell_size, SpellsCell, SpellsRising}
 
 -- after so many cells of a count, the bytes spell them all where the rest spells the others
 pub record GoesOn (level count done : ℕ) (bytes last rest : List ℕ) : Type 0 where
@@ -24,9 +18,10 @@ first_cell : (level left : ℕ) (last rest cell key : List ℕ) → cell ≡ tak
 unfolding SpellsRising
 first_cell level left last rest cell key cell_is key_is long =
     let key_same : take 124 rest ≡ key = sym (take-take 124 (cell_size level) rest long) ∙ ap (take 124) (sym cell_is) ∙ sym key_is in
-    let P : List ℕ → List ℕ → Type 0 = λ x k. SpellsCell level x × (key_cmp last k ≡ Less) × SpellsRising level k left (drop (cell_size level) rest) in
-    (λ h. subst (λ x. P x key) (sym cell_is) (subst (P (take (cell_size level) rest)) key_same h),
-     λ h. subst (P (take (cell_size level) rest)) (sym key_same) (subst (λ x. P x key) cell_is h))
+    let P : List ℕ → List ℕ → Type 0 = λ x k. SpellsCell level x × (key_cmp last k ≡ Less) × SpellsRising level k left (drop (cell_size level) rest) in (
+      λ h. subst (λ x. P x key) (sym cell_is) (subst (P (take (cell_size level) rest)) key_same h),
+      λ h. subst (P (take (cell_size level) rest)) (sym key_same) (subst (λ x. P x key) cell_is h),
+    )
 
 pub key_within : (level : ℕ) → 124 ≤ cell_size level
 key_within zero = omega arith
@@ -40,9 +35,10 @@ next_cell level count done bytes last rest cell after key below so_far cell_is a
     let left : count - done ≡ suc (count - (done + 1)) = omega arith in
     let first = first_cell level (count - (done + 1)) last rest cell key cell_is key_is (key_within level) in
     let to = λ (h : Whole level count bytes). first.0 (subst (λ n. SpellsRising level last n rest) left (so_far.same.0 h)) in
-    let from = λ (h : SpellsCell level cell × (key_cmp last key ≡ Less) × SpellsRising level key (count - (done + 1)) (drop (cell_size level) rest)). so_far.same.1 (subst (λ n. SpellsRising level last n rest) (sym left) (first.1 h)) in
-    (λ h. (let all = to h in (all.0, all.1, subst (SpellsRising level key (count - (done + 1))) (sym after_is) all.2)),
-     λ h. from (h.0, h.1, subst (SpellsRising level key (count - (done + 1))) after_is h.2))
+    let from = λ (h : SpellsCell level cell × (key_cmp last key ≡ Less) × SpellsRising level key (count - (done + 1)) (drop (cell_size level) rest)). so_far.same.1 (subst (λ n. SpellsRising level last n rest) (sym left) (first.1 h)) in (
+      λ h. (let all = to h in (all.0, all.1, subst (SpellsRising level key (count - (done + 1))) (sym after_is) all.2)),
+      λ h. from (h.0, h.1, subst (SpellsRising level key (count - (done + 1))) after_is h.2),
+    )
 
 -- where the next bytes are no cell above the last, nor are all
 pub goes_on : (level count done : ℕ) (bytes last rest cell after key : List ℕ) → done < count → GoesOn level count done bytes last rest
@@ -70,6 +66,8 @@ none_read level count bytes last room last_is =
     let all : count ≡ count - 0 = omega arith in
     record {
       room = subst (λ n. cell_size level * n ≤ length bytes) all room;
-      same = (λ h. subst (λ (k : List ℕ). SpellsRising level k (count - 0) bytes) (sym last_is) (subst (λ n. SpellsRising level [] n bytes) all h),
-              λ h. subst (λ n. SpellsRising level [] n bytes) (sym all) (subst (λ (k : List ℕ). SpellsRising level k (count - 0) bytes) last_is h));
+      same = (
+        λ h. subst (λ (k : List ℕ). SpellsRising level k (count - 0) bytes) (sym last_is) (subst (λ n. SpellsRising level [] n bytes) all h),
+        λ h. subst (λ n. SpellsRising level [] n bytes) (sym all) (subst (λ (k : List ℕ). SpellsRising level k (count - 0) bytes) last_is h),
+      );
     }

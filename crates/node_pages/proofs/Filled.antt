@@ -1,6 +1,6 @@
 -- Writes over zeros: what is written stands there, and zeros behind it.
-use Rattle.std.proofs.Common.{◌≡◌, ℕ, zero, suc, ◌+◌, ◌-◌, ◌<◌, ◌≤◌, List, [], ◌∷◌, ◌++◌, length, take, drop, get_or, replicate, refl, sym, ap, subst, ◌∙◌, arith, append_assoc, length-append, All}
-use Rattle.std.proofs.lemmas.List.{take_at, drop_at, drop_all, append-nil, length-replicate, length-drop, length-take, drop-replicate, replicate-append-replicate}
+use Rattle.std.proofs.Common.{◌≡◌, ℕ, ◌+◌, ◌-◌, ◌≤◌, List, [], ◌++◌, length, drop, sym, ap, ◌∙◌, arith, append_assoc, length-append}
+use Rattle.std.proofs.lemmas.List.{take_at, drop_at, drop_all, append-nil, length-replicate, length-drop, drop-replicate, replicate-append-replicate}
 use borrow.Rule.Slice.PartMut.{put_mid}
 use Rattle.store_model.specs.Lists.{zeros, zero_filled}
 
@@ -14,14 +14,17 @@ zero_filled-append n xs ys =
     let left : n - length (xs ++ ys) ≡ n - length xs - length ys = omega (arith, length-append xs ys) in
     ap (λ m. (xs ++ ys) ++ zeros m) left ∙ append_assoc xs ys (zeros (n - length xs - length ys))
 
+-- zeros behind zeros
+pub zeros-zeros : (m n k : ℕ) → m + n ≡ k → zeros m ++ zeros n ≡ zeros k
+zeros-zeros m n k sum = replicate-append-replicate m n 0 ∙ ap zeros sum
+
 -- what is zero-filled, zero-filled further
 pub zero_filled-zero_filled : (n m : ℕ) (xs : List ℕ) → length xs ≤ n → n ≤ m → zero_filled m (zero_filled n xs) ≡ zero_filled m xs
 unfolding zero_filled
 zero_filled-zero_filled n m xs fits more =
-    let long : m - length (xs ++ zeros (n - length xs)) ≡ m - n = omega (arith, length-append xs (zeros (n - length xs)), length-zeros (n - length xs)) in
-    let sum : n - length xs + (m - n) ≡ m - length xs = omega arith in
-    ap (λ k. (xs ++ zeros (n - length xs)) ++ zeros k) long ∙ append_assoc xs (zeros (n - length xs)) (zeros (m - n))
-    ∙ ap (λ (ys : List ℕ). xs ++ ys) (replicate-append-replicate (n - length xs) (m - n) 0 ∙ ap zeros sum)
+    let fill = n - length xs in
+    let long : m - length (xs ++ zeros fill) ≡ m - n = omega (arith, length-append xs (zeros fill), length-zeros fill) in
+    ap (λ k. (xs ++ zeros fill) ++ zeros k) long ∙ append_assoc xs (zeros fill) (zeros (m - n)) ∙ ap (λ (ys : List ℕ). xs ++ ys) (zeros-zeros fill (m - n) (m - length xs) (omega arith))
 
 pub length-zero_filled : (n : ℕ) (xs : List ℕ) → length xs ≤ n → length (zero_filled n xs) ≡ n
 unfolding zero_filled

@@ -2,3 +2,4 @@ pub mod CellBytes
 pub mod Filled
 pub mod CellLists
 pub mod PageBytes
+pub mod Runs

@@ -1,20 +1,22 @@
 -- Pages and their slots: what stands where in a slot, and that a slot is one page's alone.
-use Rattle.std.proofs.Common.{◌≡◌, ℕ, zero, suc, ◌+◌, ◌-◌, ◌*◌, ◌≤◌, ◌<◌, ◌↔◌, Bool, List, [], ◌∷◌, ◌++◌, map, length, take, drop, get_or, slice_index, refl, sym, ap, ap₂, subst, ◌∙◌, arith, append_assoc, length-append, cond, true, false, ◌==◌, Less, mul-suc, mul-le-mul_left, take-add, Some}
+use Rattle.std.proofs.Common.{◌≡◌, ℕ, zero, suc, ◌+◌, ◌-◌, ◌*◌, ◌≤◌, ◌<◌, Bool, List, [], ◌∷◌, ◌++◌, map, length, take, drop, set, slice_index, refl, sym, ap, ap₂, subst, ◌∙◌, arith, append_assoc, length-append, cond, true, false, ◌==◌, Less, mul-suc, mul-le-mul_left, take-add, Some}
 use Rattle.std.specs.Prelude.{slice_get}
 use Rattle.std.specs.List.{flat_map, AllByRecursion}
 use Rattle.std.specs.List.Sorted.{IsStrictlySortedBy}
 use Rattle.std.specs.Cmp.Lexicographic.{nat_list_cmp_total}
-use Rattle.std.proofs.lemmas.List.{take_at, drop_at, take_all, get_or_at, append-nil, length-take, length-take-le, length-drop, drop-drop, take-take, take-append-drop, drop_more, length_push}
+use Rattle.std.proofs.lemmas.List.{take_at, drop_at, get_or_at, append-nil, length-take-le, length-drop, drop-drop, take-take, take-append-drop, drop_more, length_push, set_split, drop-set-lt}
 use Rattle.store_model.specs.Lists.{IsBytes, zeros, zero_filled}
 use Rattle.store_model.specs.Paths.{key_cmp}
 use Rattle.store_model.specs.Labels.{Label, IsLabel, label_bytes}
 use Rattle.store_model.specs.Pages.{Cell, Page, page_room, IsCell, IsPage}
 use Rattle.store_model.specs.Images.{value_bytes, cell_bytes, page_bytes}
-use Rattle.store_model.proofs.ListsLemmas.{all_weaker, rising_nil, rising_cons, rising_head, rising_tail}
+use Rattle.store_model.proofs.ListsLemmas.{all_weaker, all_append, rising_nil, rising_cons, rising_head, rising_tail}
 use Rattle.store_base.proofs.LabelBytes.{length-label_bytes, label_bytes-same}
-use Rattle.node_pages.specs.Cells.{cell_size, cell_in, cells_in, page_in, SpellsCell, SpellsRising, SpellsCells, IsSlotOf}
-use Rattle.node_pages.proofs.Filled.{zero_filled-append, length-zeros, length-zero_filled}
-use Rattle.node_pages.proofs.CellBytes.{IsBytes-take, IsBytes-drop, length-cell_bytes, length-cells_bytes, cell_read, cells_in-cell_bytes, SpellsCell-cell_bytes}
+use borrow.Rule.Slice.PartMut.{put_mid}
+use Rattle.store_base.proofs.Orders.{IsBytes-take, IsBytes-drop}
+use Rattle.node_pages.specs.Cells.{appended, cell_size, cell_in, cells_in, page_in, SpellsCell, SpellsRising, SpellsCells, IsSlotOf}
+use Rattle.node_pages.proofs.Filled.{zero_filled-append, length-zeros, put_mid_to_end, written_behind}
+use Rattle.node_pages.proofs.CellBytes.{length-cell_bytes, length-cells_bytes, cell_read, cells_in-cell_bytes, SpellsCell-cell_bytes}
 use Rattle.node_pages.proofs.CellLists.{key_within}
 
 pub length-cells_in : (level count : ℕ) (bytes : List ℕ) → length (cells_in level count bytes) ≡ count
@@ -66,11 +68,12 @@ cells_are_spelled level last (cell ∷ cells) rest each above rising =
     let rest_is : drop size (cell_bytes cell ++ behind) ≡ behind = drop_at (cell_bytes cell) behind size long in
     let key_is : take 124 (cell_bytes cell ++ behind) ≡ cell.key = sym (take-take 124 size (cell_bytes cell ++ behind) (key_within level)) ∙ ap (take 124) first_is ∙ key_of_bytes level cell each.0 in
     let P : List ℕ → Type 0 = λ bytes. SpellsCell level (take size bytes) × (key_cmp last (take 124 bytes) ≡ Less) × SpellsRising level (take 124 bytes) (length cells) (drop size bytes) in
-    subst P (sym regrouped)
-    (subst (SpellsCell level) (sym first_is) (SpellsCell-cell_bytes level cell each.0),
-     subst (λ k. key_cmp last k ≡ Less) (sym key_is) above.0,
-     subst (λ k. SpellsRising level k (length cells) (drop size (cell_bytes cell ++ behind))) (sym key_is)
-       (subst (SpellsRising level cell.key (length cells)) (sym rest_is) (cells_are_spelled level cell.key cells rest each.1 (rising_head key_cmp cell.key (map (λ (c : Cell). c.key) cells) rising) (rising_tail key_cmp cell.key (map (λ (c : Cell). c.key) cells) rising))))
+    subst P (sym regrouped) (
+      subst (SpellsCell level) (sym first_is) (SpellsCell-cell_bytes level cell each.0),
+      subst (λ k. key_cmp last k ≡ Less) (sym key_is) above.0,
+      subst (λ k. SpellsRising level k (length cells) (drop size (cell_bytes cell ++ behind))) (sym key_is)
+          (subst (SpellsRising level cell.key (length cells)) (sym rest_is) (cells_are_spelled level cell.key cells rest each.1 (rising_head key_cmp cell.key (map (λ (c : Cell). c.key) cells) rising) (rising_tail key_cmp cell.key (map (λ (c : Cell). c.key) cells) rising))),
+    )
 
 -- ---- pages
 
@@ -262,3 +265,119 @@ cell_within level count i area room below long =
 -- a page's slot spells its cells
 pub spelled_in_slot : (label : Label) (slot : List ℕ) → IsSlotOf label slot → SpellsCells label.level (slice_index slot 131) (drop 132 slot)
 spelled_in_slot label slot is = cells_spelled (page_in label slot) slot is.page is.bytes
+
+-- ---- one cell more
+
+-- behind the cells of a page stand zeros
+pub blank_behind : (page : Page) (slot : List ℕ) → IsLabel page.label → AllByRecursion (IsCell page.label.level) page.cells → page_bytes page ≡ slot
+    → drop (cell_size page.label.level * slice_index slot 131) (drop 132 slot) ≡ zeros (3964 - cell_size page.label.level * slice_index slot 131)
+unfolding zero_filled
+blank_behind page slot valid each spells =
+    let parts = parts_of_page page slot valid spells in
+    let flat = flat_map cell_bytes page.cells in
+    let long : length flat ≡ cell_size page.label.level * slice_index slot 131 = length-cells_bytes page.label.level page.cells each ∙ ap (λ n. cell_size page.label.level * n) (sym (count_of_parts _ _ _ slot parts)) in
+    ap (drop (cell_size page.label.level * slice_index slot 131)) (area_of_parts _ _ _ slot parts) ∙ drop_at flat (zeros (3964 - length flat)) (cell_size page.label.level * slice_index slot 131) long ∙ ap (λ n. zeros (3964 - n)) long
+
+flat_map-push : (cells : List Cell) (cell : Cell) → flat_map cell_bytes (cells ++ cell ∷ []) ≡ flat_map cell_bytes cells ++ cell_bytes cell
+flat_map-push [] cell = append-nil (cell_bytes cell)
+flat_map-push (x ∷ cells) cell = ap (λ (xs : List ℕ). cell_bytes x ++ xs) (flat_map-push cells cell) ∙ sym (append_assoc (cell_bytes x) (flat_map cell_bytes cells) (cell_bytes cell))
+
+-- the slot of a page with one more cell
+pub page_bytes-push : (page : Page) (slot : List ℕ) (cell : Cell) → IsLabel page.label → AllByRecursion (IsCell page.label.level) page.cells → page_bytes page ≡ slot
+    → page_bytes (record { label = page.label; cells = page.cells ++ cell ∷ [] }) ≡ appended page.label.level slot (cell_bytes cell)
+unfolding zero_filled
+page_bytes-push page slot cell valid each spells =
+    let parts = parts_of_page page slot valid spells in
+    let level = page.label.level in
+    let flat = flat_map cell_bytes page.cells in
+    let front = 1 ∷ label_bytes page.label in
+    let count_is = count_of_parts _ _ _ slot parts in
+    let before : length flat ≡ cell_size level * slice_index slot 131 = length-cells_bytes level page.cells each ∙ ap (λ n. cell_size level * n) (sym count_is) in
+    let front_is : take 131 slot ≡ front = ap (take 131) parts.whole ∙ take_at front (length page.cells ∷ zero_filled 3964 flat) 131 (ap suc (length-label_bytes page.label valid)) in
+    let cells_are : take (cell_size level * slice_index slot 131) (drop 132 slot) ≡ flat = ap (take (cell_size level * slice_index slot 131)) (area_of_parts _ _ _ slot parts) ∙ take_at flat (zeros (3964 - length flat)) (cell_size level * slice_index slot 131) before in
+    let counted : length (page.cells ++ cell ∷ []) ≡ slice_index slot 131 + 1 = length_push page.cells cell ∙ ap (λ n. n + 1) (sym count_is) in
+    let area_is : zero_filled 3964 (flat_map cell_bytes (page.cells ++ cell ∷ [])) ≡ flat ++ zero_filled (3964 - cell_size level * slice_index slot 131) (cell_bytes cell) =
+    ap (zero_filled 3964) (flat_map-push page.cells cell) ∙ zero_filled-append 3964 flat (cell_bytes cell) ∙ ap (λ n. flat ++ zero_filled (3964 - n) (cell_bytes cell)) before in
+    page_parts (page_with page.label (page.cells ++ cell ∷ [])) valid
+    ∙ ap₂ (λ n (xs : List ℕ). front ++ (n ∷ xs)) counted area_is
+    ∙ ap₂ (λ (xs ys : List ℕ). xs ++ ((slice_index slot 131 + 1) ∷ (ys ++ zero_filled (3964 - cell_size level * slice_index slot 131) (cell_bytes cell)))) (sym front_is) (sym cells_are)
+
+-- what a write of the count and of the cell leaves
+pub appended_is : (slot written : List ℕ) (level at k : ℕ) (bytes : List ℕ) → length slot ≡ 4096 → at ≡ 132 + cell_size level * slice_index slot 131 → at ≤ 4096 → 4096 - at ≤ k
+    → written ≡ zero_filled (3964 - cell_size level * slice_index slot 131) bytes → put_mid at k (set slot 131 (slice_index slot 131 + 1)) written ≡ appended level slot bytes
+appended_is slot written level at k bytes long at_is at_fits all written_is =
+    let n = cell_size level * slice_index slot 131 in
+    let v = slice_index slot 131 + 1 in
+    let area = drop 132 slot in
+    let front = take 131 slot ++ (v ∷ take n area) in
+    let area_long : length area ≡ 3964 = omega (arith, length-drop 132 slot) in
+    let counted : set slot 131 v ≡ take 131 slot ++ (v ∷ area) = set_split slot 131 v (omega arith) in
+    let whole : set slot 131 v ≡ front ++ drop n area = counted ∙ ap (λ (xs : List ℕ). take 131 slot ++ (v ∷ xs)) (sym (take-append-drop n area)) ∙ sym (append_assoc (take 131 slot) (v ∷ take n area) (drop n area)) in
+    let front_long : length front ≡ at = omega (arith, length-append (take 131 slot) (v ∷ take n area), length-take-le 131 slot (omega arith), length-take-le n area (omega arith)) in
+    ap (λ (xs : List ℕ). put_mid at k xs written) whole
+    ∙ put_mid_to_end front (drop n area) written at k front_long (omega (arith, length-drop n area))
+    ∙ ap (λ (xs : List ℕ). front ++ xs) written_is ∙ append_assoc (take 131 slot) (v ∷ take n area) (zero_filled (3964 - n) bytes)
+
+-- where the cell is written stand zeros
+pub blank_at : (slot : List ℕ) (level at : ℕ) → at ≡ 132 + cell_size level * slice_index slot 131 → drop (cell_size level * slice_index slot 131) (drop 132 slot) ≡ zeros (3964 - cell_size level * slice_index slot 131)
+    → drop at (set slot 131 (slice_index slot 131 + 1)) ≡ zeros (3964 - cell_size level * slice_index slot 131)
+blank_at slot level at at_is blank =
+    drop-set-lt at slot 131 (slice_index slot 131 + 1) (omega arith) ∙ ap (λ n. drop n slot) at_is ∙ sym (drop-drop (cell_size level * slice_index slot 131) 132 slot) ∙ blank
+
+-- ---- a page with no cell yet
+
+-- the front of a page, written over zeros
+pub begun_is : (label : Label) (blank bytes : List ℕ) → IsLabel label → blank ≡ zeros (length blank) → length blank ≡ 4096 → bytes ≡ label_bytes label → put_mid 1 130 (set blank 0 1) bytes ≡ page_bytes (record { label = label; cells = [] })
+unfolding zero_filled
+begun_is label blank bytes valid blank_is long bytes_are =
+    let front = 1 ∷ label_bytes label in
+    let first : set blank 0 1 ≡ (1 ∷ []) ++ drop 1 blank = set_split blank 0 1 (omega arith) in
+    let bytes_long : length bytes ≡ 130 = ap length bytes_are ∙ length-label_bytes label valid in
+    let behind : 4096 - length front ≡ suc 3964 = omega (arith, length-label_bytes label valid) in
+    ap (λ (xs : List ℕ). put_mid 1 130 xs bytes) first ∙ written_behind blank (1 ∷ []) bytes 1 130 blank_is refl bytes_long
+    ∙ ap₂ (λ n (xs : List ℕ). zero_filled n (1 ∷ xs)) long bytes_are
+    ∙ ap (λ (xs : List ℕ). front ++ xs) (zeros-suc (4096 - length front) 3964 behind)
+    ∙ sym (page_parts (page_with label []) valid)
+
+-- a page with one cell more, and its slot
+pub record IsGrown (page : Page) (cell : Cell) (slot : List ℕ) : Type 0 where
+  pub page_is : IsPage (record { label = page.label; cells = page.cells ++ cell ∷ [] })
+  pub holds : IsSlotOf page.label slot
+  pub read : page_in page.label slot ≡ record { label = page.label; cells = page.cells ++ cell ∷ [] }
+
+pub grown : (page : Page) (old new : List ℕ) (cell : Cell) → IsLabel page.label → AllByRecursion (IsCell page.label.level) page.cells → page_bytes page ≡ old → IsCell page.label.level cell → length page.cells < page_room page.label.level
+    → IsStrictlySortedBy key_cmp (map (λ c. c.key) (page.cells ++ cell ∷ [])) → new ≡ appended page.label.level old (cell_bytes cell) → IsGrown page cell new
+grown page old new cell valid each spells is room rising new_is =
+    let more = page_with page.label (page.cells ++ cell ∷ []) in
+    let counted = length_push page.cells cell in
+    let page_is : IsPage more = record {
+      label = valid;
+      some_cell = omega (arith, counted);
+      room = omega (arith, counted);
+      cells = all_append (IsCell page.label.level) page.cells (cell ∷ []) each (is, tt);
+      rising = rising;
+    } in
+    let bytes : page_bytes more ≡ new = page_bytes-push page old cell valid each spells ∙ sym new_is in
+    record { page_is = page_is; holds = IsSlotOf-page_bytes more new page_is bytes; read = page_in-page_bytes more new valid page_is.cells bytes }
+
+-- how many cells a slot counts
+pub count_in_slot : (page : Page) (slot : List ℕ) → IsLabel page.label → page_bytes page ≡ slot → slice_index slot 131 ≡ length page.cells
+count_in_slot page slot valid spells = count_of_parts _ _ _ slot (parts_of_page page slot valid spells)
+
+-- ---- the front of a slot: 1 and a label
+
+-- a page's slot begins with 1 and its label
+pub front_shown : (page : Page) (slot : List ℕ) → IsPage page → page_bytes page ≡ slot → take 131 slot ≡ 1 ∷ label_bytes page.label
+front_shown page slot is spells =
+    let parts = parts_of_page page slot is.label spells in
+    ap (take 131) parts.whole ∙ take_at (1 ∷ label_bytes page.label) (length page.cells ∷ zero_filled 3964 (flat_map cell_bytes page.cells)) 131 (ap suc (length-label_bytes page.label is.label))
+
+-- what stands at byte 0 and behind it
+pub front_read : (label : Label) (slot : List ℕ) → IsLabel label → take 131 slot ≡ 1 ∷ label_bytes label → (slice_index slot 0 ≡ 1) × (label_bytes label ≡ take 130 (drop 1 slot))
+front_read label [] valid front = absurd (let long = ap length front in omega arith)
+front_read label (b ∷ slot) valid front = (ap (λ (xs : List ℕ). slice_index xs 0) front, sym (ap (drop 1) front))
+
+-- and the other way round
+pub front_is : (slot bytes : List ℕ) → 131 ≤ length slot → slice_index slot 0 ≡ 1 → bytes ≡ take 130 (drop 1 slot) → take 131 slot ≡ 1 ∷ bytes
+front_is [] bytes long first bytes_are = absurd (omega arith)
+front_is (b ∷ slot) bytes long first bytes_are = ap₂ (λ x (xs : List ℕ). x ∷ xs) first (sym bytes_are)

@@ -1,8 +1,8 @@
 -- Where the cells of a page lie in its slot, and how they are read there.
-use Rattle.std.specs.Prelude.{◌≡◌, ℕ, zero, suc, ◌-◌, ◌≤◌, ◌*◌, length, List, [], ◌∷◌, take, drop, Option, Some, None, slice_index}
+use Rattle.std.specs.Prelude.{◌≡◌, ℕ, zero, suc, ◌+◌, ◌-◌, ◌≤◌, ◌*◌, length, List, [], ◌∷◌, ◌++◌, take, drop, Option, Some, None, slice_index}
 use Rattle.std.specs.Int.{w16, from_be_bytes}
 use Rattle.std.specs.declared.cmp.Ordering.TheVariants.{Less}
-use Rattle.store_model.specs.Lists.{zeros}
+use Rattle.store_model.specs.Lists.{zeros, zero_filled}
 use Rattle.store_model.specs.Paths.{key_cmp}
 use Rattle.store_model.specs.Labels.{Label}
 use Rattle.store_model.specs.Pages.{Cell, Page, page_room, IsPage}
@@ -57,3 +57,9 @@ page_in label slot = record { label = label; cells = cells_in label.level (slice
 pub record IsSlotOf (label : Label) (slot : List ℕ) : Type 0 where
   pub page : IsPage (page_in label slot)
   pub bytes : page_bytes (page_in label slot) ≡ slot
+
+-- the slot of a page of the level with one more cell, whose bytes are given: it is counted, and stands behind the others
+abbrev pub appended : ℕ → List ℕ → List ℕ → List ℕ
+appended level slot bytes =
+    let before = cell_size level * slice_index slot 131 in
+    take 131 slot ++ (slice_index slot 131 + 1) ∷ (take before (drop 132 slot) ++ zero_filled (3964 - before) bytes)

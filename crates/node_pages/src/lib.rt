@@ -5,12 +5,12 @@
 #![tactic(auto)]
 
 mod cell;
+mod group;
 mod page;
+mod sequence;
 mod spelling;
 
-
-
 pub use cell::Cell;
-pub use page::{Page, decode_page, encode_page};
-
-
+pub use group::cut_group;
+pub use page::{Page, decode_page, encode_page, label_in};
+pub use sequence::{Cells, PageList, PairList, Sequence};

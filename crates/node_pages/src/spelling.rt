@@ -111,7 +111,11 @@ pub fn read_cell(level: u8, bytes: &[u8]) -> Cell
     let (key, value) = bytes.split_at(KEY_LEN);
     Cell {
         key: read_key(key),
-        value: if level == 0 { Some(read_value(value)) } else { None },
+        value: if level == 0 {
+            Some(read_value(value))
+        } else {
+            None
+        },
     }
 }
 

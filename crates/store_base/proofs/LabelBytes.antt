@@ -1,6 +1,7 @@
 -- The bytes of labels.
-use Rattle.std.proofs.Common.{◌≡◌, ℕ, ◌<◌, ◌≤◌, List, [], ◌∷◌, ◌++◌, length, take, drop, slice_index, refl, ap, sym, ◌∙◌, Bool, true, false, nat_eq, ◌&&◌, arith, rules, length-append}
-use Rattle.store_base.proofs.Orders.{append-same, IsBytes-cons, IsBytes-append, IsBytes-zeros, IsBytes-take, IsBytes-drop, IsBytes-to_be_bytes, to_be_bytes-same, ordering_then-then, slice_cmp-append, slice_cmp-to_be_bytes, pointwise-append, pointwise-to_be_bytes}
+use Rattle.std.proofs.Common.{◌≡◌, ℕ, ◌<◌, ◌≤◌, List, [], ◌∷◌, ◌++◌, length, take, drop, slice_index, refl, ap, sym, ◌∙◌, Bool, true, false, nat_eq, ◌&&◌, arith, length-append}
+use Rattle.store_model.proofs.ListsLemmas.{then_assoc, slice_cmp-append, be_bytes_order}
+use Rattle.store_base.proofs.Orders.{append-same, IsBytes-cons, IsBytes-append, IsBytes-zeros, IsBytes-take, IsBytes-drop, IsBytes-to_be_bytes, to_be_bytes-same, pointwise-append, pointwise-to_be_bytes}
 use Rattle.std.proofs.lemmas.List.{take_at, take_all, length-take, length-drop, take-append-drop}
 use Rattle.std.proofs.lemmas.Nat.{be_bytes_4}
 use Rattle.std.proofs.Math.Bool.{and_comm}
@@ -63,9 +64,9 @@ label_bytes-same a b a_valid b_valid same =
 pub label_cmp-parts : (a b : Label) → IsLabel a → IsLabel b → label_cmp a b ≡ ordering_then (ordering_then (nat_cmp a.level b.level) (slice_cmp nat_cmp (lead_bytes a.lead) (lead_bytes b.lead))) (nat_cmp a.index b.index)
 unfolding label_bytes
 label_cmp-parts a b a_valid b_valid =
-    ap (ordering_then (nat_cmp a.level b.level)) (slice_cmp-append (lead_bytes a.lead) (lead_bytes b.lead) (to_be_bytes w32 a.index) (to_be_bytes w32 b.index) (length-lead_bytes a.lead a_valid.lead ∙ sym (length-lead_bytes b.lead b_valid.lead)))
-    ∙ sym (ordering_then-then (nat_cmp a.level b.level) (slice_cmp nat_cmp (lead_bytes a.lead) (lead_bytes b.lead)) (slice_cmp nat_cmp (to_be_bytes w32 a.index) (to_be_bytes w32 b.index)))
-    ∙ ap (ordering_then (ordering_then (nat_cmp a.level b.level) (slice_cmp nat_cmp (lead_bytes a.lead) (lead_bytes b.lead)))) (slice_cmp-to_be_bytes a.index b.index a_valid.index b_valid.index)
+    ap (ordering_then (nat_cmp a.level b.level)) (slice_cmp-append nat_cmp (lead_bytes a.lead) (lead_bytes b.lead) (to_be_bytes w32 a.index) (to_be_bytes w32 b.index) (length-lead_bytes a.lead a_valid.lead ∙ sym (length-lead_bytes b.lead b_valid.lead)))
+    ∙ sym (then_assoc (nat_cmp a.level b.level) (slice_cmp nat_cmp (lead_bytes a.lead) (lead_bytes b.lead)) (slice_cmp nat_cmp (to_be_bytes w32 a.index) (to_be_bytes w32 b.index)))
+    ∙ ap (ordering_then (ordering_then (nat_cmp a.level b.level) (slice_cmp nat_cmp (lead_bytes a.lead) (lead_bytes b.lead)))) (be_bytes_order a.index b.index a_valid.index b_valid.index)
 
 swap_tests : (a b c : Bool) → (a && (b && c)) ≡ ((a && c) && b)
 swap_tests true b c = and_comm b c

@@ -15,8 +15,10 @@ pub mod PlacementLemmasOrder
 pub mod PlacementLemmasTrees
 pub mod ScriptsLemmas
 pub mod TreesLemmas
+pub mod TreesLemmasBytes
 pub mod TreesLemmasFewer
 pub mod TreesLemmasFits
+pub mod TreesLemmasLayouts
 pub mod TreesLemmasMoves
 pub mod TreesLemmasPaths
 pub mod TreesLemmasSteps

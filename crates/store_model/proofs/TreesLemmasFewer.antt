@@ -17,6 +17,7 @@ use Rattle.store_model.specs.Pairs.{Pair}
 use Rattle.store_model.specs.Pages.{Cell, page_room, cell_on, level_list, leads_group, groups, lead_of, group_pages, level_pages, pages_of_pairs}
 use Rattle.store_model.proofs.ListsLemmas.{all_weaker, length-runs, rising_head, rising_tail, rising_from_is_sorted}
 use Rattle.store_model.proofs.PagesLemmasOrder.{cell_on-key}
+use Rattle.store_model.proofs.TreesLemmasPaths.{tie_from_test}
 
 -- ---- a list with some elements left out
 
@@ -189,10 +190,11 @@ length-flat_map_parts cost f (part ∷ parts) e = length-append (f part) (flat_m
 abbrev pub keys_of : List Pair → List (List ℕ)
 keys_of s = map (λ pair. pair.0) s
 
--- whether a list of keys is cut before a key, and whether the key stands on the level
+-- whether a list of keys is cut before a key
 abbrev leads_level : Draw → ℕ → List ℕ → Bool
 leads_level d level k = nat_lt level (d.level k)
 
+-- whether a key stands on a level
 abbrev on_level : Draw → ℕ → List ℕ → Bool
 on_level d level k = nat_le level (d.level k)
 
@@ -268,12 +270,6 @@ with_first : {X : Type 0} (b : Bool) (x : X) (o : Option X) → is_some o ≡ tr
 with_first true x o h = refl
 with_first false x o h = h
 
--- keys that the test takes for the same tie
-tie_of_test : (o : Ordering) → is_eq o ≡ true → o ≡ Equal
-tie_of_test Less e = cc
-tie_of_test Equal e = refl
-tie_of_test Greater e = cc
-
 module _ {K X : Type 0} (c : K → K → Ordering) (o : IsTotalOrder c) (same : (x y : K) → c x y ≡ Equal → x ≡ y) where
   -- a key that is found in one sorted list is found in the other
   abbrev IsFoundIn : List (K × X) → List (K × X) → Type 0
@@ -287,7 +283,7 @@ module _ {K X : Type 0} (c : K → K → Ordering) (o : IsTotalOrder c) (same : 
   found_behind : (f : K × X) (r s : List (K × X)) → IsFoundIn r (f ∷ s) → (is_some (find c f.0 r) ≡ true → ⊥) → IsFoundIn r s
   found_behind f r s h apart k is =
       behind_first (eq_by_cmp c k f.0) f.1 (find c k s)
-      (false_from_ne_true _ (λ t. apart (ap (λ q. is_some (find c q r)) (sym (same k f.0 (tie_of_test (c k f.0) t))) ∙ is))) (h k is)
+      (false_from_ne_true _ (λ t. apart (ap (λ q. is_some (find c q r)) (sym (same k f.0 (tie_from_test (c k f.0) t))) ∙ is))) (h k is)
 
   -- so its keys are the other's with some left out
   thinned_keys : (r s : List (K × X)) → IsStrictlySortedBy (λ a b. c a.0 b.0) r → IsStrictlySortedBy (λ a b. c a.0 b.0) s → IsFoundIn r s → IsThinned (map (λ e. e.0) r) (map (λ e. e.0) s)

@@ -1,21 +1,21 @@
 -- Lemmas on trees that fit: each command keeps a tree that fits.
 use Rattle.std.proofs.Common.{◌≡◌, ℕ, ◌+◌, ◌≤◌, List, [], ◌∷◌, ◌++◌, map, length, take, Bool, true, false, ◌&&◌, ◌⊎◌, inl, inr, cond, not, nat_lt, Option, Some, None, is_some, Result, Ok, Err, Less, Equal, Greater, refl, sym, ap, subst, ◌∙◌, arith, ltb-false}
 use Rattle.std.specs.Ordering.{is_eq}
-use Rattle.std.specs.List.{filter, enumerate_from}
+use Rattle.std.specs.List.{filter, flat_map, enumerate_from}
 use Rattle.std.specs.List.Sorted.{IsStrictlySortedBy}
 use Rattle.std.specs.FinMap.{find, put}
 use Rattle.std.specs.FinMap.Entries.{by_order}
 use Rattle.std.proofs.lemmas.Bool.{and_cases, not-false, cond_both}
 use Rattle.std.proofs.lemmas.List.{map-append, length-take}
 use Rattle.store_model.specs.declared.refusal.Refusal.{Refusal}
-use Rattle.store_model.specs.Lists.{runs}
+use Rattle.store_model.specs.Lists.{runs, cut_before, numbers_below}
 use Rattle.store_model.specs.Parameters.{Parameters}
 use Rattle.store_model.specs.Paths.{Path, path_cmp, same_path, is_at_or_inside, key}
-use Rattle.store_model.specs.Trees.{Tree, Node, IsTree, is_directory, is_directory_node, exists, contents, contents_of, with_node, without, without_subtree}
+use Rattle.store_model.specs.Trees.{Tree, empty_tree, Node, IsTree, is_directory, is_directory_node, exists, contents, contents_of, with_node, without, without_subtree}
 use Rattle.store_model.specs.Trees.Node.{Directory, File}
 use Rattle.store_model.specs.Pairs.{Pair, file_block, node_pairs, pairs}
-use Rattle.store_model.specs.Draws.{draw_of}
-use Rattle.store_model.specs.Pages.{page_count, Fits, pages}
+use Rattle.store_model.specs.Draws.{Draw, draw_of}
+use Rattle.store_model.specs.Pages.{level_list, groups, level_pages, pages_of_pairs, page_count, Fits, pages}
 use Rattle.store_model.specs.Commands.{Command}
 use Rattle.store_model.specs.Commands.Command.{Make, Write, Cut, Rename, Remove, Prune, ListChildren, Read, Space, Digest}
 use Rattle.store_model.specs.Steps.{Step, conditions, refusal_of, next_tree, may_fill, step, step_by}
@@ -158,3 +158,20 @@ pub Fits-tree_after : (t : Tree) (texts : List (List ℕ)) (p : Parameters) → 
 unfolding tree_after
 Fits-tree_after t texts p h fits =
     (tree_by_keeps (λ u. IsTree u × Fits u p) (λ u text. answer u text p) (λ u text g. (IsTree-answer u text p g.0, Fits-answer u text p g.0 g.1)) t texts (h, fits)).1
+
+-- ---- the empty tree
+
+-- no pairs have no pages
+no_pages : (d : Draw) (levels : List ℕ) → flat_map (level_pages d []) levels ≡ []
+unfolding level_pages groups level_list cut_before
+no_pages d [] = refl
+no_pages d (level ∷ levels) = no_pages d levels
+
+-- the empty tree fits
+pub Fits-empty : (p : Parameters) → Fits empty_tree p
+unfolding pages pages_of_pairs pairs
+Fits-empty p = omega (arith, ap length (no_pages (draw_of p) (numbers_below (draw_of p).height)))
+
+-- and is a tree
+pub IsTree-empty : IsTree empty_tree
+IsTree-empty = record { sorted = refl; entries = tt }

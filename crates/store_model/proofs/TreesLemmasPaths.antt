@@ -20,7 +20,7 @@ pub same_from_tie : (p q : Path) → path_cmp p q ≡ Equal → p ≡ q
 same_from_tie = slice_cmp-IsAntisymmetric (slice_cmp-IsAntisymmetric nat_cmp-IsAntisymmetric)
 
 -- the answer `Equal`, from its test
-tie_from_test : (o : Ordering) → is_eq o ≡ true → o ≡ Equal
+pub tie_from_test : (o : Ordering) → is_eq o ≡ true → o ≡ Equal
 tie_from_test Less e = cc
 tie_from_test Equal e = refl
 tie_from_test Greater e = cc

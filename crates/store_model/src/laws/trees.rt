@@ -1,20 +1,28 @@
-//! Laws of commands and trees: which lines are commands, and what they keep of a tree.
+//! Laws of commands and trees: which lines are commands, what they keep of a tree, and that layouts tell trees
+//! apart.
 #![tactic(auto)]
 
 ghost use Rattle.std.specs.Prelude.{◌≡◌, ℕ, ◌≤◌, List, map, length, Bool, true, false, is_some, IsTrue, Ok};
 ghost use Rattle.std.specs.FinMap.{find, is_sorted};
 ghost use Rattle.std.specs.List.{filter};
-ghost use Rattle.store_model.specs.Parameters.{Parameters};
+ghost use Rattle.store_model.specs.Parameters.{Parameters, IsParameters};
 ghost use Rattle.store_model.specs.Paths.{Path, is_root, is_path, key_cmp, parent};
-ghost use Rattle.store_model.specs.Trees.{Tree, IsTree, is_directory, exists};
+ghost use Rattle.store_model.specs.Trees.{Tree, empty_tree, IsTree, is_directory, exists};
 ghost use Rattle.store_model.specs.Pairs.{Pair};
 ghost use Rattle.store_model.specs.Draws.{Draw};
 ghost use Rattle.store_model.specs.Pages.{Fits, pages_of_pairs};
+ghost use Rattle.store_model.specs.Images.{layout, Represents};
 ghost use Rattle.store_model.specs.Commands.{Command, IsCommand};
 ghost use Rattle.store_model.specs.Commands.Command.{Make};
 ghost use Rattle.store_model.specs.Steps.{next_tree, step};
 ghost use Rattle.store_model.specs.Grammar.{parse};
 ghost use Rattle.store_model.specs.Scripts.{answer, tree_after};
+
+/// The empty tree is a tree, and fits any table.
+pub fn empty_tree_is_a_tree()
+    ensures tree { IsTree empty_tree }
+    ensures fits { (p : Parameters) → Fits empty_tree p }
+{}
 
 /// A tree stays one when a directory is made at a path other than the root, where nothing stands and whose
 /// parent is a directory.
@@ -61,4 +69,13 @@ pub fn answers_keep_fitting()
     ensures line { (t : Tree) (text : List ℕ) (p : Parameters) → IsTree t → Fits t p → Fits (answer t text p).tree p }
     ensures lines { (t : Tree) (texts : List (List ℕ)) (p : Parameters) → IsTree t → Fits t p →
         Fits (tree_after t texts p) p }
+{}
+
+/// Two layouts with the same bytes are of the same tree and the same parameters. So an image represents one tree
+/// at most, under one list of parameters.
+pub fn layouts_tell_trees_apart()
+    ensures layout { (t u : Tree) (p q : Parameters) → IsParameters p → IsParameters q → IsTree t → IsTree u →
+        Fits t p → Fits u q → layout t p ≡ layout u q → (t ≡ u) × (p ≡ q) }
+    ensures image { (image : List ℕ) (t u : Tree) (p q : Parameters) → Represents image t p → Represents image u q →
+        (t ≡ u) × (p ≡ q) }
 {}

@@ -1,5 +1,3 @@
-use Rattle.std.proofs.Common.{[], ◌-◌, ◌*◌, ◌≤◌, ◌↔◌, length}
-use Rattle.node_pages.specs.Cells.{cell_size, SpellsRising}
 use Rattle.node_pages.proofs.CellLists.{GoesOn}
 use Rattle.node_pages.proofs.spelling.are_cells.Given as goal
 

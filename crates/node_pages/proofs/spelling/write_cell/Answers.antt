@@ -1,4 +1,4 @@
-use Rattle.std.proofs.Common.{◌≡◌, ◌+◌, ◌-◌, ◌≤◌, ◌++◌, length, drop, take, ap, subst, ◌∙◌, sym, refl, arith, Some, None}
+use Rattle.std.proofs.Common.{◌≡◌, ◌-◌, ◌++◌, length, drop, ap, ◌∙◌, sym, refl, arith, Some}
 use Rattle.std.proofs.lemmas.List.{length-drop, length-take-le, length-append}
 use Rattle.store_model.specs.Lists.{zeros, zero_filled}
 use Rattle.store_model.specs.Pages.{Cell}

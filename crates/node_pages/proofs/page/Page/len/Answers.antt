@@ -1,4 +1,4 @@
-use Rattle.std.proofs.Common.{◌≡◌, length, drop, slice_index, sym, ap, ◌∙◌}
+use Rattle.std.proofs.Common.{length, drop, slice_index, sym, ap, ◌∙◌}
 use Rattle.store_model.specs.Pages.{Page}
 use Rattle.node_pages.proofs.PageBytes.{length-cells_in}
 use Rattle.node_pages.proofs.page.Page.len.Goals as goal
