@@ -1,3 +1,4 @@
+pub mod FieldLemmas
 pub mod Held
 pub mod LineLemmas
 pub mod Pieces
