@@ -1,4 +1,3 @@
-pub mod FieldLemmas
 pub mod Held
 pub mod LineLemmas
 pub mod Pieces

@@ -1,7 +1,6 @@
 pub mod LineState
 pub mod Lines
 pub mod Memory
-pub mod Parsing
 pub mod Placed
 pub mod SinkState
 pub mod SourceState

@@ -2,16 +2,13 @@
 //! commands that they spell, and the text of replies.
 #![tactic(auto)]
 
-mod command;
 mod fault;
-mod fields;
 mod lines;
 mod memory;
 mod sink;
 mod source;
 mod std_io;
 
-pub use command::{Command, parse_command};
 pub use fault::{SinkFault, SourceFault};
 pub use lines::{Line, LineFault, LineReader, MAX_LINE, MAX_SCRIPT};
 pub use memory::{MemSink, MemSource};

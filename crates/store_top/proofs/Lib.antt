@@ -1,2 +1,4 @@
 pub mod WordsLemmas
 pub mod SlotLayout
+pub mod FormatLemmas
+pub mod SlotPaths

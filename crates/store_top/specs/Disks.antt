@@ -1,5 +1,5 @@
 -- What calls do to a disk, one after another, and what a disk holds between two commands.
-use Rattle.std.specs.Prelude.{◌≡◌, ◌↔◌, ◌≤◌, List}
+use Rattle.std.specs.Prelude.{◌≡◌, ◌↔◌, ℕ, ◌≤◌, List}
 use Rattle.store_model.specs.Parameters.{Parameters}
 use Rattle.store_model.specs.Trees.{Tree}
 use Rattle.store_model.specs.Images.{layout}

@@ -84,5 +84,5 @@ pub record IsTopLayout (image : List ℕ) (t : Tree) (p : Parameters) : Type 0 w
 -- the image is the layout of these directories under such parameters
 pub record ShowsPaths (image : List ℕ) (paths : List Path) (p : Parameters) : Type 0 where
   pub today : IsToday p
-  pub paths : ArePaths paths
+  pub valid : ArePaths paths
   pub layout_is : image ≡ layout (tree_of paths) p

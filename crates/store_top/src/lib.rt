@@ -5,6 +5,7 @@
 #![tactic(auto)]
 
 mod format;
+mod slot;
 mod status;
 mod words;
 

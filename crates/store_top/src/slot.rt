@@ -1,6 +1,6 @@
 //! The one slot of an image, and the directories that it holds.
 
-ghost use Rattle.std.specs.Prelude.{◌≡◌, ◌<◌, ◌≤◌, ◌↔◌, ◌+◌, ℕ, List, IsTrue, IsNone, IfSome, IfOk, OnOk, IsErrOf, Ok, None, Some, map, length};
+ghost use Rattle.std.specs.Prelude.{◌≡◌, ◌<◌, ◌≤◌, ◌↔◌, ◌+◌, ℕ, List, IsTrue, IsNone, IfSome, IfOk, OnOk, OnErr, IsErrOf, Ok, None, Some, map, length};
 ghost use Rattle.std.specs.List.{AllByRecursion, insert};
 ghost use Rattle.std.specs.Option.{IsSomeAnd};
 ghost use Rattle.std.specs.FinMap.{is_sorted};
@@ -67,8 +67,7 @@ pub fn with_path(alloc: Global, paths: &[Path], at: usize, path: &Path) -> Resul
 
 /// Whether a path has one name.
 pub fn is_top(path: &Path) -> bool
-    ensures value { IsTrue result ↔ (length path.now ≡ 1) }
-    ensures valid { IsTrue (is_path path.now) }
+    ensures { IsTrue result ↔ (length path.now ≡ 1) }
 {
     match path.parent() {
         Some(parent) => parent.is_root(),
@@ -111,19 +110,29 @@ fn first_label() -> Label
     }
 }
 
-/// The slot of directories right below the root.
-pub fn slot_of(paths: &[Path]) -> Slot
+/// The page of directories right below the root, where there are any.
+fn page_of(paths: &[Path]) -> Option<Page>
     requires { ArePaths paths.now }
-    ensures { result ≡ spec.slot_of paths.now }
+    ensures { result ≡ spec.page_of paths.now }
 {
-    let Some((first, rest)) = paths.split_first() else {
-        return [0; 4096];
-    };
+    let (first, rest) = paths.split_first()?;
     let mut page = Page::new(first_label(), cell_of(first));
     for path in rest {
         page.push(cell_of(path));
     }
-    *page.as_slot()
+    Some(page)
+}
+
+/// The slot of directories right below the root.
+#[tactic(auto, unfolding(store_model::specs::Images::slot_bytes))]
+pub fn slot_of(paths: &[Path]) -> Slot
+    requires { ArePaths paths.now }
+    ensures { result ≡ spec.slot_of paths.now }
+{
+    match page_of(paths) {
+        Some(page) => *page.as_slot(),
+        None => [0; 4096],
+    }
 }
 
 /// The directories whose cells a page has; `None` exactly where a cell is no directory's right below the
