@@ -4,10 +4,20 @@
 //! name and `list /`. All other words are a fault of usage, and all other lines are answered `no syntax`.
 #![tactic(auto)]
 
+mod call;
 mod format;
+mod one_slot;
+mod outcome;
+mod run;
 mod slot;
 mod status;
+
 mod words;
 
+pub use outcome::Outcome;
 pub use status::Status;
+pub use call::top;
 pub use words::{Wanted, Words, wanted_len};
+
+#[cfg(test)]
+mod tests;

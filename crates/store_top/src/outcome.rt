@@ -3,6 +3,7 @@
 use crate::status::Status;
 
 /// What a call of `top` answers, with the disk, the source and the sink that it was given.
+#[derive(Drop)]
 pub struct Outcome<D, R, W> {
     /// How it ended.
     pub status: Status,

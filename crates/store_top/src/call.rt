@@ -10,8 +10,8 @@ use script_lines::{Sink, Source};
 use std::alloc::Global;
 
 /// How a call of `format` ended.
-fn status_of(result: Result<(), FormatFault>) -> Status {
-    match result {
+fn status_of(outcome: Result<(), FormatFault>) -> Status {
+    match outcome {
         Ok(()) => Status::Done,
         Err(FormatFault::Disk) => Status::DiskFault,
         Err(FormatFault::AlreadyImage) => Status::AlreadyImage,
