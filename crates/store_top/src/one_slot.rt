@@ -3,7 +3,7 @@
 //! It keeps its tree as a list of paths, and writes the one slot after each change. What its calls promise
 //! is the definitions' step, so that a store of another make can take its place.
 
-ghost use Rattle.std.specs.Prelude.{◌≡◌, ◌+◌, List, ℕ, length, true, IsErrOf, IfOk, OnOk, OnErr, IfErr, IfSome};
+ghost use Rattle.std.specs.Prelude.{◌≡◌, ◌+◌, List, [], ℕ, length, true, IsErrOf, IfOk, OnOk, OnErr, IfErr, IfSome};
 ghost use Rattle.store_base.specs.Counts.{Rose};
 ghost use Rattle.store_model.specs.Parameters as model;
 ghost use Rattle.store_model.specs.Trees.{Tree};

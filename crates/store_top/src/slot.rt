@@ -157,7 +157,7 @@ fn read_slot(alloc: Global, slot: &Slot) -> Result<Option<Vec<Path>>, NoMemory>
     ensures found { IfOk result (λ found. IfSome found (λ paths. ArePaths paths.items × (slot.now ≡ spec.slot_of paths.items))) }
     ensures only { (paths : List (List (List ℕ))) → ArePaths paths → slot.now ≡ spec.slot_of paths → IfOk result (λ found. IsSomeAnd found (λ v. v.items ≡ paths)) }
 {
-    if slot.iter().all(|byte| *byte == 0) {
+    if are_zero(slot) {
         return Ok(Some(Vec::new(alloc)));
     }
     let Some(page) = decode_page(slot) else {
@@ -167,6 +167,13 @@ fn read_slot(alloc: Global, slot: &Slot) -> Result<Option<Vec<Path>>, NoMemory>
         return Ok(None);
     }
     paths_of(alloc, &page)
+}
+
+/// Whether the bytes are all zero.
+fn are_zero(bytes: &[u8]) -> bool
+    ensures { IsTrue result ↔ (bytes.now ≡ zeros (length bytes.now)) }
+{
+    bytes.iter().all(|byte| *byte == 0)
 }
 
 /// The parameters of an image that is served today; `None` exactly where its header names none, or its
@@ -207,7 +214,7 @@ fn is_journal_empty<D: Disk>(disk: &mut D) -> Result<bool, DiskFault>
 {
     let mut journal = [0; 12_288];
     disk.read_at(gate_at(), &mut journal)?;
-    Ok(journal.iter().all(|byte| *byte == 0))
+    Ok(are_zero(&journal))
 }
 
 /// The directories of an image with such parameters; `None` exactly where it is no layout of directories

@@ -9,6 +9,9 @@ use Rattle.store_top.specs.Disks.{Stands}
 use Rattle.store_top.proofs.FormatLemmas.{written_empty, empty_layout}
 use Rattle.store_top.proofs.format.write_empty.Goals as goal
 
+length-zeros : (n : ℕ) → length (zeros n) ≡ n
+length-zeros n = length-replicate {A = ℕ} n 0
+
 pub returns-clause-formatted : goal.returns-clause-formatted
 returns-clause-formatted g c observable =
     let state = g.D.Disk.state in
@@ -32,7 +35,7 @@ returns-clause-formatted g c observable =
     let behind_is = c.split_at.ensures.back in
     let first_is = c.split_at.ensures.front in
     let bytes : s4.bytes ≡ h ++ zeros 16384 =
-        written_empty s0.bytes s1.bytes s2.bytes s4.bytes h (zeros 16384) size header_size (length-replicate 16384 0)
+        written_empty s0.bytes s1.bytes s2.bytes s4.bytes h (zeros 16384) size header_size (length-zeros 16384)
         (w1 ∙ ap (overwrite s0.bytes 1) behind_is)
         w2
         (w4 ∙ ap (λ xs. overwrite xs 0 c.split_at.result.0.now) y3 ∙ ap (overwrite s2.bytes 0) first_is) in
