@@ -1,6 +1,7 @@
 -- Images with one slot: the directories right below the root, and the page that they make.
 use Rattle.std.specs.Prelude.{◌≡◌, ℕ, ◌<◌, ◌≤◌, List, [], ◌∷◌, map, length, IsTrue, Option, Some, None}
-use Rattle.std.specs.List.{AllByRecursion, insert}
+use Rattle.std.specs.List.{AllByRecursion, AllByRecursion-prop, insert}
+use Rattle.std.proofs.Props.{props}
 use Rattle.std.specs.FinMap.{find, put, is_sorted}
 use Rattle.store_model.specs.declared.draw_kind.DrawKind.TheVariants.{Ruler}
 use Rattle.store_model.specs.Parameters.{Parameters, IsParameters, image_len}
@@ -34,6 +35,12 @@ pub record ArePaths (paths : List Path) : Type 0 where
   pub top : AllByRecursion IsTopPath paths
   pub few : length paths ≤ 10
   pub sorted : IsTrue (is_sorted path_cmp (tree_of paths))
+
+IsTopPath-prop : (path : Path) → IsProp (IsTopPath path)
+IsTopPath-prop path = hlevel props
+
+pub ArePaths-prop : (paths : List Path) → IsProp (ArePaths paths)
+ArePaths-prop paths = hlevel (props, AllByRecursion-prop IsTopPath IsTopPath-prop paths)
 
 -- the cell of a directory
 abbrev pub cell_of : Path → Cell

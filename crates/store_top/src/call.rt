@@ -28,10 +28,12 @@ pub fn top<D: Disk, R: Source, W: Sink>(
     source: R,
     sink: W,
 ) -> Outcome<D, R, W> {
-    match words.request() {
-        None => Outcome { status: Status::Usage, done: 0, disk, source, sink },
-        Some(Request::Run) => run(alloc, disk, source, sink),
-        Some(Request::Format(params)) => {
+    let Some(request) = words.request() else {
+        return Outcome { status: Status::Usage, done: 0, disk, source, sink };
+    };
+    match request {
+        Request::Run => run(alloc, disk, source, sink),
+        Request::Format(params) => {
             let mut disk = disk;
             let status = status_of(format(&mut disk, &params));
             let done = u64::from(status == Status::Done);

@@ -14,7 +14,7 @@ ghost use Rattle.disk_model.specs.DiskState.{IsObservable};
 ghost use Rattle.script_lines.specs.Parsing.{command_of};
 ghost use Rattle.script_lines.specs.Replies.{reply_of};
 ghost use Rattle.store_top.specs.Disks.{KeepsDisk, IsUntouched, Stands};
-ghost use Rattle.store_top.specs.OneSlot.{IsToday, ArePaths, IsTopPath, ShowsPaths, NamesToday, tree_of, slot_of};
+ghost use Rattle.store_top.specs.OneSlot.{IsToday, ArePaths, ArePaths-prop, IsTopPath, ShowsPaths, NamesToday, tree_of, slot_of};
 ghost use Rattle.store_top.specs.Steps.{IsRefused};
 ghost use Rattle.store_top.specs.TodayLines.{is_served};
 ghost use Rattle.store_top.specs.declared.one_slot.AttachFault.TheVariants as faults;
@@ -109,7 +109,7 @@ pub struct OneSlot<D: Disk> {
     paths: Vec<Path>,
     ghost today: { IsToday params },
     ghost sized: { (D.state disk).size ≡ model.image_len params.slots },
-    ghost listed: { ArePaths paths.items },
+    ghost listed: { ArePaths paths.items } by { ArePaths-prop paths.items },
 }
 
 impl<D: Disk> OneSlot<D> {
@@ -192,6 +192,9 @@ impl<D: Disk> OneSlot<D> {
         ensures stands { IsObservable (D.state self.old.disk) → Stands (D.state self.old.disk) (tree_of self.old.paths.items) self.old.params
             → OnOk result (Stands (D.state self.new.disk) (tree_of self.new.paths.items) self.new.params) }
     {
+        if path.is_root() {
+            return Ok(Reply::No(Refusal::Root));
+        }
         let Some(at) = slot::find_place(&self.paths, path) else {
             return Ok(Reply::No(Refusal::Exists));
         };

@@ -54,8 +54,14 @@ fn read_text(text: &[u8]) -> Result<Command, Refusal>
     ensures served { IfOk result (λ command. today.is_served (command_of command) ≡ true) }
 {
     match parse_command(text) {
-        Ok(command) if is_served(&command) => Ok(command),
-        _ => Err(Refusal::Syntax),
+        Ok(command) => {
+            if is_served(&command) {
+                Ok(command)
+            } else {
+                Err(Refusal::Syntax)
+            }
+        }
+        Err(_) => Err(Refusal::Syntax),
     }
 }
 

@@ -160,13 +160,10 @@ fn read_slot(alloc: Global, slot: &Slot) -> Result<Option<Vec<Path>>, NoMemory>
     if are_zero(slot) {
         return Ok(Some(Vec::new(alloc)));
     }
-    let Some(page) = decode_page(slot) else {
-        return Ok(None);
-    };
-    if page.label() != first_label() {
-        return Ok(None);
+    match decode_page(slot) {
+        Some(page) if page.label() == first_label() => paths_of(alloc, &page),
+        _ => Ok(None),
     }
-    paths_of(alloc, &page)
 }
 
 /// Whether the bytes are all zero.
