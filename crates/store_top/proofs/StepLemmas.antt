@@ -1,6 +1,6 @@
 -- Lemmas on the steps of the commands that are served, on directories right below the root.
 use Rattle.std.proofs.Common.{◌≡◌, ℕ, suc, ◌+◌, ◌<◌, ◌≤◌, List, [], ◌∷◌, ◌++◌, map, length, take, drop, Bool, true, false, cond, not, ◌&&◌, IsTrue, Option, Some, None, is_some, if◌then◌else◌, refl, sym, ap, ◌∙◌, subst, arith, length-append, length-drop, nat_lt}
-use Rattle.std.specs.List.{AllByRecursion, insert, filter}
+use Rattle.std.specs.List.{AllByRecursion, insert, filter, list_all}
 use Rattle.std.specs.FinMap.{find, put, is_sorted}
 use Rattle.std.proofs.lemmas.List.{length-map, length-take-le, take-append-drop}
 use Rattle.std.proofs.lemmas.Bool.{le-ltb, leb-true}
@@ -106,8 +106,8 @@ child_of_directory path = refl
 -- the last name of a path is no longer than its field
 pub short_name : (path : Path) → IsTopPath path → length (last_name path) ≤ 120
 short_name path top =
-    let fits = leb-true _ _ (second_true _ _ top.valid) in
-    let split = ap length (bytes_split path (top_is_below_root path top.one_name)) in
+    let fits : length (name_bytes path) ≤ 120 = leb-true (length (name_bytes path)) 120 (second_true (list_all is_name path) (fits_field path) top.valid) in
+    let split : length (name_bytes path) ≡ length (name_bytes (parent path) ++ (last_name path ++ 0 ∷ [])) = ap length (bytes_split path (top_is_below_root path top.one_name)) in
     omega (arith, fits, split, length-append (name_bytes (parent path)) (last_name path ++ 0 ∷ []), length-append (last_name path) (0 ∷ []))
 
 -- ---- a command that is served

@@ -4,6 +4,7 @@ use Rattle.store_model.specs.declared.draw_kind.DrawKind.{DrawKind}
 use Rattle.store_model.specs.declared.draw_kind.DrawKind.TheVariants.{Ruler, Sha256}
 use Rattle.store_model.specs.Parameters.{Parameters, image_len}
 use Rattle.store_model.specs.Grammar.{◌>>=◌}
+use Rattle.store_top.specs.OneSlot.{IsToday}
 use Rattle.store_model.specs.Words.{Request, request_of}
 use Rattle.store_model.specs.Words.Request.{Format, Run, Check, Scrub, Wipe, Big}
 use Rattle.store_top.specs.declared.words.Request as own
@@ -39,6 +40,11 @@ request_today words = request_of words >>= served
 abbrev pub request_seen : own.Request → Request
 request_seen (own_requests.Format p) = Format p
 request_seen own_requests.Run = Run
+
+-- the parameters of a request are those that are served
+abbrev pub IsTodayRequest : own.Request → Type 0
+IsTodayRequest (own_requests.Format p) = IsToday p
+IsTodayRequest own_requests.Run = Unit {0}
 
 -- the file that a request needs: one that is there, or for `format` one of the image's length
 abbrev pub wanted_by : Request → Wanted

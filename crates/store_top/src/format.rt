@@ -49,6 +49,7 @@ pub fn format<D: Disk>(disk: &mut D, params: &Params) -> Result<(), FormatFault>
     ensures keeps { KeepsDisk (D.state disk.old) (D.state disk.new) }
     ensures cause { IsErrOf result FormatFault.Disk → Rose (D.state disk.old).faults (D.state disk.new).faults }
     ensures wrong_length { IsErrOf result FormatFault.WrongLength ↔ ((D.state disk.old).size ≢ model.image_len params.now.slots) }
+    ensures right_length { IsErrOf result FormatFault.AlreadyImage → (D.state disk.old).size ≡ model.image_len params.now.slots }
     ensures already_image { IsObservable (D.state disk.old) → IsErrOf result FormatFault.AlreadyImage → slice_index (D.state disk.old).bytes 0 ≡ 72 }
     ensures other_byte { IsObservable (D.state disk.old) → OnOk result (slice_index (D.state disk.old).bytes 0 ≢ 72) }
     ensures refused { IsObservable (D.state disk.old) → IsErrOf result FormatFault.WrongLength ⊎ IsErrOf result FormatFault.AlreadyImage → IsUntouched (D.state disk.old) (D.state disk.new) }

@@ -9,11 +9,14 @@ ghost use Rattle.script_lines.specs.SinkState as sinks;
 ghost use Rattle.script_lines.specs.Parsing.{command_of, reading_of};
 ghost use Rattle.script_lines.specs.Replies.{reply_of};
 ghost use Rattle.store_top.specs.Disks.{KeepsDisk, IsUntouched, Stands};
-ghost use Rattle.store_top.specs.OneSlot.{tree_of, ShowsPaths, NamesToday};
+ghost use Rattle.store_model.specs.Parameters.{Parameters};
+ghost use Rattle.store_model.specs.Trees.{Tree};
+ghost use Rattle.store_top.specs.OneSlot.{tree_of, NamesToday, IsTopLayout};
+ghost use Rattle.store_top.specs.Outcomes.{IsRunStatus, IsPastHeader, IsRefusedImage};
 ghost use Rattle.store_top.specs.Steps.{fault_status, attach_status};
 ghost use Rattle.store_top.specs.TodayLines as today;
 ghost use Rattle.store_top.specs.TodayLines.{reading_today, answer_today};
-ghost use Rattle.store_top.specs.Promises.{IsBetweenLines, PromisesImage};
+ghost use Rattle.store_top.specs.Promises.{PromisesImage};
 ghost use Rattle.store_top.specs.Runs.{IsLine, IsEndOfRun, KeepsSource, KeepsSink, RepliesKept, KeepsLimit, run_replies, run_trees};
 
 use crate::one_slot::{AttachFault, OneSlot};
@@ -163,22 +166,57 @@ fn refusal_of(fault: AttachFault) -> Status
     }
 }
 
-/// Answers the script that the source has.
-pub fn run<D: Disk, R: Source, W: Sink>(alloc: Global, disk: D, source: R, sink: W) -> Outcome<D, R, W> {
+/// Answers the script that the source has: takes the room of the reader of lines, attaches the image, and
+/// answers each line.
+pub fn run<D: Disk, R: Source, W: Sink>(alloc: Global, disk: D, source: R, sink: W) -> Outcome<D, R, W>
+    ensures end { IsRunStatus result.status }
+    ensures disk_cause { result.status ≡ Status.DiskFault → Rose (D.state disk).faults (D.state result.disk).faults }
+    ensures source_cause { result.status ≡ Status.SourceFault → Rose (R.state source).faults (R.state result.source).faults }
+    ensures sink_cause { result.status ≡ Status.SinkFault → Rose (W.state sink).faults (W.state result.sink).faults }
+    ensures not_image { disks.IsObservable (D.state disk) → result.status ≡ Status.NotImage → (p : Parameters) → NamesToday (D.state disk).bytes p → ⊥ }
+    ensures image { disks.IsObservable (D.state disk) → IsPastHeader result.status → (p : Parameters) × NamesToday (D.state disk).bytes p }
+    ensures damaged { disks.IsObservable (D.state disk) → result.status ≡ Status.Damaged → (t : Tree) (p : Parameters) → IsTopLayout (D.state disk).bytes t p → ⊥ }
+    ensures refused { IsRefusedImage result.status → (result.done ≡ 0) × (result.source ≡ source) × (result.sink ≡ sink) }
+    ensures untouched { disks.IsObservable (D.state disk) → IsRefusedImage result.status → IsUntouched (D.state disk) (D.state result.disk) }
+    ensures limit { sources.IsObservable (R.state source) → KeepsLimit result.status (R.state source) }
+    ensures replies { disks.IsObservable (D.state disk) → sources.IsObservable (R.state source) → sinks.IsObservable (W.state sink)
+        → (t : Tree) (p : Parameters) → IsTopLayout (D.state disk).bytes t p
+        → RepliesKept result.status result.done (run_replies t (R.state source).left p) (R.state source) (R.state result.source) (W.state sink) (W.state result.sink) }
+    ensures kept_image { disks.IsObservable (D.state disk) → sources.IsObservable (R.state source)
+        → (t : Tree) (p : Parameters) → IsTopLayout (D.state disk).bytes t p → disks.IsDurable (D.state disk) → (result.status ≡ Status.DiskFault → ⊥)
+        → PromisesImage result.status result.done (run_trees t (R.state source).left p) (D.state disk) (D.state result.disk) p }
+{
     let mut reader = match LineReader::new(alloc, source) {
         Ok(reader) => reader,
         Err((_, source)) => {
-            return Outcome { status: Status::NoMemory, done: 0, disk, source, sink };
+            return Outcome {
+                status: Status::NoMemory,
+                done: 0,
+                disk,
+                source,
+                sink,
+            };
         }
     };
     let mut store = match OneSlot::attach(alloc, disk) {
         Ok(store) => store,
         Err((fault, disk)) => {
-            let (status, source) = (refusal_of(fault), reader.into_source());
-            return Outcome { status, done: 0, disk, source, sink };
+            return Outcome {
+                status: refusal_of(fault),
+                done: 0,
+                disk,
+                source: reader.into_source(),
+                sink,
+            };
         }
     };
     let mut sink = sink;
     let Answered { status, done } = answer_lines(&mut reader, &mut store, &mut sink);
-    Outcome { status, done, disk: store.into_disk(), source: reader.into_source(), sink }
+    Outcome {
+        status,
+        done,
+        disk: store.into_disk(),
+        source: reader.into_source(),
+        sink,
+    }
 }

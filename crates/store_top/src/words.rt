@@ -1,9 +1,9 @@
 //! The command line behind the image's path, and what it asks for.
 
-ghost use Rattle.std.specs.Prelude.{◌≡◌, ◌∷◌, [], length, IfOk, OnOk, OnErr};
+ghost use Rattle.std.specs.Prelude.{◌≡◌, ◌∷◌, [], length, IfOk, IfSome, OnOk, OnErr};
 ghost use Rattle.std.specs.Option.{option_map};
 ghost use Rattle.store_model.specs.Words.{seed_of_word};
-ghost use Rattle.store_top.specs.TodayWords.{request_today, request_seen, wanted_of};
+ghost use Rattle.store_top.specs.TodayWords.{request_today, request_seen, wanted_of, IsTodayRequest};
 
 use hex::FromHex;
 use std::alloc::Global;
@@ -53,7 +53,8 @@ impl Words {
 
     /// What the words ask for; `None` exactly where they are not served.
     pub(crate) fn request(&self) -> Option<Request>
-        ensures { option_map request_seen result ≡ request_today self.now }
+        ensures value { option_map request_seen result ≡ request_today self.now }
+        ensures valid { IfSome result IsTodayRequest }
     {
         let words = self.words.as_slice();
         match words.len() {
@@ -81,7 +82,8 @@ pub enum Request {
 
 /// What a single word asks for.
 fn run_request(word: &str) -> Option<Request>
-    ensures { option_map request_seen result ≡ request_today (word.now ∷ []) }
+    ensures value { option_map request_seen result ≡ request_today (word.now ∷ []) }
+    ensures valid { IfSome result IsTodayRequest }
 {
     if word == "run" { Some(Request::Run) } else { None }
 }
@@ -94,7 +96,8 @@ fn format_request(
     draw: &str,
     seed: &str,
 ) -> Option<Request>
-    ensures { option_map request_seen result ≡ request_today (word.now ∷ slots.now ∷ height.now ∷ draw.now ∷ seed.now ∷ []) }
+    ensures value { option_map request_seen result ≡ request_today (word.now ∷ slots.now ∷ height.now ∷ draw.now ∷ seed.now ∷ []) }
+    ensures valid { IfSome result IsTodayRequest }
 {
     if word != "format" || slots != "1" || height != "1" || draw != "ruler" {
         return None;

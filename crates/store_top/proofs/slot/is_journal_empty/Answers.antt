@@ -7,7 +7,7 @@ pub returns-clause-answer : goal.returns-clause-answer
 returns-clause-answer g c observable =
     let bytes = (g.D.Disk.state c.args.disk.now).bytes in
     let journal : List ℕ = c.read_at.new.into in
-    let size : length journal ≡ 12288 = c.journal_long in
+    let size : length journal ≡ 12288 = c.read_at.auto.into in
     let read = (c.in_ok-read_at.ensures.observed observable).read in
     let is : journal ≡ bytes_at bytes 4096 12288 = read ∙ ap (λ n. take n (drop c.gate_at.result bytes)) size ∙ ap (λ n. take 12288 (drop n bytes)) c.gate_at.ensures in (
       λ h. sym is ∙ c.are_zero.ensures.0 h ∙ ap zeros size,

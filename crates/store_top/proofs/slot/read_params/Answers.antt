@@ -18,7 +18,7 @@ returns-in-Some-clause-found g c observable =
     let bytes = (g.D.Disk.state c.args.disk.now).bytes in
     let block : List ℕ = c.read_at.new.into in
     let today : IsToday c.in-Some.params = c.is_today.ensures.0 c.if-is_today.true in
-    let read : block ≡ take 4096 bytes = (c.in_ok-read_at.ensures.observed observable).read ∙ ap (λ n. take n bytes) c.header_long in
+    let read : block ≡ take 4096 bytes = (c.in_ok-read_at.ensures.observed observable).read ∙ ap (λ n. take n bytes) c.read_at.auto.into in
     record {
       today = today;
       names = record { in_range = today.valid; header_is = sym read ∙ sym c.in-Some.ensures.found.1 };
@@ -31,14 +31,14 @@ pub returns-in-Some-clause-only : goal.returns-in-Some-clause-only
 returns-in-Some-clause-only g c observable p names =
     let bytes = (g.D.Disk.state c.args.disk.now).bytes in
     let block : List ℕ = c.read_at.new.into in
-    let read : block ≡ take 4096 bytes = (c.in_ok-read_at.ensures.observed observable).read ∙ ap (λ n. take n bytes) c.header_long in
+    let read : block ≡ take 4096 bytes = (c.in_ok-read_at.ensures.observed observable).read ∙ ap (λ n. take n bytes) c.read_at.auto.into in
     sym c.in-Some.is ∙ c.read_header.ensures.only p names.names.in_range (sym names.names.header_is ∙ sym read)
 
 pub returns-in_default-clause-only : goal.returns-in_default-clause-only
 returns-in_default-clause-only g c observable p names =
     let bytes = (g.D.Disk.state c.args.disk.now).bytes in
     let block : List ℕ = c.read_at.new.into in
-    let read : block ≡ take 4096 bytes = (c.in_ok-read_at.ensures.observed observable).read ∙ ap (λ n. take n bytes) c.header_long in
+    let read : block ≡ take 4096 bytes = (c.in_ok-read_at.ensures.observed observable).read ∙ ap (λ n. take n bytes) c.read_at.auto.into in
     let is : c.read_header.result ≡ Some p = c.read_header.ensures.only p names.names.in_range (sym names.names.header_is ∙ sym read) in
     elim c.in_default.branch [
       | in_default-via-in-Some+then-is_today+else-len-image_len w ↦
@@ -50,5 +50,5 @@ returns-in_default-clause-only g c observable p names =
           let same : w.in-Some.params ≡ p = cc in
           let yes : w.is_today.result ≡ true = w.is_today.ensures.1 (subst IsToday (sym same) names.today) in
           cc
-      | in_default-via-in_default w ↦ ?
+      | in_default-via-in_default w ↦ let none : c.read_header.result ≡ None = w.in_default.is in cc
     ]
