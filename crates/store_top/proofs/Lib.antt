@@ -6,3 +6,4 @@ pub mod RunLemmas
 pub mod SlotReads
 pub mod LineAnswers
 pub mod StepLemmas
+pub mod TopTrees

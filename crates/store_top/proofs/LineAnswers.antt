@@ -3,12 +3,16 @@ use Rattle.std.proofs.Common.{◌≡◌, ℕ, ◌<◌, ◌≤◌, List, length, 
 use Rattle.std.proofs.lemmas.Bool.{lt-ltb, le-ltb}
 use Rattle.store_model.specs.declared.refusal.Refusal.{Refusal}
 use Rattle.store_model.specs.declared.refusal.Refusal.TheVariants as refusals
+use Rattle.store_model.specs.Parameters.{Parameters}
+use Rattle.store_model.specs.Trees.{Tree}
 use Rattle.store_model.specs.Commands.{Command}
+use Rattle.store_model.specs.Commands.Reply.{Refused}
+use Rattle.store_model.specs.Steps.{Step, step}
 use Rattle.store_model.specs.Grammar.{parse}
-use Rattle.store_model.specs.Scripts.{line_limit}
+use Rattle.store_model.specs.Scripts.{line_limit, answer_by}
 use Rattle.script_lines.specs.declared.lines.Line.{Line}
 use Rattle.script_lines.specs.declared.lines.Line.TheVariants as lines
-use Rattle.store_top.specs.TodayLines.{reading_today, served_reading, is_served}
+use Rattle.store_top.specs.TodayLines.{reading_today, served_reading, is_served, answer_today}
 use Rattle.store_top.specs.Runs.{IsLine}
 
 pub reading_short : (text : List ℕ) → length text ≤ line_limit → reading_today text ≡ served_reading (parse text)
@@ -33,3 +37,12 @@ pub not_text : (line : Line) → (line ≡ lines.Text → ⊥) → (shown text :
 not_text lines.Text other shown text is = absurd (other refl)
 not_text lines.Long other shown text is = sym (reading_long text is)
 not_text lines.End other shown text is = absurd is
+
+-- the answer to a line whose command, or refusal, is known
+pub answer_ok : (t : Tree) (text : List ℕ) (p : Parameters) (c : Command) → Ok c ≡ reading_today text → answer_today t text p ≡ step t c p
+unfolding answer_today
+answer_ok t text p c e = ap (λ r. answer_by t r p) (sym e)
+
+pub answer_err : (t : Tree) (text : List ℕ) (p : Parameters) (r : Refusal) → Err r ≡ reading_today text → answer_today t text p ≡ record { reply = Refused r; tree = t }
+unfolding answer_today
+answer_err t text p r e = ap (λ x. answer_by t x p) (sym e)

@@ -5,7 +5,7 @@ ghost use Rattle.store_base.specs.Counts.{Rose};
 ghost use Rattle.store_model.specs.Parameters as model;
 ghost use Rattle.store_model.specs.Parameters.{Parameters};
 ghost use Rattle.store_model.specs.Trees.{Tree};
-ghost use Rattle.store_model.specs.Words.Request as requests;
+ghost use Rattle.store_model.specs.Words.Request.{Format, Run};
 ghost use Rattle.disk_model.specs.DiskState as disks;
 ghost use Rattle.script_lines.specs.SourceState as sources;
 ghost use Rattle.script_lines.specs.SinkState as sinks;
@@ -79,8 +79,8 @@ pub fn top<D: Disk, R: Source, W: Sink>(alloc: Global, words: &Words, disk: D, s
     // The words.
     ensures usage { (result.status ≡ Status.Usage) ↔ (request_today words.now ≡ None) }
     ensures unserved { request_today words.now ≡ None → (result.done ≡ 0) × (result.disk ≡ disk) × (result.source ≡ source) × (result.sink ≡ sink) }
-    ensures format_end { (p : Parameters) → request_today words.now ≡ Some (requests.Format p) → IsFormatStatus result.status }
-    ensures run_end { request_today words.now ≡ Some requests.Run → IsRunStatus result.status }
+    ensures format_end { (p : Parameters) → request_today words.now ≡ Some (Format p) → IsFormatStatus result.status }
+    ensures run_end { request_today words.now ≡ Some Run → IsRunStatus result.status }
 
     // Faults come only where the count of the object rose.
     ensures source_cause { result.status ≡ Status.SourceFault → Rose (R.state source).faults (R.state result.source).faults }
@@ -88,29 +88,29 @@ pub fn top<D: Disk, R: Source, W: Sink>(alloc: Global, words: &Words, disk: D, s
     ensures disk_cause { result.status ≡ Status.DiskFault → Rose (D.state disk).faults (D.state result.disk).faults }
 
     // `format`.
-    ensures format_done { (p : Parameters) → request_today words.now ≡ Some (requests.Format p) → result.done ≡ done_of result.status }
-    ensures format_others { (p : Parameters) → request_today words.now ≡ Some (requests.Format p) → (result.source ≡ source) × (result.sink ≡ sink) }
-    ensures wrong_length { (p : Parameters) → request_today words.now ≡ Some (requests.Format p) → (result.status ≡ Status.WrongLength) ↔ ((D.state disk).size ≢ model.image_len p.slots) }
-    ensures right_length { (p : Parameters) → request_today words.now ≡ Some (requests.Format p) → result.status ≡ Status.AlreadyImage → (D.state disk).size ≡ model.image_len p.slots }
-    ensures already_image { (p : Parameters) → request_today words.now ≡ Some (requests.Format p) → disks.IsObservable (D.state disk) → result.status ≡ Status.AlreadyImage → slice_index (D.state disk).bytes 0 ≡ 72 }
-    ensures other_byte { (p : Parameters) → request_today words.now ≡ Some (requests.Format p) → disks.IsObservable (D.state disk) → result.status ≡ Status.Done → slice_index (D.state disk).bytes 0 ≢ 72 }
-    ensures format_refused { (p : Parameters) → request_today words.now ≡ Some (requests.Format p) → disks.IsObservable (D.state disk) → IsRefusedDisk result.status → IsUntouched (D.state disk) (D.state result.disk) }
-    ensures formatted { (p : Parameters) → request_today words.now ≡ Some (requests.Format p) → disks.IsObservable (D.state disk) → result.status ≡ Status.Done → Stands (D.state result.disk) [] p }
+    ensures format_done { (p : Parameters) → request_today words.now ≡ Some (Format p) → result.done ≡ done_of result.status }
+    ensures format_others { (p : Parameters) → request_today words.now ≡ Some (Format p) → (result.source ≡ source) × (result.sink ≡ sink) }
+    ensures wrong_length { (p : Parameters) → request_today words.now ≡ Some (Format p) → (result.status ≡ Status.WrongLength) ↔ ((D.state disk).size ≢ model.image_len p.slots) }
+    ensures right_length { (p : Parameters) → request_today words.now ≡ Some (Format p) → result.status ≡ Status.AlreadyImage → (D.state disk).size ≡ model.image_len p.slots }
+    ensures already_image { (p : Parameters) → request_today words.now ≡ Some (Format p) → disks.IsObservable (D.state disk) → result.status ≡ Status.AlreadyImage → slice_index (D.state disk).bytes 0 ≡ 72 }
+    ensures other_byte { (p : Parameters) → request_today words.now ≡ Some (Format p) → disks.IsObservable (D.state disk) → result.status ≡ Status.Done → slice_index (D.state disk).bytes 0 ≢ 72 }
+    ensures format_refused { (p : Parameters) → request_today words.now ≡ Some (Format p) → disks.IsObservable (D.state disk) → IsRefusedDisk result.status → IsUntouched (D.state disk) (D.state result.disk) }
+    ensures formatted { (p : Parameters) → request_today words.now ≡ Some (Format p) → disks.IsObservable (D.state disk) → result.status ≡ Status.Done → Stands (D.state result.disk) [] p }
 
     // `run`: the image that it is given.
-    ensures not_image { request_today words.now ≡ Some requests.Run → disks.IsObservable (D.state disk) → result.status ≡ Status.NotImage → (p : Parameters) → NamesToday (D.state disk).bytes p → ⊥ }
-    ensures image { request_today words.now ≡ Some requests.Run → disks.IsObservable (D.state disk) → IsPastHeader result.status → (p : Parameters) × NamesToday (D.state disk).bytes p }
-    ensures damaged { request_today words.now ≡ Some requests.Run → disks.IsObservable (D.state disk) → result.status ≡ Status.Damaged → (t : Tree) (p : Parameters) → IsTopLayout (D.state disk).bytes t p → ⊥ }
-    ensures run_refused { request_today words.now ≡ Some requests.Run → IsRefusedImage result.status → (result.done ≡ 0) × (result.source ≡ source) × (result.sink ≡ sink) }
-    ensures run_untouched { request_today words.now ≡ Some requests.Run → disks.IsObservable (D.state disk) → IsRefusedImage result.status → IsUntouched (D.state disk) (D.state result.disk) }
+    ensures not_image { request_today words.now ≡ Some Run → disks.IsObservable (D.state disk) → result.status ≡ Status.NotImage → (p : Parameters) → NamesToday (D.state disk).bytes p → ⊥ }
+    ensures image { request_today words.now ≡ Some Run → disks.IsObservable (D.state disk) → IsPastHeader result.status → (p : Parameters) × NamesToday (D.state disk).bytes p }
+    ensures damaged { request_today words.now ≡ Some Run → disks.IsObservable (D.state disk) → result.status ≡ Status.Damaged → (t : Tree) (p : Parameters) → IsTopLayout (D.state disk).bytes t p → ⊥ }
+    ensures run_refused { request_today words.now ≡ Some Run → IsRefusedImage result.status → (result.done ≡ 0) × (result.source ≡ source) × (result.sink ≡ sink) }
+    ensures run_untouched { request_today words.now ≡ Some Run → disks.IsObservable (D.state disk) → IsRefusedImage result.status → IsUntouched (D.state disk) (D.state result.disk) }
 
     // `run`: the script.
-    ensures limit { request_today words.now ≡ Some requests.Run → sources.IsObservable (R.state source) → KeepsLimit result.status (R.state source) }
-    ensures replies { request_today words.now ≡ Some requests.Run
+    ensures limit { request_today words.now ≡ Some Run → sources.IsObservable (R.state source) → KeepsLimit result.status (R.state source) }
+    ensures replies { request_today words.now ≡ Some Run
         → disks.IsObservable (D.state disk) → sources.IsObservable (R.state source) → sinks.IsObservable (W.state sink)
         → (t : Tree) (p : Parameters) → IsTopLayout (D.state disk).bytes t p
         → RepliesKept result.status result.done (run_replies t (R.state source).left p) (R.state source) (R.state result.source) (W.state sink) (W.state result.sink) }
-    ensures kept_image { request_today words.now ≡ Some requests.Run
+    ensures kept_image { request_today words.now ≡ Some Run
         → disks.IsObservable (D.state disk) → sources.IsObservable (R.state source)
         → (t : Tree) (p : Parameters) → IsTopLayout (D.state disk).bytes t p → disks.IsDurable (D.state disk) → (result.status ≡ Status.DiskFault → ⊥)
         → PromisesImage result.status result.done (run_trees t (R.state source).left p) (D.state disk) (D.state result.disk) p }
