@@ -10,9 +10,16 @@ use Rattle.store_model.specs.Scripts.{lines, replies_by, tree_by, replies_text, 
 use Rattle.store_model.specs.Steps.{Step}
 use Rattle.store_model.proofs.ScriptsLemmas.{replies_by-append, tree_by-append}
 use Rattle.script_lines.specs.SourceState.{SourceState}
-use Rattle.script_lines.specs.SinkState.{SinkState, AppendsPrefix}
+use Rattle.script_lines.specs.SinkState.{SinkState, AppendsPrefix, IsPut}
+use Rattle.script_lines.specs.LineState as line
+use Rattle.script_lines.specs.declared.lines.LineFault.{LineFault}
+use Rattle.disk_model.specs.DiskState.{DiskState}
+use Rattle.store_top.specs.Disks.{KeepsDisk}
+use Rattle.std.specs.Result.{is_err, OnErr, OnOk}
 use Rattle.script_lines.specs.Lines.{ended_lines}
-use Rattle.script_lines.specs.LineState.{LineState, left, to_come, ended_within, Takes, Answers, FailsBetween, PassesLimit}
+use Rattle.script_lines.specs.LineState.{LineState, left, to_come, ended_within, Takes, Answers, FailsBetween, PassesLimit, NextLine}
+use Rattle.script_lines.specs.declared.lines.Line.{Line}
+use Rattle.script_lines.specs.declared.lines.Line.TheVariants as answers
 use Rattle.script_lines.proofs.StateLemmas.{Answers-refl, Answers-trans, Takes-trans}
 use Rattle.script_lines.proofs.LineLemmas.{lines-none}
 use Rattle.store_base.specs.declared.store_fault.Fault.{Fault}
@@ -22,7 +29,7 @@ use Rattle.store_top.specs.declared.status.Status.{Status}
 use Rattle.store_top.specs.declared.status.Status.TheVariants as statuses
 use Rattle.store_top.specs.TodayLines.{answer_today}
 use Rattle.store_top.specs.Promises.{IsCutShort, IsFrontOf, WroteInPart, PromisesReplies}
-use Rattle.store_top.specs.Runs.{run_replies, run_trees, RepliesKept, KeepsLimit}
+use Rattle.store_top.specs.Runs.{run_replies, run_trees, RepliesKept, KeepsLimit, IsLine, IsEndOfRun, KeepsSource, KeepsSink}
 
 -- the replies to lines, and the tree after them
 abbrev pub replies_on : Tree → List (List ℕ) → Parameters → List Reply
@@ -299,3 +306,68 @@ module _ {R : Type 0} (state : R → SourceState) where
         let takes = Takes-trans state first now next before.takes answers.takes in
         let end : length (left state next) ≡ 0 = omega (arith, ap length none, length-append next.held (left state next)) in
         omega (arith, end, ap length takes.left, length-drop (next.taken - first.taken) (left state first), none_taken, in_limit)
+
+-- the line that a reader answered, and what it is
+pub record LineAnswered {R : Type 0} (state : R → SourceState) (line : Line) (shown : List ℕ) (a b : LineState R) : Type 0 where
+  pub text : List ℕ
+  pub is : IsLine line shown text
+  pub answers : Answers state a b (text ∷ [])
+
+pub line_answered : {R : Type 0} (state : R → SourceState) (line : Line) (shown : List ℕ) (a b : LineState R) → (line ≡ answers.End → ⊥) → shown ≡ b.text → NextLine state a b (Ok line) → LineAnswered state line shown a b
+line_answered state answers.Text shown a b other e h = record { text = b.text; is = e; answers = h }
+line_answered state answers.Long shown a b other e h = record { text = h.0; is = h.1; answers = h.2 }
+line_answered state answers.End shown a b other e h = absurd (other refl)
+
+-- the tree after one line more, whether or not its reply was written
+pub trees_next : {R : Type 0} (state : R → SourceState) (first : LineState R) (held : first.held ≡ []) (none_taken : first.taken ≡ 0) (now next : LineState R) (sink_first sink_now : SinkState) (t_first t_now t_next : Tree) (p : Parameters) (done : ℕ) (text : List ℕ)
+    → Halfway state first now sink_first sink_now t_first t_now p done → Answers state now next (text ∷ []) → t_next ≡ (answer_today t_now text p).tree
+    → run_trees t_first (left state first) p (done + 1) ≡ t_next
+trees_next state first held none_taken now next sink_first sink_now t_first t_now t_next p done text h answers tree =
+    let sink_next : SinkState = record { is_observable = true; written = sink_now.written ++ reply_text (answer_today t_now text p).reply; faults = 0 } in
+    trees_at state first held none_taken next sink_first sink_next t_first t_next p (done + 1)
+    (halfway_more state first now next sink_first sink_now sink_next t_first t_now t_next p done text h answers tree (λ o. refl))
+
+-- ---- faults
+
+pub end_of_fault : (fault : Fault) → IsEndOfRun (fault_status fault)
+end_of_fault causes.Disk = tt
+end_of_fault causes.NoMemory = tt
+
+pub disk_fault : (fault : Fault) → fault_status fault ≡ statuses.DiskFault → fault ≡ causes.Disk
+disk_fault causes.Disk e = refl
+disk_fault causes.NoMemory e = absurd (cc)
+
+pub no_source_fault : (fault : Fault) → fault_status fault ≡ statuses.SourceFault → ⊥
+no_source_fault causes.Disk e = cc
+no_source_fault causes.NoMemory e = cc
+
+pub no_sink_fault : (fault : Fault) → fault_status fault ≡ statuses.SinkFault → ⊥
+no_sink_fault causes.Disk e = cc
+no_sink_fault causes.NoMemory e = cc
+
+pub no_limit : (fault : Fault) (source : SourceState) → KeepsLimit (fault_status fault) source
+no_limit causes.Disk source = record { too_long = λ e. absurd (cc); whole = λ e. absurd (cc) }
+no_limit causes.NoMemory source = record { too_long = λ e. absurd (cc); whole = λ e. absurd (cc) }
+
+pub memory_fault : (fault : Fault) → (fault_status fault ≡ statuses.DiskFault → ⊥) → fault ≡ causes.NoMemory
+memory_fault causes.Disk other = absurd (other refl)
+memory_fault causes.NoMemory other = refl
+
+pub at_err : {T E P : Type 0} (r : Result T E) → is_err r ≡ true → OnErr r P → P
+at_err (Ok x) h p = absurd (cc)
+at_err (Err x) h p = p
+
+pub at_ok : {T E P : Type 0} (r : Result T E) → is_err r ≡ false → OnOk r P → P
+at_ok (Ok x) h p = p
+at_ok (Err x) h p = absurd (cc)
+
+-- ---- calls one after another
+
+pub KeepsDisk-trans : (a b c : DiskState) → KeepsDisk a b → KeepsDisk b c → KeepsDisk a c
+KeepsDisk-trans a b c first then = record { size = then.size ∙ first.size; observable = then.observable ∙ first.observable; faults = omega (arith, first.faults, then.faults) }
+
+pub KeepsSource-trans : {T : Type 0} (a b c : SourceState) (result : Result T LineFault) → KeepsSource a b → line.KeepsSource b c result → KeepsSource a c
+KeepsSource-trans a b c result first then = record { observable = then.observable ∙ first.observable; faults = omega (arith, first.faults, then.faults) }
+
+pub KeepsSink-trans : {T E : Type 0} (a b c : SinkState) (bytes : List ℕ) (result : Result T E) → KeepsSink a b → IsPut b c bytes result → KeepsSink a c
+KeepsSink-trans a b c bytes result first then = record { observable = then.observable ∙ first.observable; faults = omega (arith, first.faults, then.faults) }

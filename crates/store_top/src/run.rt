@@ -136,11 +136,26 @@ fn answer_lines<D: Disk, R: Source, W: Sink>(
     let mut done = 0;
     while done < u64::MAX {
         let line = match reader.next_line() {
-            Ok(Line::End) => return Answered { status: Status::Done, done },
             Ok(line) => line,
-            Err(LineFault::Source) => return Answered { status: Status::SourceFault, done },
-            Err(LineFault::TooLong) => return Answered { status: Status::TooLong, done },
+            Err(LineFault::Source) => {
+                return Answered {
+                    status: Status::SourceFault,
+                    done,
+                };
+            }
+            Err(LineFault::TooLong) => {
+                return Answered {
+                    status: Status::TooLong,
+                    done,
+                };
+            }
         };
+        if let Line::End = line {
+            return Answered {
+                status: Status::Done,
+                done,
+            };
+        }
         let reply = match answer_line(store, line, reader.text()) {
             Ok(reply) => reply,
             Err(fault) => return Answered { status: status_of(fault), done },
