@@ -66,7 +66,8 @@ pub ended_lines-none : (text : List ℕ) → HasNoEnd text → ended_lines text 
 unfolding ended_lines
 ended_lines-none text plain = ap (λ (parts : List (List ℕ)). filter (λ (t : List ℕ). nat_lt 0 (length t)) (all_but_last parts)) (slice_split_none (λ c. c == 10) text plain)
 
-not-yes : (b : Bool) → not b ≡ true → b ≡ false
+-- a test that does not fail
+pub not-yes : (b : Bool) → not b ≡ true → b ≡ false
 not-yes true e = cc
 not-yes false e = refl
 

@@ -1,7 +1,6 @@
 -- What is read from the fields of a line, and the program's commands seen as those of the definitions.
-use Rattle.std.specs.Prelude.{◌≡◌, ℕ, ◌<◌, ◌≤◌, true, false, List, [], ◌∷◌, ◌++◌, length, Result, Ok, Err, Option, Some, None, ◌==◌}
+use Rattle.std.specs.Prelude.{◌≡◌, ℕ, ◌<◌, ◌≤◌, true, false, List, [], ◌∷◌, length, Result, Ok, Err, Option, Some, None, ◌==◌}
 use Rattle.std.specs.List.{slice_split}
-use Rattle.std.specs.Borrow.{Bor}
 use Rattle.store_model.specs.Paths.{Path, fits_field}
 use Rattle.store_model.specs.Grammar.{path_of, ◌>>=◌}
 use Rattle.store_model.specs.Commands as model

@@ -37,6 +37,7 @@ pub enum Command {
 /// The command that a line spells.
 /// `Syntax`: the line is not in the grammar with paths of any length. `Path`: it is, and a path's field
 /// passes 120 bytes.
+#[tactic(auto, unfolding(store_model::specs::Grammar::parse, store_model::specs::Grammar::command_of, store_model::specs::Grammar::command_of_fields))]
 pub fn parse_command(text: &[u8]) -> Result<Command, Refusal>
     requires { length text.now ≤ MAX_LINE }
     ensures { reading_of result ≡ parse text.now }

@@ -1,7 +1,7 @@
 //! The fields of a line, and what a field says: a path, a number, bytes.
 
 ghost use Rattle.std.specs.Prelude.{◌≡◌, ◌≤◌, ◌/◌, ◌∷◌, [], true, length, ◌==◌, nat_le, if◌then◌else◌, None, Some, IfSome, MatchOption};
-ghost use Rattle.std.specs.List.{list_all};
+ghost use Rattle.std.specs.List.{list_all, position};
 ghost use Rattle.store_model.specs.Grammar.{number_of, content_of, ok_value, is_numeral, is_digit, digits_value, number_limit};
 ghost use Rattle.hex.specs.Hex.{decode_of};
 ghost use Rattle.script_lines.specs.Parsing.{parts_of, AreFields, FitFields, ReadsPath};
@@ -25,13 +25,20 @@ pub enum Fields<'a> {
     More,
 }
 
+/// Where the first space stands.
+fn find_space(text: &[u8]) -> Option<usize>
+    ensures { result ≡ position (λ c. c == 0x20) text.now }
+{
+    text.iter().position(|c| *c == b' ')
+}
+
 /// The first field, and what stands behind the space that ends it, if one does.
 fn cut_field(text: &[u8]) -> (&[u8], Option<&[u8]>)
     ensures parts { MatchOption result.1 (parts_of text.now ≡ result.0.now ∷ []) (λ rest. parts_of text.now ≡ result.0.now ∷ parts_of rest.now) }
     ensures word { length result.0.now ≤ length text.now }
     ensures rest { IfSome result.1 (λ rest. length rest.now ≤ length text.now) }
 {
-    match text.iter().position(|c| *c == b' ') {
+    match find_space(text) {
         Some(place) => (&text[..place], Some(&text[place + 1..])),
         None => (text, None),
     }
@@ -91,6 +98,7 @@ fn are_digits(text: &[u8]) -> bool
 }
 
 /// The number that a field spells, where it is at most 4,294,967,295.
+#[tactic(auto, unfolding(store_model::specs::Grammar::number_of))]
 pub fn read_number(text: &[u8]) -> Option<u32>
     ensures { result ≡ number_of text.now }
 {

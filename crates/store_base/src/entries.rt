@@ -53,7 +53,9 @@ impl Entries {
         ensures err { OnErr result (self.new ≡ self.old) }
     {
         let mut copy = ArrayVec::new();
-        let Ok(()) = copy.try_extend_from_slice(name) else { unreachable!() };
+        let Ok(()) = copy.try_extend_from_slice(name) else {
+            unreachable!()
+        };
         self.entries.push(Entry { name: copy, size })?;
         Ok(())
     }

@@ -1,4 +1,3 @@
-use Rattle.std.proofs.Common.{rules}
 use Rattle.script_lines.proofs.FieldLemmas.{decoded}
 use Rattle.script_lines.proofs.fields.decode_pairs.Goals as goal
 

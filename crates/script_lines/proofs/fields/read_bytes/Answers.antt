@@ -1,4 +1,4 @@
-use Rattle.std.proofs.Common.{rules, ◌≡◌, ℕ, ◌<◌, Bool, true, false, cond, List, [], length, sym, ap, ◌∙◌, refl, arith, Some, None, Option}
+use Rattle.std.proofs.Common.{ℕ, ◌<◌, List, length, sym, ap, ◌∙◌, arith, Some}
 use Rattle.std.proofs.lemmas.Bool.{eqb-true, eqb-false}
 use Rattle.store_model.specs.Lists.{same_bytes}
 use Rattle.script_lines.proofs.FieldLemmas.{content_of-dash, content_of-none, content_of-pairs}
