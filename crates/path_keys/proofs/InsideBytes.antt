@@ -1,17 +1,16 @@
 -- Lemmas on paths that lie below others, in their bytes.
-use Rattle.std.proofs.Common.{◌≡◌, ℕ, ◌+◌, ◌-◌, ◌<◌, ◌≤◌, suc, List, [], ◌∷◌, ◌++◌, length, take, drop, refl, sym, ap, ap₂, ◌∙◌, subst, arith, Bool, true, false, eqb, ltb, ◌&&◌, append-nil, length-append, Ordering, Less, Equal, Greater}
+use Rattle.std.proofs.Common.{◌≡◌, ℕ, ◌-◌, ◌<◌, ◌≤◌, List, [], ◌∷◌, ◌++◌, length, take, drop, refl, sym, ap, ◌∙◌, arith, Bool, true, ltb, append-nil, length-append, Ordering, Less, Equal, Greater}
 use Rattle.std.specs.Cmp.{tied_itself, both_ways}
 use Rattle.std.specs.Cmp.Lexicographic.{nat_list_cmp_total, lists_total}
 use Rattle.std.specs.FinMap.{slice_cmp-IsAntisymmetric, nat_cmp-IsAntisymmetric}
 use Rattle.std.specs.Ordering.{is_eq}
-use Rattle.std.specs.Str.{bytes_eq}
-use Rattle.std.proofs.lemmas.List.{take_at, drop_at, take-append-drop, take-append-le, take_all, drop_all, length-drop, length-take-le}
+use Rattle.std.proofs.lemmas.List.{take_at, take-append-drop, take-append-le, take_all, length-drop}
 use Rattle.std.proofs.lemmas.Slice.Eq.{bytes_eq-Decides}
-use Rattle.std.proofs.lemmas.Bool.{ltb-true, lt-ltb, le-ltb, and_from, and_left, and_parts, false_from_ne_true}
+use Rattle.std.proofs.lemmas.Bool.{ltb-true, lt-ltb, le-ltb, and_from, and_parts, false_from_ne_true}
 use Rattle.store_model.specs.Lists.{zeros, zero_filled, same_bytes}
-use Rattle.store_model.specs.Paths.{Path, path_cmp, same_path, is_path, name_bytes, field_len, field, is_inside, is_at_or_inside}
+use Rattle.store_model.specs.Paths.{Path, path_cmp, same_path, name_bytes, field_len, field, is_inside}
 use Rattle.path_keys.specs.Fields.{names_in, IsField}
-use Rattle.path_keys.proofs.NameBytes.{IsWord, AreWords, words, name_bytes-cons, name_bytes-append, name_bytes-nil, names_in-append, names_in-name_bytes}
+use Rattle.path_keys.proofs.NameBytes.{AreWords, words, name_bytes-cons, name_bytes-append, names_in-append, names_in-name_bytes}
 
 -- the test of sameness says whether paths are equal
 pub same_path-itself : (p : Path) → same_path p p ≡ true

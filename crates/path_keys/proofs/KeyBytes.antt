@@ -1,15 +1,15 @@
 -- Lemmas on the path and the block number of a key.
-use Rattle.std.proofs.Common.{◌≡◌, ℕ, ◌+◌, ◌-◌, ◌<◌, ◌≤◌, ◌^◌, suc, zero, List, [], ◌∷◌, ◌++◌, length, take, drop, get_or, replicate, map, refl, sym, ap, ap₂, ◌∙◌, subst, arith, Bool, true, false, cond, eqb, IsTrue, append_assoc, length-append, Option, Some, None, ⊎_elim}
+use Rattle.std.proofs.Common.{◌≡◌, ℕ, ◌+◌, ◌-◌, ◌<◌, ◌≤◌, ◌^◌, suc, zero, List, [], ◌∷◌, ◌++◌, length, take, drop, get_or, replicate, refl, sym, ap, ap₂, ◌∙◌, subst, arith, true, false, eqb, append_assoc, length-append, Some, ⊎_elim}
 use Rattle.std.specs.List.{list_all, slice_split}
 use Rattle.std.specs.Int.{w32, to_be_bytes, from_be_bytes}
-use Rattle.std.proofs.lemmas.List.{take_at, drop_at, take-append-drop, length-take-le, length-drop, get_or_past, get_or-drop, get_or_append_left, get_or-append_right, length-replicate}
-use Rattle.std.proofs.lemmas.Nat.{be_bytes_4, from_be_bytes-to_be_bytes_4}
+use Rattle.std.proofs.lemmas.List.{take_at, drop_at, take-append-drop, length-take-le, length-drop, get_or-drop, get_or_append_left, get_or-append_right, length-replicate}
+use Rattle.std.proofs.lemmas.Nat.{from_be_bytes-to_be_bytes_4}
 use Rattle.std.proofs.lemmas.Bool.{ne_eqb, eqb-true, cond_both, leb-true, cases_order}
 use Rattle.store_model.specs.Lists.{zeros, zero_filled}
 use Rattle.store_model.specs.Paths.{Path, is_name, is_path, is_root, name_bytes, field_len, field, key, parent, last_name}
 use Rattle.path_keys.specs.Fields.{names_in, IsField, with_zeros}
 use Rattle.path_keys.specs.Reading.{HasNoPath, IsOfField}
-use Rattle.path_keys.proofs.NameBytes.{IsWord, AreWords, words, names_in-name_bytes, names_in-append, names_in-split, first_true, second_true, is_field-split, root_test, is_field_of_shown, shown_by_field}
+use Rattle.path_keys.proofs.NameBytes.{IsWord, AreWords, words, names_in-name_bytes, names_in-append, names_in-split, first_true, second_true, is_field-split, root_test}
 use Rattle.path_keys.proofs.PathBytes.{bytes_split, last_word, field_split, len_split, front_is, word_above_zero}
 
 -- the field of a path, as such

@@ -1,14 +1,14 @@
 -- Lemmas on the bytes of names, and on the fields of paths.
-use Rattle.std.proofs.Common.{◌≡◌, ℕ, ◌+◌, ◌-◌, ◌<◌, ◌≤◌, suc, zero, List, [], ◌∷◌, ◌++◌, length, take, drop, map, get_or, set, replicate, refl, sym, ap, ap₂, ◌∙◌, subst, arith, Bool, true, false, cond, eqb, not, ◌&&◌, IsTrue, append_assoc, append-nil, length-append}
-use Rattle.std.specs.List.{AllByRecursion, list_all, flat_map, onto_first, slice_split, concat}
-use Rattle.std.proofs.lemmas.List.{take_at, drop_at, length-map, drop_all, length-drop, drop-replicate, set-get_or, get_or_default}
+use Rattle.std.proofs.Common.{◌≡◌, ℕ, ◌+◌, ◌-◌, ◌<◌, ◌≤◌, suc, List, [], ◌∷◌, ◌++◌, length, take, drop, get_or, set, refl, sym, ap, ap₂, ◌∙◌, subst, arith, Bool, true, false, cond, eqb, not, ◌&&◌, IsTrue, append_assoc, append-nil, length-append}
+use Rattle.std.specs.List.{AllByRecursion, list_all, flat_map, onto_first, slice_split}
+use Rattle.std.proofs.lemmas.List.{take_at, drop_at, length-map, drop-replicate, get_or_default}
 use Rattle.std.proofs.lemmas.List.Edits.{map_over_more}
 use Rattle.std.proofs.lemmas.List.Splits.{length-slice_split}
 use Rattle.std.proofs.lemmas.Bool.{cond-false, cond-true, ne_eqb, leb-true, le-leb, and_from, eq-eqb, eqb-true, eqb-false}
 use Rattle.std.specs.Int.{w32, to_be_bytes}
-use borrow.Rule.Slice.PartMut.{put_mid, post_of}
+use borrow.Rule.Slice.PartMut.{put_mid}
 use Rattle.store_model.specs.Lists.{zeros, zero_filled, same_bytes}
-use Rattle.store_model.specs.Paths.{Path, is_name, is_name_byte, is_path, is_root, name_bytes, field_len, fits_field, field, key, parent, last_name, is_inside}
+use Rattle.store_model.specs.Paths.{Path, is_name, is_name_byte, is_path, is_root, name_bytes, field_len, field, key}
 use Rattle.path_keys.specs.Fields.{names_in, IsField, with_zeros}
 
 -- the parts of a test that holds

@@ -1,5 +1,5 @@
 -- Lemmas on what is read from a text.
-use Rattle.std.proofs.Common.{◌≡◌, ℕ, ◌+◌, ◌<◌, ◌≤◌, List, [], ◌∷◌, length, refl, sym, ap, ◌∙◌, subst, arith, Bool, true, false, cond, eqb, IsTrue, Option, Some, None, Result, Ok, Err, IfOk, IfSome, IsSome, IsErrOf}
+use Rattle.std.proofs.Common.{◌≡◌, ℕ, ◌<◌, ◌≤◌, List, [], ◌∷◌, length, refl, sym, ap, ◌∙◌, subst, arith, false, eqb, IsTrue, Some, None, Result, Ok, Err, IfOk, IfSome, IsSome, IsErrOf}
 use Rattle.std.specs.List.{list_all}
 use Rattle.std.proofs.lemmas.Bool.{cond-false, cond-true, le-leb, lt-leb, ne_eqb, and_from}
 use Rattle.store_model.specs.Paths.{Path, is_name, is_path, fits_field}

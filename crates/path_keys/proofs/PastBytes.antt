@@ -1,5 +1,5 @@
 -- Lemmas on the key past a subtree: the key whose field is the path's with its last byte 0 made 1.
-use Rattle.std.proofs.Common.{◌≡◌, ℕ, ◌+◌, ◌-◌, ◌<◌, ◌≤◌, suc, List, [], ◌∷◌, ◌++◌, length, take, drop, set, refl, sym, ap, ap₂, ◌∙◌, subst, arith, Bool, true, false, ◌&&◌, ◌||◌, append_assoc, append-nil, length-append, Ordering, Less, Equal, Greater, nat_cmp}
+use Rattle.std.proofs.Common.{◌≡◌, ℕ, ◌-◌, ◌<◌, ◌≤◌, List, [], ◌∷◌, ◌++◌, length, drop, set, refl, sym, ap, ap₂, ◌∙◌, arith, true, false, append_assoc, append-nil, length-append, Ordering, Less, Equal, Greater, nat_cmp}
 use Rattle.std.specs.Ordering.{ordering_then}
 use Rattle.std.specs.Cmp.Lexicographic.{slice_cmp}
 use Rattle.std.specs.FinMap.{slice_cmp-IsAntisymmetric, nat_cmp-IsAntisymmetric}
@@ -11,7 +11,7 @@ use Rattle.std.proofs.lemmas.Bool.Decides.{nat_tests}
 use Rattle.std.proofs.Common.{⊎_elim, ◌⊎◌, inl, inr}
 use Rattle.store_model.specs.Lists.{zeros, zero_filled}
 use Rattle.store_model.specs.Paths.{Path, Name, is_name, is_name_byte, is_path, is_root, name_bytes, field_len, field, key, key_cmp, name_cmp, path_cmp, parent, last_name, is_inside, same_path, is_at_or_inside}
-use Rattle.path_keys.specs.Fields.{names_in, IsField}
+use Rattle.path_keys.specs.Fields.{IsField}
 use Rattle.path_keys.proofs.NameBytes.{name_bytes-cons, name_bytes-append, name_bytes-nil, first_true, second_true}
 use Rattle.path_keys.proofs.PathBytes.{last_split, bytes_split, field_split, len_split}
 use Rattle.path_keys.proofs.InsideBytes.{same_path-itself, same_path-true, inside_split, inside_from_split}

@@ -1,14 +1,14 @@
 -- Lemmas on the parent and the last name of a path, in its bytes.
-use Rattle.std.proofs.Common.{◌≡◌, ℕ, ◌+◌, ◌-◌, ◌<◌, ◌≤◌, suc, zero, List, [], ◌∷◌, ◌++◌, length, take, drop, get_or, refl, sym, ap, ap₂, ◌∙◌, subst, arith, Bool, true, false, eqb, ltb, ◌&&◌, IsTrue, append_assoc, append-nil, length-append, ⊎_elim}
-use Rattle.std.specs.List.{AllByRecursion, list_all, concat}
-use Rattle.std.proofs.lemmas.List.{take_at, drop_at, take-append-drop, take-append-le, drop_more, drop_all, length-take, length-drop, get_or_at, get_or_append_left, get_or-append_right, get_or-replicate, drop-replicate}
+use Rattle.std.proofs.Common.{◌≡◌, ℕ, ◌+◌, ◌-◌, ◌<◌, ◌≤◌, List, [], ◌∷◌, ◌++◌, length, take, drop, get_or, refl, sym, ap, ap₂, ◌∙◌, subst, arith, true, false, append_assoc, append-nil, length-append, ⊎_elim}
+use Rattle.std.specs.List.{list_all, concat}
+use Rattle.std.proofs.lemmas.List.{take_at, drop_at, take-append-drop, drop_more, drop_all, get_or_at, get_or_append_left, get_or-append_right, drop-replicate}
 use Rattle.std.proofs.lemmas.List.Elements.{All-from_recursion}
-use Rattle.std.proofs.lemmas.Bool.{eqb-true, eqb-false, and_from, le-leb, leb-true, cases_order}
+use Rattle.std.proofs.lemmas.Bool.{and_from, le-leb, leb-true, cases_order}
 use borrow.Rule.Slice.PartMut.{mid_of}
 use Rattle.store_model.specs.Lists.{zeros, zero_filled}
 use Rattle.store_model.specs.Paths.{Path, is_name, is_path, is_root, name_bytes, field_len, field, parent, last_name}
-use Rattle.path_keys.specs.Fields.{names_in, IsField}
-use Rattle.path_keys.proofs.NameBytes.{IsWord, AreWords, words, name_bytes-cons, name_bytes-append, name_bytes-nil, root_test, root_from_len, first_true, second_true}
+use Rattle.path_keys.specs.Fields.{IsField}
+use Rattle.path_keys.proofs.NameBytes.{IsWord, AreWords, words, name_bytes-cons, name_bytes-append, name_bytes-nil, first_true, second_true}
 
 -- a path other than the root is its parent and its last name
 root_length : (p : Path) → is_root p ≡ false → 1 ≤ length p

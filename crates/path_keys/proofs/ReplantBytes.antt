@@ -1,11 +1,11 @@
 -- Lemmas on paths whose subtree has moved, and on equal paths.
-use Rattle.std.proofs.Common.{◌≡◌, ℕ, ◌+◌, ◌-◌, ◌<◌, ◌≤◌, List, [], ◌∷◌, ◌++◌, length, take, drop, refl, sym, ap, ap₂, ◌∙◌, subst, arith, Bool, true, false, ◌&&◌, IsTrue, append_assoc, length-append, nat_eq}
+use Rattle.std.proofs.Common.{◌≡◌, ℕ, ◌+◌, ◌-◌, ◌<◌, ◌≤◌, List, [], ◌∷◌, ◌++◌, length, drop, refl, sym, ap, ap₂, ◌∙◌, subst, arith, Bool, true, false, append_assoc, length-append, nat_eq}
 use Rattle.std.specs.List.{list_all}
 use Rattle.std.specs.Bool.{Decides}
 use Rattle.std.specs.Cmp.Lexicographic.{pointwise}
-use Rattle.std.proofs.lemmas.List.{take_at, drop_at, drop-replicate, length-drop}
+use Rattle.std.proofs.lemmas.List.{drop_at, drop-replicate}
 use Rattle.std.proofs.lemmas.Slice.Eq.{bytes_eq-Decides, slice_eq-Decides}
-use Rattle.std.proofs.lemmas.Bool.{and_from, le-leb, lt-leb, leb-true, leb-false}
+use Rattle.std.proofs.lemmas.Bool.{and_from, le-leb, lt-leb}
 use Rattle.std.proofs.lemmas.Bool.Decides.{same_from_decides}
 use borrow.Rule.Slice.PartMut.{put_mid}
 use Rattle.store_model.specs.Lists.{zeros, zero_filled, same_bytes}

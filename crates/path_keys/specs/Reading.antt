@@ -1,5 +1,5 @@
 -- What is read from a text.
-use Rattle.std.specs.Prelude.{◌≡◌, ℕ, ◌<◌, ◌≤◌, ◌+◌, List, length, Option, Result, Ok, Err, Some, None, IsTrue, Bool, true, false, ◌==◌}
+use Rattle.std.specs.Prelude.{◌≡◌, ℕ, ◌<◌, ◌≤◌, List, length, Option, Result, Ok, Err, Some, None, IsTrue, true, false, ◌==◌}
 use Rattle.std.specs.List.{list_all, slice_split}
 use Rattle.store_model.specs.Paths.{Path, is_name, is_path, is_root, fits_field, field}
 use Rattle.store_model.specs.Grammar.{path_of}

@@ -1,6 +1,6 @@
 //! Paths, held as the fields of keys.
 
-ghost use Rattle.std.specs.Prelude.{◌≡◌, ◌<◌, ℕ, List, [], length, take, drop, slice_set, ◌^◌, ◌-◌, IfOk, IfSome, IfNone, IsErrOf, IsSome, IsNone, IsTrue, ◌↔◌, ◌≢◌, false, nat_eq, Some, None, not};
+ghost use Rattle.std.specs.Prelude.{◌≡◌, ◌<◌, ◌-◌, ◌^◌, ◌↔◌, ℕ, [], length, take, drop, slice_set, false, nat_eq, Some, None, IfOk, IfSome, IfNone, IsErrOf, IsSome, IsNone, IsTrue};
 ghost use Rattle.std.specs.Cmp.{partial_equiv_from_equiv};
 ghost use Rattle.std.specs.Cmp.Lexicographic.{pointwise, lists_equiv, nat_list_eq_equiv};
 ghost use Rattle.std.specs.Int.{w32, to_be_bytes};
@@ -127,7 +127,10 @@ impl Path {
         ensures valid { IfSome result (λ found. IsTrue (model.is_path found.0)) }
         ensures below_root { IfSome result (λ found. model.is_root found.0 ≡ false) }
         ensures none { IfNone result (HasNoPath (take 120 key.now)) }
-        ensures only { (p : List (List ℕ)) (block : ℕ) → IsTrue (model.is_path p) → model.is_root p ≡ false → block < 2 ^ 32 → key.now ≡ model.key p block → result ≡ Some (p, block) }
+
+        // Each key of a path other than the root is read.
+        ensures only { (p : model.Path) (block : ℕ) → IsTrue (model.is_path p) → model.is_root p ≡ false
+            → block < 2 ^ 32 → key.now ≡ model.key p block → result ≡ Some (p, block) }
     {
         let (field, block) = key.as_bytes().split_at(FIELD_LEN);
         let path = Path::of_field(field)?;
@@ -208,10 +211,16 @@ impl Path {
     pub fn past(&self) -> Key
         requires { model.is_root self.now ≡ false }
         ensures value { result ≡ slice_set (model.key self.now 0) (model.field_len self.now - 1) 1 }
-        ensures above { (q : List (List ℕ)) (block : ℕ) → IsTrue (model.is_path q) → IsTrue (model.is_at_or_inside q self.now) → model.key_cmp (model.key q block) result ≡ Less }
-        ensures below { (q : List (List ℕ)) (block : ℕ) → IsTrue (model.is_path q) → model.is_at_or_inside q self.now ≡ false → model.path_cmp self.now q ≡ Less → model.key_cmp result (model.key q block) ≡ Less }
         ensures valid { IsKey result }
         ensures path { IsTrue (model.is_path self.now) }
+
+        // It stands behind the keys of the subtree.
+        ensures above { (q : model.Path) (block : ℕ) → IsTrue (model.is_path q) → IsTrue (model.is_at_or_inside q self.now)
+            → model.key_cmp (model.key q block) result ≡ Less }
+
+        // And it stands before the keys of each path behind this one that is not in the subtree.
+        ensures below { (q : model.Path) (block : ℕ) → IsTrue (model.is_path q) → model.is_at_or_inside q self.now ≡ false
+            → model.path_cmp self.now q ≡ Less → model.key_cmp result (model.key q block) ≡ Less }
     {
         let mut bytes = [0; 124];
         bytes[..FIELD_LEN].copy_from_slice(&self.bytes);

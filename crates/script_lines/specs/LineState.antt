@@ -1,5 +1,5 @@
 -- What a reader of lines means at one moment, and what it has answered from one moment to a later one.
-use Rattle.std.specs.Prelude.{◌≡◌, ◌↔◌, IsOk, ℕ, ◌+◌, ◌-◌, ◌*◌, ◌<◌, ◌≤◌, Bool, true, false, IsTrue, List, [], ◌∷◌, ◌++◌, length, take, drop, Result, Ok, Err}
+use Rattle.std.specs.Prelude.{◌≡◌, ◌↔◌, IsOk, ℕ, ◌+◌, ◌-◌, ◌<◌, ◌≤◌, Bool, true, false, IsTrue, List, [], ◌∷◌, ◌++◌, length, take, drop, Result, Ok, Err}
 use Rattle.store_model.specs.Scripts.{lines, line_limit}
 use Rattle.script_lines.specs.Lines.{ended_lines}
 use Rattle.store_base.specs.Counts.{Rose}
@@ -32,9 +32,9 @@ pub record KeepsSource {T : Type 0} (old new : SourceState) (result : Result T L
   pub faults : old.faults ≤ new.faults
   pub cause : result ≡ Err causes.Source → Rose old.faults new.faults
 
--- A number that falls with each line that is answered: the bytes that are held, and twice those that may be taken.
+-- How many bytes may still come: those that are held, and those that may be taken.
 abbrev pub unread : {R : Type 0} → LineState R → ℕ
-unread reader = 2 * (reader.limit - reader.taken) + length reader.held
+unread reader = length reader.held + (reader.limit - reader.taken)
 
 -- it falls where a line is answered
 abbrev pub Falls : {R : Type 0} → LineState R → LineState R → Result Line LineFault → Type 0

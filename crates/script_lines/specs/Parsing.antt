@@ -4,7 +4,7 @@ use Rattle.std.specs.List.{slice_split}
 use Rattle.store_model.specs.Paths.{Path, fits_field}
 use Rattle.store_model.specs.Grammar.{path_of, ◌>>=◌}
 use Rattle.store_model.specs.Commands as model
-use Rattle.store_model.specs.Commands.Command.{Make, Write, Cut, Rename, Remove, Prune, List_children, Read, Space, Digest}
+use Rattle.store_model.specs.Commands.Command.{Make, Write, Cut, Rename, Remove, Prune, ListChildren, Read, Space, Digest}
 use Rattle.store_model.specs.declared.refusal.Refusal.{Refusal}
 use Rattle.store_model.specs.declared.refusal.Refusal.TheVariants as refusals
 use Rattle.script_lines.specs.declared.command.Command.{Command}
@@ -20,7 +20,7 @@ command_of (declared.Cut p len) = Cut p len
 command_of (declared.Rename p q) = Rename p q
 command_of (declared.Remove p) = Remove p
 command_of (declared.Prune p) = Prune p
-command_of (declared.List p) = List_children p
+command_of (declared.List p) = ListChildren p
 command_of (declared.Read p at len) = Read p at len
 command_of declared.Space = Space
 command_of declared.Digest = Digest

@@ -2,18 +2,18 @@
 use Rattle.std.specs.Prelude.{◌≡◌, ℕ, ◌^◌, ◌<◌, ◌≤◌, List, ◌++◌, Result, Ok, Err}
 use Rattle.store_base.specs.Counts.{Rose}
 use Rattle.store_model.specs.Commands as model
-use Rattle.store_model.specs.Commands.Reply.{Done, Content, Listing, Usage, Image_digest, Refused}
+use Rattle.store_model.specs.Commands.Reply.{Acknowledged, Content, Listing, PagesUsed, ImageDigest, Refused}
 use Rattle.script_lines.specs.declared.reply.Reply.{Reply}
 use Rattle.script_lines.specs.declared.reply.Reply.TheVariants as declared
 use Rattle.script_lines.specs.SinkState.{SinkState, IsObservable, AppendsPrefix}
 
 -- the program's reply, as the definitions have it
 abbrev pub reply_of : Reply → model.Reply
-reply_of declared.Ok = Done
+reply_of declared.Ok = Acknowledged
 reply_of (declared.Bytes bytes) = Content bytes
 reply_of (declared.Listing entries) = Listing entries
-reply_of (declared.Space used slots) = Usage used slots
-reply_of (declared.Digest digest) = Image_digest digest
+reply_of (declared.Space used slots) = PagesUsed used slots
+reply_of (declared.Digest digest) = ImageDigest digest
 reply_of (declared.No refusal) = Refused refusal
 
 -- A part of the text was put out, from its front on.

@@ -3,7 +3,7 @@
 ghost use Rattle.std.specs.Prelude.{◌≡◌, ◌≤◌, ◌+◌, ◌<◌, ◌++◌, length, OnOk, codes};
 ghost use Rattle.std.specs.Fmt.{decimal};
 ghost use Rattle.store_model.specs.Commands.{reply_text, child_line, refusal_text};
-ghost use Rattle.store_model.specs.Commands.Reply.{Content, Listing, Usage, Image_digest, Refused};
+ghost use Rattle.store_model.specs.Commands.Reply.{Content, Listing, PagesUsed, ImageDigest, Refused};
 ghost use Rattle.script_lines.specs.SinkState.{IsPut};
 ghost use Rattle.script_lines.specs.Replies.{reply_of, MakesRoom};
 
@@ -73,7 +73,7 @@ fn content_line(bytes: &Bytes) -> Text
 /// The line of the slots that are used and that there are.
 #[tactic(auto, unfolding(store_model::specs::Commands::reply_text, store_model::specs::Commands::content_text, store_model::specs::Commands::child_line, store_model::specs::Commands::refusal_text))]
 fn usage_line(used: u32, slots: u32) -> Text
-    ensures { result ≡ reply_text (Usage used slots) }
+    ensures { result ≡ reply_text (PagesUsed used slots) }
 {
     let mut text = Text::new();
     text.push(b"space ");
@@ -87,7 +87,7 @@ fn usage_line(used: u32, slots: u32) -> Text
 /// The line of a digest.
 #[tactic(auto, unfolding(store_model::specs::Commands::reply_text, store_model::specs::Commands::content_text, store_model::specs::Commands::child_line, store_model::specs::Commands::refusal_text))]
 fn digest_line(digest: &[u8; 32]) -> Text
-    ensures { result ≡ reply_text (Image_digest digest.now) }
+    ensures { result ≡ reply_text (ImageDigest digest.now) }
 {
     let mut text = Text::new();
     text.push(b"digest ");

@@ -1,6 +1,6 @@
 //! The types that every layer of the store shares: keys, labels, values, parameters and faults, the bytes
-//! that they have in an image, where its areas lie, and the slots that the table's calls work on. No call
-//! of this crate takes memory.
+//! that they have in an image, where its areas lie, and the slots that the table's calls work on. Only
+//! `Entries` takes memory.
 #![tactic(auto)]
 
 mod areas;

@@ -1,5 +1,4 @@
-use Rattle.std.proofs.Common.{ap, ap₂, ◌∙◌, sym, ◌++◌, append-nil, arith}
-use Rattle.std.specs.Int.{w32, to_be_bytes}
+use Rattle.std.proofs.Common.{◌∙◌}
 use Rattle.path_keys.proofs.NameBytes.{key_written, field_of_view}
 use Rattle.path_keys.proofs.paths.Path.key.Goals as goal
 

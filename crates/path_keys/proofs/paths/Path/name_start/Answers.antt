@@ -1,5 +1,5 @@
-use Rattle.std.proofs.Common.{arith, ◌≡◌, subst, sym, ◌<◌}
-use Rattle.store_model.specs.Paths.{field_len, parent}
+use Rattle.std.proofs.Common.{subst, sym, ◌<◌}
+use Rattle.store_model.specs.Paths.{field_len}
 use Rattle.path_keys.proofs.NameBytes.{field_of_view}
 use Rattle.path_keys.proofs.PathBytes.{len_above_zero, start_found, start_within}
 use Rattle.path_keys.proofs.paths.Path.name_start.Goals as goal

@@ -1,4 +1,4 @@
-use Rattle.std.proofs.Common.{◌≤◌, length, sym, ap, ap₂, subst, ◌∙◌, drop, arith}
+use Rattle.std.proofs.Common.{length, ap, ap₂, ◌∙◌, drop, arith}
 use Rattle.path_keys.proofs.NameBytes.{field_of_view}
 use Rattle.path_keys.proofs.ReplantBytes.{old_within}
 use Rattle.path_keys.proofs.paths.Path.names_below.Goals as goal

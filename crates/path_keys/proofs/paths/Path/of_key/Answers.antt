@@ -1,4 +1,4 @@
-use Rattle.std.proofs.Common.{sym, ◌∙◌, ap, ap₂, take, arith, Some}
+use Rattle.std.proofs.Common.{sym, ◌∙◌, ap, ap₂, take, Some}
 use Rattle.path_keys.proofs.KeyBytes.{key_again, key_read, take-key}
 use Rattle.path_keys.proofs.paths.Path.of_key.Goals as goal
 

@@ -1,8 +1,7 @@
-use Rattle.std.proofs.Common.{◌++◌, drop, sym, ◌∙◌, subst, IsTrue}
-use Rattle.store_model.specs.Lists.{zeros}
+use Rattle.std.proofs.Common.{sym, ◌∙◌}
 use Rattle.store_model.specs.Paths as model
 use Rattle.path_keys.proofs.NameBytes.{field_of_view, is_field_of_shown, shown_by_field}
-use Rattle.path_keys.proofs.PathBytes.{parent_field, parent_is_path}
+use Rattle.path_keys.proofs.PathBytes.{parent_field}
 use Rattle.path_keys.proofs.paths.Path.parent.Goals as goal
 
 pub invariant_of-result : goal.invariant_of-result

@@ -1,4 +1,4 @@
-use Rattle.std.proofs.Common.{sym, ap, ◌∙◌}
+use Rattle.std.proofs.Common.{ap, ◌∙◌}
 use Rattle.store_model.specs.Paths as model
 use Rattle.path_keys.proofs.NameBytes.{field_of_view}
 use Rattle.path_keys.proofs.PathBytes.{len_above_zero}

@@ -1,4 +1,4 @@
-use Rattle.std.proofs.Common.{[], zero}
+use Rattle.std.proofs.Common.{[]}
 use Rattle.store_model.specs.Lists.{zeros}
 use Rattle.path_keys.proofs.NameBytes.{root_field, is_field_of_shown, shown_by_field}
 use Rattle.path_keys.proofs.paths.Path.root.Goals as goal
