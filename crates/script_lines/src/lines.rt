@@ -230,7 +230,7 @@ impl<R: Source> LineReader<R> {
         }
     }
 
-    /// Passes over a line that is longer than the limit, of which the bytes held are the beginning.
+    /// Passes over a line of more bytes than a line may have, of which the bytes held are the beginning.
     fn pass_long(&mut self) -> Result<Line, LineFault>
         requires live { self.old.is_live ≡ true }
         requires going { self.old.is_ended ≡ false }
