@@ -1,0 +1,2 @@
+pub mod DiskState
+pub mod DiskCalls
