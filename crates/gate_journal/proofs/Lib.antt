@@ -1,0 +1,5 @@
+pub mod Areas
+pub mod Places
+pub mod Calls
+pub mod Entries
+pub mod Loops
