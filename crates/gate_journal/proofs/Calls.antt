@@ -1,11 +1,11 @@
 -- What several calls of a disk make together.
-use Rattle.std.proofs.Common.{◌≡◌, ℕ, ◌+◌, ◌≤◌, List, arith, Result, Ok, Err, OnOk, IsErr, refl, sym, subst, ◌∙◌}
+use Rattle.std.proofs.Common.{◌≡◌, ℕ, ◌+◌, ◌≤◌, List, length, arith, Result, Ok, Err, OnOk, IsErr, refl, sym, subst, ◌∙◌}
 use Rattle.std.proofs.lemmas.Bool.{false≢true}
 use Rattle.disk_model.specs.DiskState.{DiskState, IsObservable, IsDurable, IsSound}
-use Rattle.disk_model.specs.DiskCalls.{raised_by, Rose, IsCall, IsRead, IsWrite, IsSync}
+use Rattle.disk_model.specs.DiskCalls.{raised_by, Rose, overwrite, IsCall, IsWrite, IsSync}
 use Rattle.disk_model.proofs.Counts.{Rose-later, Rose-earlier}
-use Rattle.gate_journal.specs.Places.{AreCalls, Made, Makes, Keeps, Reaches}
-use Rattle.gate_journal.proofs.Places.{Keeps-trans, Keeps-sync}
+use Rattle.gate_journal.specs.Places.{IsApart, AreCalls, Made, Makes, Keeps, Reaches}
+use Rattle.gate_journal.proofs.Places.{Keeps-trans, Keeps-sync, Keeps-write}
 
 -- no call
 pub AreCalls-none : {T E : Type 0} (disk : DiskState) (value : T) → AreCalls {T = T} {E = E} disk disk (Ok value)
@@ -191,3 +191,12 @@ durable-sync old new result observable sync = (sync.observed observable).durable
 pub Reaches-fault : {T E : Type 0} (places : ℕ → Type 0) (Done : List ℕ → Type 0) (old new : DiskState) (result : Result T E) → IsErr result → Keeps places old new → Reaches places Done old new result
 Reaches-fault places Done old new (Ok value) fails keeps = absurd (false≢true fails)
 Reaches-fault places Done old new (Err error) fails keeps = record { keeps = keeps; done = tt }
+
+-- one write
+pub Reaches-write : {T E : Type 0} (places : ℕ → Type 0) (Done : List ℕ → Type 0) (old new : DiskState) (result : Result T E) → IsObservable old → (at : ℕ) (bytes : List ℕ) → ((place : ℕ) → places place → IsApart at (length bytes) place) → IsWrite old new at bytes result
+    → Done (overwrite old.bytes at bytes) → Reaches places Done old new result
+Reaches-write places Done old new (Ok value) observable at bytes apart write done = record {
+  keeps = Keeps-write places old new (Ok value) observable at bytes apart write;
+  done = subst Done (sym (write.observed observable).written) done;
+}
+Reaches-write places Done old new (Err error) observable at bytes apart write done = record { keeps = Keeps-write places old new (Err error) observable at bytes apart write; done = tt }
