@@ -195,7 +195,7 @@ module _ (slots : ℕ) (changes : Changes) (valid : AreChanges slots changes) wh
     new_long : length (with_slots slots changes old) ≡ image_len slots
     new_long = (with_first_same old long changes.count (omega arith)).same_length ∙ long
 
-    new_empty : HasEmptyJournal slots (with_slots slots changes old)
+    pub new_empty : HasEmptyJournal slots (with_slots slots changes old)
     new_empty place low high =
         (with_first_same old long changes.count (omega arith)).same place (λ k few. inl (omega (arith, (areas slots (changes.slot k) (valid.below k few)).table_is)))
         ∙ empty place low high

@@ -6,3 +6,4 @@ pub mod Loops
 pub mod Slots
 pub mod Phases
 pub mod Committing
+pub mod Stages

@@ -1,10 +1,12 @@
 -- Slots of a table that are to be changed together, and an image with these slots changed.
-use Rattle.std.specs.Prelude.{◌≡◌, ◌⊎◌, ℕ, zero, suc, ◌+◌, ◌<◌, List, length, slice_index}
+use Rattle.std.specs.Prelude.{◌≡◌, ◌⊎◌, ℕ, zero, suc, ◌+◌, ◌<◌, List, length, slice_index, Result, OnOk}
 use Rattle.store_model.specs.Lists.{zeros}
 use Rattle.store_model.specs.Parameters.{mark_at, shadow_at, table_at}
 use Rattle.store_model.specs.Images.{bytes_at, recovered}
-use Rattle.disk_model.specs.DiskCalls.{overwrite}
+use Rattle.disk_model.specs.DiskState.{DiskState, IsDurable}
+use Rattle.disk_model.specs.DiskCalls.{overwrite, LeavesOnly}
 use Rattle.gate_journal.specs.Places.{IsApart}
+use Rattle.gate_journal.specs.Phases.{HasEmptyJournal}
 
 -- how many slots change, the number of each, and its new bytes
 pub record Changes : Type 0 where
@@ -56,3 +58,12 @@ AreJournaled slots changes n image = (k : ℕ) → k < n → HasEntry slots (cha
 -- the marks and shadow blocks of the first n of the changed slots are zero
 abbrev pub AreErased : ℕ → Changes → ℕ → List ℕ → Type 0
 AreErased slots changes n image = (k : ℕ) → k < n → HasEntry slots (changes.slot k) 0 (zeros 4096) image
+
+-- A commit of the changes: an image that a crash at any moment of it may leave recovers to the old image or to the one
+-- with the slots changed, and so does what is read after a fault; after Ok the disk is durable and reads the latter.
+pub record Commits {T E : Type 0} (slots : ℕ) (changes : Changes) (old new : DiskState) (result : Result T E) : Type 0 where
+  pub crash : LeavesOnly old new (RecoversToEither slots old.bytes (with_slots slots changes old.bytes))
+  pub reads : RecoversToEither slots old.bytes (with_slots slots changes old.bytes) new.bytes
+  pub durable : OnOk result (IsDurable new)
+  pub done : OnOk result (new.bytes ≡ with_slots slots changes old.bytes)
+  pub empty : OnOk result (HasEmptyJournal slots new.bytes)
