@@ -1,5 +1,5 @@
 -- How the areas of an image lie.
-use Rattle.std.proofs.Common.{◌≡◌, ℕ, ◌+◌, ◌*◌, ◌<◌, ◌≤◌, arith}
+use Rattle.std.proofs.Common.{◌≡◌, ℕ, ◌+◌, ◌*◌, ◌/◌, ◌<◌, ◌≤◌, arith}
 use Rattle.store_model.specs.Parameters.{mark_blocks, mark_at, shadow_at, table_at, image_len}
 use Rattle.store_model.specs.Images.{journal_len}
 
@@ -32,3 +32,8 @@ shadow_end slots = omega arith
 pub table_end : (slots : ℕ) → image_len slots ≡ table_at slots 0 + 4096 * slots
 unfolding table_at image_len
 table_end slots = omega arith
+
+-- the blocks before the table
+pub table_blocks : (slots : ℕ) → 4096 * (table_at slots 0 / 4096) ≡ table_at slots 0
+unfolding table_at
+table_blocks slots = omega arith

@@ -7,3 +7,4 @@ pub mod Slots
 pub mod Phases
 pub mod Committing
 pub mod Stages
+pub mod Reading

@@ -1,3 +1,4 @@
 pub mod Changes
 pub mod Phases
 pub mod Places
+pub mod Recovery

@@ -1,5 +1,5 @@
 -- What writes that spare some places of a disk leave as it was.
-use Rattle.std.specs.Prelude.{◌≡◌, ◌⊎◌, ℕ, ◌+◌, ◌-◌, ◌^◌, min, ◌<◌, ◌≤◌, List, length, slice_index, Result, OnOk, OnErr}
+use Rattle.std.specs.Prelude.{◌≡◌, ◌⊎◌, ◌↔◌, ℕ, ◌+◌, ◌-◌, ◌^◌, min, ◌<◌, ◌≤◌, List, length, slice_index, Result, OnOk, OnErr}
 use Rattle.disk_model.specs.DiskState.{DiskState}
 use Rattle.disk_model.specs.DiskCalls.{raised_by, Rose, LeavesOnly}
 
@@ -55,3 +55,15 @@ pub record Comes (places : ℕ → Type 0) (Done : List ℕ → Type 0) (writes 
   pub keeps : Keeps places old new
   pub done : Done new.bytes
   pub made : Made writes 0 old new
+
+-- Calls that read only: the disk reads the same, a crash may leave the same, and nothing was written or synced.
+pub record ReadsOnly (old new : DiskState) : Type 0 where
+  pub leaves : LeavesOnly old new old.crash_images
+  pub bytes : new.bytes ≡ old.bytes
+  pub crash : (image : List ℕ) → new.crash_images image ↔ old.crash_images image
+  pub write_count : new.writes ≡ old.writes
+  pub sync_count : new.syncs ≡ old.syncs
+
+-- n bytes of the image, from this place on, are zero
+abbrev pub IsZeroAt : ℕ → ℕ → List ℕ → Type 0
+IsZeroAt at n image = (place : ℕ) → at ≤ place → place < at + n → slice_index image place ≡ 0

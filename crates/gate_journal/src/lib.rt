@@ -3,5 +3,6 @@
 
 mod changes;
 mod commit;
+mod recover;
 
 pub use changes::SlotChanges;
