@@ -17,7 +17,7 @@ use Rattle.gate_journal.proofs.Entries.{slice_index-overwrite}
 use Rattle.gate_journal.proofs.Phases.{recovered_in_phase, settled-same, settled_empty}
 
 -- a slot of the table lies apart from another
-table_apart : (slots i other : ℕ) → i < slots → other < slots → (other ≡ i → ⊥) → (place : ℕ) → table_at slots i ≤ place → place < table_at slots i + 4096 → IsApart (table_at slots other) 4096 place
+pub table_apart : (slots i other : ℕ) → i < slots → other < slots → (other ≡ i → ⊥) → (place : ℕ) → table_at slots i ≤ place → place < table_at slots i + 4096 → IsApart (table_at slots other) 4096 place
 table_apart slots i other below other_below differ place low high =
     let here = areas slots i below in
     let there = areas slots other other_below in
@@ -37,11 +37,11 @@ HasTable-same slots places target a b header table same has = record {
       ∙ has.table i below;
 }
 
-clear_flag : (image : List ℕ) → slice_index image 4096 ≡ 0 → is_raised image ≡ false
+pub clear_flag : (image : List ℕ) → slice_index image 4096 ≡ 0 → is_raised image ≡ false
 unfolding is_raised
 clear_flag image zero_flag = ap (λ (b : ℕ). not (b == 0)) zero_flag
 
-set_flag : (image : List ℕ) → slice_index image 4096 ≡ 1 → is_raised image ≡ true
+pub set_flag : (image : List ℕ) → slice_index image 4096 ≡ 1 → is_raised image ≡ true
 unfolding is_raised
 set_flag image one = ap (λ (b : ℕ). not (b == 0)) one
 

@@ -8,3 +8,6 @@ pub mod Phases
 pub mod Committing
 pub mod Stages
 pub mod Reading
+pub mod Redoing
+pub mod Recovering
+pub mod Recoveries

@@ -80,7 +80,7 @@ zero_more image at n m first then place low high = elim (cases_lt place (at + n)
 pub zero_kept : (places : ℕ → Type 0) (at n : ℕ) (a b : List ℕ) → ((place : ℕ) → at ≤ place → place < at + n → places place) → SameAt places a b → IsZeroAt at n a → IsZeroAt at n b
 zero_kept places at n a b within same zero place low high = same.same place (within place low high) ∙ zero place low high
 
-apart_within : (from total n at m : ℕ) → at ≡ from + n → n + m ≤ total → (place : ℕ) → IsApart from total place → IsApart at m place
+pub apart_within : (from total n at m : ℕ) → at ≡ from + n → n + m ≤ total → (place : ℕ) → IsApart from total place → IsApart at m place
 apart_within from total n at m there fits place (inl low) = inl (omega arith)
 apart_within from total n at m there fits place (inr high) = inr (omega arith)
 
@@ -92,8 +92,6 @@ erase_step from total n at m old mid new sound there fits keeps zero reaches = (
   zero_more new.bytes from n m (zero_kept (IsApart at m) from n mid.bytes new.bytes (λ place low high. inl (omega arith)) reaches.keeps.reads zero) (subst (λ (start : ℕ). IsZeroAt start m new.bytes) there reaches.done),
 )
 
--- the first byte that was read
-pub first_read : (image buffer : List ℕ) (at : ℕ) → buffer ≡ take (length buffer) (drop at image) → 0 < length buffer → slice_index buffer 0 ≡ slice_index image at
-first_read image buffer at is some =
-    let there : at + 0 ≡ at = omega arith in
-    ap (λ (l : List ℕ). slice_index l 0) is ∙ get_or-take (length buffer) (drop at image) 0 0 some ∙ get_or-drop at image 0 0 ∙ ap (slice_index image) there
+-- a byte that was read
+pub byte_read : (image buffer : List ℕ) (at i : ℕ) → buffer ≡ take (length buffer) (drop at image) → i < length buffer → slice_index buffer i ≡ slice_index image (at + i)
+byte_read image buffer at i is low = ap (λ (l : List ℕ). slice_index l i) is ∙ get_or-take (length buffer) (drop at image) i 0 low ∙ get_or-drop at image i 0

@@ -1,5 +1,5 @@
 -- Lists that are made of blocks, one for each slot.
-use Rattle.std.proofs.Common.{◌≡◌, ℕ, zero, suc, ◌+◌, ◌*◌, ◌<◌, ◌≤◌, List, [], ◌∷◌, ◌++◌, length, take, drop, refl, sym, ap, ◌∙◌, arith, take-append-drop}
+use Rattle.std.proofs.Common.{◌≡◌, ℕ, zero, suc, ◌+◌, ◌*◌, ◌<◌, ◌≤◌, List, [], ◌∷◌, ◌++◌, length, take, drop, refl, sym, ap, ◌∙◌, arith, take-append-drop, length-append}
 use Rattle.std.specs.List.{flat_map}
 use Rattle.std.proofs.lemmas.List.{take_at, drop_at, take-take, drop-take, drop-drop}
 use Rattle.store_model.specs.Lists.{numbers_from}
@@ -49,3 +49,12 @@ flat_map-same f g first zero same = refl
 flat_map-same f g first (suc count) same =
     ap (λ (l : List ℕ). l ++ flat_map f (numbers_from (suc first) count)) (same first (omega arith))
     ∙ ap (λ (l : List ℕ). g first ++ l) (flat_map-same f g (suc first) count (λ j low. same j (omega arith)))
+
+-- blocks of n elements each, joined
+pub length-flat_map-blocks : (f : ℕ → List ℕ) (n first count : ℕ) → ((j : ℕ) → j < first + count → length (f j) ≡ n) → length (flat_map f (numbers_from first count)) ≡ n * count
+unfolding numbers_from
+length-flat_map-blocks f n first zero lengths = omega arith
+length-flat_map-blocks f n first (suc count) lengths =
+    let rest = flat_map f (numbers_from (suc first) count) in
+    let more : n * suc count ≡ n + n * count = omega arith in
+    omega (arith, more, length-append (f first) rest, lengths first (omega arith), length-flat_map-blocks f n (suc first) count (λ j low. lengths j (omega arith)))

@@ -1,14 +1,15 @@
 -- The states of the disk between the phases of a commit.
-use Rattle.std.proofs.Common.{◌≡◌, ℕ, ◌<◌, List, [], ◌∷◌, slice_index, sym, ◌∙◌, subst, Result, Ok, Err, OnOk, IsErr, length}
+use Rattle.std.proofs.Common.{◌≡◌, ℕ, ◌<◌, List, [], ◌∷◌, slice_index, sym, ap, inl, subst, Result, Ok, Err, OnOk, IsErr, length}
 use Rattle.std.proofs.lemmas.Bool.{false≢true}
 use Rattle.store_model.specs.Parameters.{image_len}
 use Rattle.disk_model.specs.DiskState.{DiskState, IsDurable, IsSound}
 use Rattle.disk_model.specs.DiskCalls.{LeavesOnly, overwrite}
-use Rattle.disk_model.proofs.Crashes.{LeavesOnly-trans, LeavesOnly-weaken, MayLeaveOnly-end}
+use Rattle.disk_model.proofs.Crashes.{LeavesOnly-refl, LeavesOnly-trans, LeavesOnly-weaken, MayLeaveOnly-end, MayLeaveOnly-durable}
 use Rattle.gate_journal.specs.Places.{IsApart, SameAt, Keeps, Reaches}
-use Rattle.gate_journal.specs.Changes.{Changes, AreChanges, OutsideJournal, OutsideTable, AreJournaled, AreErased, with_slots, RecoversToEither, Commits}
+use Rattle.gate_journal.specs.Changes.{Changes, AreChanges, OutsideJournal, OutsideTable, AreJournaled, AreErased, with_first, with_slots, RecoversToEither, Commits}
 use Rattle.gate_journal.specs.Phases.{HasEmptyJournal}
 use Rattle.gate_journal.proofs.Places.{Keeps-durable}
+use Rattle.gate_journal.proofs.Phases.{recovered_empty}
 use Rattle.gate_journal.proofs.Committing.{Stands, journaling, journaled, flagging, flagged, redoing, redone, clearing, erasing, erased, new_empty}
 
 -- a claim of Ok, where the result is an error
@@ -116,3 +117,16 @@ module _ (slots : ℕ) (changes : Changes) (valid : AreChanges slots changes) (s
         empty = on_ok_map result (new.bytes ≡ with_slots slots changes start.bytes) (HasEmptyJournal slots new.bytes)
             (λ is. subst (HasEmptyJournal slots) (sym is) (new_empty slots changes valid start.bytes long empty)) done;
       }
+
+-- no change: nothing was called
+pub commits_none : {T E : Type 0} (slots : ℕ) (changes : Changes) (disk : DiskState) (value : T) → changes.count ≡ 0 → length disk.bytes ≡ image_len slots → IsSound disk → IsDurable disk → HasEmptyJournal slots disk.bytes → Commits {E = E} slots changes disk disk (Ok value)
+commits_none slots changes disk value none long sound durable empty =
+    let same : disk.bytes ≡ with_slots slots changes disk.bytes = ap (λ (n : ℕ). with_first slots changes n disk.bytes) (sym none) in
+    let here : RecoversToEither slots disk.bytes (with_slots slots changes disk.bytes) disk.bytes = inl (recovered_empty slots disk.bytes long empty) in
+    record {
+      crash = LeavesOnly-refl disk (RecoversToEither slots disk.bytes (with_slots slots changes disk.bytes)) sound (MayLeaveOnly-durable disk (RecoversToEither slots disk.bytes (with_slots slots changes disk.bytes)) durable here);
+      reads = here;
+      durable = durable;
+      done = same;
+      empty = empty;
+    }

@@ -111,7 +111,7 @@ fn write_table<D: Disk, S: SlotChanges>(
 }
 
 // Commits changed slots, of which there is one at least, in a table of so many slots.
-fn commit_changes<D: Disk, S: SlotChanges>(
+pub fn commit_changes<D: Disk, S: SlotChanges>(
     disk: &mut D,
     slots: u32,
     changes: &S,

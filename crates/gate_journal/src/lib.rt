@@ -3,6 +3,8 @@
 
 mod changes;
 mod commit;
+mod journal;
 mod recover;
 
 pub use changes::SlotChanges;
+pub use journal::Journal;

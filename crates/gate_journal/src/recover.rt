@@ -126,3 +126,66 @@ fn redo_slot<D: Disk>(disk: &mut D, slots: u32, slot: u32) -> Result<(), DiskFau
     disk.read_at(shadow_at(slots, slot), &mut bytes)?;
     disk.write_at(table_at(slots, slot), &bytes)
 }
+
+// Puts the shadow blocks of the marked slots whose marks are in this block of marks into the table.
+fn redo_block<D: Disk>(disk: &mut D, slots: u32, first: u32) -> Result<(), DiskFault>
+    requires in_range { slots ≤ 16384 }
+    requires below { first < slots }
+    requires size { (D.state disk.old).size ≡ image_len slots }
+    ensures calls { AreCalls (D.state disk.old) (D.state disk.new) result }
+    ensures reaches { IsObservable (D.state disk.old) → Reaches (OutsideMarked slots first (min slots (first + 4096)) (D.state disk.old).bytes) (AreRedone slots first (min slots (first + 4096)) (D.state disk.old).bytes) (D.state disk.old) (D.state disk.new) result }
+{
+    let mut marks = [0; BLOCK];
+    disk.read_at(mark_at(first), &mut marks)?;
+    for slot in first..slots.min(first + 4096) {
+        if marks[(slot - first) as usize] != 0 {
+            redo_slot(disk, slots, slot)?;
+        }
+    }
+    Ok(())
+}
+
+// Puts the shadow blocks of all marked slots into the table, and makes that durable.
+fn redo_table<D: Disk>(disk: &mut D, slots: u32) -> Result<(), DiskFault>
+    requires in_range { slots ≤ 16384 }
+    requires size { (D.state disk.old).size ≡ image_len slots }
+    ensures calls { AreCalls (D.state disk.old) (D.state disk.new) result }
+    ensures reaches { IsObservable (D.state disk.old) → Reaches (OutsideMarked slots 0 slots (D.state disk.old).bytes) (AreRedone slots 0 slots (D.state disk.old).bytes) (D.state disk.old) (D.state disk.new) result }
+    ensures durable { IsObservable (D.state disk.old) → OnOk result (IsDurable (D.state disk.new)) }
+{
+    for block in 0..slots.div_ceil(4096) {
+        redo_block(disk, slots, block * 4096)?;
+    }
+    disk.sync()
+}
+
+// Redoes the marked slots where the commit flag is set, and clears it.
+fn settle_flag<D: Disk>(disk: &mut D, slots: u32) -> Result<(), DiskFault>
+    requires in_range { slots ≤ 16384 }
+    requires size { (D.state disk.old).size ≡ image_len slots }
+    requires durable { IsObservable (D.state disk.old) → IsDurable (D.state disk.old) }
+    ensures calls { AreCalls (D.state disk.old) (D.state disk.new) result }
+    ensures settles { IsObservable (D.state disk.old) → SettlesFlag slots (D.state disk.old) (D.state disk.new) result }
+{
+    if !is_flag_set(disk)? {
+        return Ok(());
+    }
+    redo_table(disk, slots)?;
+    write_flag(disk, 0)
+}
+
+// Recovers a durable disk.
+pub fn recover_durable<D: Disk>(disk: &mut D, slots: u32) -> Result<(), DiskFault>
+    requires in_range { slots ≤ 16384 }
+    requires some { 1 ≤ slots }
+    requires size { (D.state disk.old).size ≡ image_len slots }
+    requires durable { IsObservable (D.state disk.old) → IsDurable (D.state disk.old) }
+    ensures calls { AreCalls (D.state disk.old) (D.state disk.new) result }
+    ensures recovers { IsObservable (D.state disk.old) → RecoversDurable slots (D.state disk.old) (D.state disk.new) result }
+{
+    if is_journal_zero(disk, slots)? {
+        return Ok(());
+    }
+    settle_flag(disk, slots)?;
+    erase_area(disk, slots)
+}
