@@ -1,7 +1,8 @@
 -- Images that agree outside a range, and what overwriting a range gives.
 use Rattle.std.proofs.Common.{◌≡◌, ◌⊎◌, ℕ, ◌+◌, ◌-◌, ◌<◌, ◌≤◌, List, ◌++◌, length, take, drop, slice_index, refl, sym, ◌∙◌, ap, inl, inr, arith, length-take, length-drop, length-append, get_or-take, get_or-drop, append_assoc}
 use Rattle.std.proofs.lemmas.Bool.{cases_lt}
-use Rattle.std.proofs.lemmas.List.{get_or_append_left, get_or-append_right, ext_get_or, take_at, drop_at}
+use Rattle.std.proofs.lemmas.List.{get_or_append_left, get_or-append_right, ext_get_or, take_at, drop_at, drop-drop}
+use borrow.Rule.Slice.PartMut.{put_mid}
 use Rattle.disk_model.specs.DiskCalls.{SameOutside, overwrite}
 
 pub SameOutside-refl : (at n : ℕ) (image : List ℕ) → SameOutside at n image image
@@ -57,6 +58,18 @@ SameOutside-overwrite old at bytes within =
           let back : end + (i - end) ≡ i = omega arith in
           get_or-append_right (take at old ++ bytes) _ end i 0 front high ∙ get_or-drop end old (i - end) 0 ∙ ap (slice_index old) back;
     }
+
+-- a byte of the range that was overwritten
+pub slice_index-overwrite : (old : List ℕ) (at : ℕ) (bytes : List ℕ) (place : ℕ) → at + length bytes ≤ length old → at ≤ place → place < at + length bytes → slice_index (overwrite old at bytes) place ≡ slice_index bytes (place - at)
+slice_index-overwrite old at bytes place within low high =
+    let front : length (take at old) ≡ at = omega (arith, length-take at old) in
+    get_or_append_left (take at old ++ bytes) _ 0 place (omega (arith, overwrite_front old at bytes within)) ∙ get_or-append_right (take at old) bytes at place 0 front low
+
+-- a part of a slice that was written anew
+pub put_mid-overwrite : (at n : ℕ) (old bytes : List ℕ) → length bytes ≡ n → put_mid at n old bytes ≡ overwrite old at bytes
+put_mid-overwrite at n old bytes is =
+    let behind : drop n (drop at old) ≡ drop (at + length bytes) old = drop-drop n at old ∙ ap (λ (k : ℕ). drop (at + k) old) (sym is) in
+    ap (λ (l : List ℕ). take at old ++ (bytes ++ l)) behind ∙ sym (append_assoc (take at old) bytes (drop (at + length bytes) old))
 
 -- the bytes of the range that was overwritten
 pub take-drop-overwrite : (old : List ℕ) (at : ℕ) (bytes : List ℕ) → at + length bytes ≤ length old → take (length bytes) (drop at (overwrite old at bytes)) ≡ bytes

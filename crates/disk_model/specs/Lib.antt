@@ -1,2 +1,10 @@
-pub mod DiskState
+pub mod Counted
 pub mod DiskCalls
+pub mod DiskState
+pub mod FailingDisk
+pub mod FileDisk
+pub mod MemDisk
+pub mod Memory
+pub mod MemoryLaws
+pub mod Record
+pub mod StopChoice

@@ -9,6 +9,9 @@ use store_base::DiskFault;
 ///
 /// Between two syncs that succeed, a crash may leave any bytes in each range that was written, and leaves every other
 /// byte as it reads. A crash may come at any moment, inside a call or between two.
+///
+/// Each call answers `DiskFault` only where the disk's count of faults rose during it, or stands at its last value.
+/// Clauses on size and counts hold for every disk, and those on bytes and crashes for each disk that tells its bytes.
 pub trait Disk {
     /// What the disk means at this moment: its bytes, the images that a crash may leave, its clock and its counts.
     ghost state: { Self → DiskState };

@@ -3,5 +3,18 @@
 #![tactic(auto)]
 
 mod disk;
+mod durable;
+mod failing;
+mod file;
+mod memory;
+mod record;
 
 pub use disk::Disk;
+pub use durable::write_durably;
+pub use failing::FailingDisk;
+pub use file::FileDisk;
+pub use memory::MemDisk;
+pub use record::StopChoice;
+
+#[cfg(test)]
+mod tests;

@@ -1,6 +1,4 @@
 //! What can go wrong outside the store: the disk fails, or memory runs out.
-ghost use Rattle.store_base.specs.declared.fault.NoMemory.{NoMemory};
-ghost use Rattle.std.specs.Prelude.{◌≡◌};
 
 use std::alloc::{AllocError, AllocFailed};
 use thiserror::Error;
