@@ -4,8 +4,9 @@
 //! The marks take as many whole blocks as a byte for each slot and one reserved byte need; shadow and
 //! table have a block for each slot. All places and lengths are in bytes.
 
-ghost use Rattle.std.specs.Prelude.{◌≡◌, ◌+◌, ◌*◌, ◌<◌, ◌≤◌};
+ghost use Rattle.std.specs.Prelude.{◌≡◌, ℕ, ◌+◌, ◌*◌, ◌<◌, ◌≤◌};
 ghost use Rattle.store_model.specs.Parameters as model;
+ghost use Rattle.store_base.specs.Areas.{AreasFill};
 
 /// The bytes of a block, and of a slot.
 const BLOCK: u64 = 4096;
@@ -45,21 +46,29 @@ pub fn mark_at(i: u32) -> u64
 }
 
 /// Where the shadow block of slot `i` begins, in an image of so many slots.
-#[tactic(auto, unfolding(store_model::specs::Parameters::shadow_at))]
+#[tactic(auto, unfolding(store_model::specs::Parameters::shadow_at, store_model::specs::Parameters::image_len))]
 pub fn shadow_at(slots: u32, i: u32) -> u64
     requires in_range { slots ≤ 16384 }
     requires below { i < slots }
-    ensures { result ≡ model.shadow_at slots i }
+    ensures value { result ≡ model.shadow_at slots i }
+    ensures within { result + 4096 ≤ model.image_len slots }
 {
     BLOCK * (2 + mark_blocks(slots) + u64::from(i))
 }
 
 /// Where slot `i` of the table begins, in an image of so many slots.
-#[tactic(auto, unfolding(store_model::specs::Parameters::table_at))]
+#[tactic(auto, unfolding(store_model::specs::Parameters::table_at, store_model::specs::Parameters::image_len))]
 pub fn table_at(slots: u32, i: u32) -> u64
     requires in_range { slots ≤ 16384 }
     requires below { i < slots }
-    ensures { result ≡ model.table_at slots i }
+    ensures value { result ≡ model.table_at slots i }
+    ensures within { result + 4096 ≤ model.image_len slots }
 {
     BLOCK * (2 + mark_blocks(slots) + u64::from(slots) + u64::from(i))
 }
+
+/// The areas lie one behind the other, from byte 0 to the end of the image.
+#[tactic(auto, unfolding(store_model::specs::Parameters::mark_blocks, store_model::specs::Parameters::shadow_at, store_model::specs::Parameters::table_at, store_model::specs::Parameters::image_len))]
+pub fn areas_fill_the_image()
+    ensures { (slots : ℕ) → AreasFill slots }
+{}

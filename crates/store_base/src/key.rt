@@ -1,12 +1,11 @@
 //! Keys.
 
-ghost use Rattle.std.specs.Prelude.{◌≡◌, length};
+ghost use Rattle.std.specs.Prelude.{◌≡◌, ◌↔◌, Some, IsTrue, nat_eq};
 ghost use Rattle.std.proofs.Common.{refl};
-ghost use Rattle.std.specs.Prelude.{Some, nat_eq};
 ghost use Rattle.std.specs.Cmp.{partial_equiv_from_equiv};
 ghost use Rattle.std.specs.Cmp.Lexicographic.{pointwise, nat_list_eq_equiv, nat_list_cmp_total, texts_po, texts_ties};
-ghost use Rattle.store_model.specs.Lists.{IsBytes};
 ghost use Rattle.store_model.specs.Paths.{key_cmp};
+ghost use Rattle.store_base.specs.Keys.{IsKey};
 
 use std::cmp::Ordering;
 use std::marker::Model;
@@ -20,10 +19,13 @@ pub struct Key {
 
 impl Model for Key {
     ghost use Rattle.std.specs.Prelude.{List, ℕ};
+    ghost use Rattle.store_model.specs.Lists.{IsBytes};
 
     ghost Value = { List ℕ };
 
     ghost view = { λ k. k.bytes };
+
+    ghost invariant = { λ k. IsBytes k.bytes };
 
     ghost inverse = { λ bytes. record { bytes = bytes } };
 }
@@ -31,7 +33,8 @@ impl Model for Key {
 impl Key {
     /// The key with these bytes.
     pub fn new(bytes: [u8; 124]) -> Self
-        ensures { result ≡ bytes }
+        ensures value { result ≡ bytes }
+        ensures valid { IsKey result }
     {
         Key { bytes }
     }
@@ -39,8 +42,7 @@ impl Key {
     /// Its 124 bytes.
     pub fn as_bytes(&self) -> &[u8; 124]
         ensures value { result.now ≡ self.now }
-        ensures key_length { length self.now ≡ 124 }
-        ensures bytes { IsBytes self.now }
+        ensures valid { IsKey self.now }
     {
         &self.bytes
     }
@@ -51,7 +53,10 @@ impl PartialEq for Key {
 
     ghost laws = { partial_equiv_from_equiv nat_list_eq_equiv };
 
-    fn eq(&self, other: &Self) -> bool {
+    fn eq(&self, other: &Self) -> bool
+        ensures value { result ≡ pointwise nat_eq self.now other.now }
+        ensures same { IsTrue result ↔ (self.now ≡ other.now) }
+    {
         self.bytes == other.bytes
     }
 }
@@ -79,7 +84,10 @@ impl Ord for Key {
 
     ghost matches_eq = { texts_ties };
 
-    fn cmp(&self, other: &Self) -> Ordering {
+    fn cmp(&self, other: &Self) -> Ordering
+        ensures value { result ≡ key_cmp self.now other.now }
+        ensures valid { IsKey self.now × IsKey other.now }
+    {
         self.bytes.cmp(&other.bytes)
     }
 }

@@ -5,17 +5,21 @@
 
 mod areas;
 mod fault;
+mod header;
 mod key;
 mod label;
 mod params;
+mod slots;
 mod store_fault;
 mod value;
 
-pub use areas::{gate_at, image_len, mark_at, shadow_at, table_at};
+pub use areas::{areas_fill_the_image, gate_at, image_len, mark_at, shadow_at, table_at};
 pub use fault::{DiskFault, NoMemory};
+pub use header::{read_header, write_header};
 pub use key::Key;
 pub use label::{Label, Lead};
 pub use params::{BadParams, Params};
+pub use slots::{ReadSlots, Slots};
 pub use store_fault::Fault;
 pub use store_model::{DrawKind, Refusal};
 pub use value::{Bytes, Value};
@@ -25,3 +29,6 @@ pub type Slot = [u8; 4096];
 
 /// What a call of the tree's layer answers where no fault came: a value, or why the command is refused.
 pub type Answer<T> = Result<T, Refusal>;
+
+#[cfg(test)]
+mod tests;

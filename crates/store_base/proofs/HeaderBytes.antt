@@ -1,0 +1,98 @@
+-- The header's bytes: their length, and that they say all that the parameters are.
+use Rattle.std.proofs.Common.{◌≡◌, ℕ, ◌+◌, ◌-◌, ◌<◌, ◌≤◌, List, [], ◌∷◌, ◌++◌, length, take, drop, slice_index, refl, subst, ap, sym, ◌∙◌, arith, rules, length-append}
+use Rattle.std.specs.Prelude.{codes, Result, Ok, Err, Some, IfOk}
+use Rattle.std.specs.Result.{result_ok}
+use Rattle.std.specs.Int.{w32, to_be_bytes, from_be_bytes}
+use Rattle.std.proofs.lemmas.List.{take_at, length-replicate}
+use Rattle.std.proofs.lemmas.Nat.{from_be_bytes-to_be_bytes_4}
+use Rattle.store_model.specs.declared.draw_kind.DrawKind.{DrawKind}
+use Rattle.store_model.specs.declared.draw_kind.DrawKind.TheVariants.{Ruler, Sha256}
+use Rattle.store_model.specs.Lists.{IsBytes, zeros, zero_filled}
+use Rattle.store_model.specs.Parameters.{Parameters, IsParameters}
+use Rattle.store_model.specs.Images.{kind_byte, header}
+use Rattle.store_base.proofs.Orders.{IsBytes-cons, IsBytes-append, IsBytes-zeros, IsBytes-to_be_bytes, to_be_bytes-same}
+
+-- the 48 bytes in front of the zeros
+abbrev pub header_front : Parameters → List ℕ
+header_front p = codes "HSTORE01" ++ to_be_bytes w32 p.slots ++ p.height ∷ kind_byte p.kind ∷ 1 ∷ 0 ∷ p.seed
+
+pub header-front : (p : Parameters) → IsParameters p → header p ≡ header_front p ++ zeros 4048
+unfolding header zero_filled
+header-front p valid =
+    let rest : 4096 - length (header_front p) ≡ 4048 = omega (arith, valid.seed_length) in
+    ap (λ (n : ℕ). header_front p ++ zeros n) rest
+
+-- a header has 4,096 bytes
+pub length-header : (p : Parameters) → IsParameters p → length (header p) ≡ 4096
+length-header p valid =
+    let nil : ℕ = 0 in
+    let zeros_long : length (zeros 4048) ≡ 4048 = length-replicate 4048 nil in
+    ap length (header-front p valid) ∙ length-append (header_front p) (zeros 4048) ∙ omega (arith, valid.seed_length, zeros_long)
+
+kind_byte-below : (kind : DrawKind) → kind_byte kind < 256
+kind_byte-below Ruler = omega arith
+kind_byte-below Sha256 = omega arith
+
+IsBytes-header_front : (p : Parameters) → IsParameters p → IsBytes (header_front p)
+IsBytes-header_front p valid =
+    let rest : List ℕ = p.height ∷ kind_byte p.kind ∷ 1 ∷ 0 ∷ p.seed in
+    let rest_bytes : IsBytes rest = IsBytes-cons p.height (kind_byte p.kind ∷ 1 ∷ 0 ∷ p.seed) (omega (arith, valid.height_in_range))
+    (IsBytes-cons (kind_byte p.kind) (1 ∷ 0 ∷ p.seed) (kind_byte-below p.kind) (IsBytes-cons 1 (0 ∷ p.seed) (omega arith) (IsBytes-cons 0 p.seed (omega arith) valid.seed_bytes))) in
+    let magic : IsBytes (codes "HSTORE01") = IsBytes-cons 72 (83 ∷ 84 ∷ 79 ∷ 82 ∷ 69 ∷ 48 ∷ 49 ∷ []) (omega arith) (IsBytes-cons 83 (84 ∷ 79 ∷ 82 ∷ 69 ∷ 48 ∷ 49 ∷ []) (omega arith)
+    (IsBytes-cons 84 (79 ∷ 82 ∷ 69 ∷ 48 ∷ 49 ∷ []) (omega arith) (IsBytes-cons 79 (82 ∷ 69 ∷ 48 ∷ 49 ∷ []) (omega arith) (IsBytes-cons 82 (69 ∷ 48 ∷ 49 ∷ []) (omega arith)
+    (IsBytes-cons 69 (48 ∷ 49 ∷ []) (omega arith) (IsBytes-cons 48 (49 ∷ []) (omega arith) (IsBytes-cons 49 [] (omega arith) (IsBytes-zeros 0)))))))) in
+    IsBytes-append (codes "HSTORE01") (to_be_bytes w32 p.slots ++ rest) magic (IsBytes-append (to_be_bytes w32 p.slots) rest (IsBytes-to_be_bytes p.slots) rest_bytes)
+
+-- which are bytes
+pub IsBytes-header : (p : Parameters) → IsParameters p → IsBytes (header p)
+IsBytes-header p valid =
+    subst IsBytes (sym (header-front p valid)) (IsBytes-append (header_front p) (zeros 4048) (IsBytes-header_front p valid) (IsBytes-zeros 4048))
+
+-- where the parameters stand in a header
+header-slots : (p : Parameters) → take 4 (drop 8 (header p)) ≡ to_be_bytes w32 p.slots
+unfolding header zero_filled
+header-slots p = refl
+
+header-height : (p : Parameters) → slice_index (header p) 12 ≡ p.height
+unfolding header zero_filled
+header-height p = refl
+
+pub header-kind : (p : Parameters) → slice_index (header p) 13 ≡ kind_byte p.kind
+unfolding header zero_filled
+header-kind p = refl
+
+header-seed : (p : Parameters) → IsParameters p → take 32 (drop 16 (header p)) ≡ p.seed
+unfolding header zero_filled
+header-seed p valid = take_at p.seed (zeros (4096 - length (header_front p))) 32 valid.seed_length
+
+kind_byte-same : (a b : DrawKind) → kind_byte a ≡ kind_byte b → a ≡ b
+kind_byte-same Ruler Ruler same = refl
+kind_byte-same Ruler Sha256 same = absurd (omega (arith, same))
+kind_byte-same Sha256 Ruler same = absurd (omega (arith, same))
+kind_byte-same Sha256 Sha256 same = refl
+
+-- what is read from a header is what it was written for
+pub header-read : (p : Parameters) (block slots_bytes seed : List ℕ) (slots : ℕ) (kind : DrawKind) → IsParameters p → header p ≡ block
+    → slots_bytes ≡ take 4 (drop 8 block) → slots ≡ from_be_bytes w32 slots_bytes → Some kind ≡ Some p.kind → seed ≡ take 32 (drop 16 block)
+    → record { slots = slots; height = slice_index block 12; kind = kind; seed = seed } ≡ p
+header-read p block slots_bytes seed slots kind valid is_header slots_bytes_are slots_is some_kind seed_is =
+    let kind_is : kind ≡ p.kind = cc in
+    let slots_same : slots ≡ p.slots =
+    slots_is ∙ ap (from_be_bytes w32) slots_bytes_are ∙ ap (λ (b : List ℕ). from_be_bytes w32 (take 4 (drop 8 b))) (sym is_header)
+    ∙ ap (from_be_bytes w32) (header-slots p) ∙ from_be_bytes-to_be_bytes_4 p.slots (omega (arith, valid.slots_in_range)) in
+    let height_same = ap (λ (b : List ℕ). slice_index b 12) (sym is_header) ∙ header-height p in
+    let seed_same = seed_is ∙ ap (λ (b : List ℕ). take 32 (drop 16 b)) (sym is_header) ∙ header-seed p valid in
+    λ i. record { slots = slots_same i; height = height_same i; kind = kind_is i; seed = seed_same i }
+
+-- parameters are the same where their headers are
+pub header-same : (p q : Parameters) → IsParameters p → IsParameters q → header p ≡ header q → p ≡ q
+header-same p q p_valid q_valid same =
+    let kind = kind_byte-same p.kind q.kind (sym (header-kind p) ∙ ap (λ (b : List ℕ). slice_index b 13) same ∙ header-kind q) in
+    let read = header-read p (header q) (take 4 (drop 8 (header q))) (take 32 (drop 16 (header q))) (from_be_bytes w32 (take 4 (drop 8 (header q)))) p.kind p_valid same refl refl refl refl in
+    let written = header-read q (header q) (take 4 (drop 8 (header q))) (take 32 (drop 16 (header q))) (from_be_bytes w32 (take 4 (drop 8 (header q)))) p.kind q_valid refl refl refl (ap Some kind) refl in
+    sym read ∙ written
+
+-- what holds of an answer's value holds of it as an option's
+pub IfOk-result_ok : {T E : Type 0} (r : Result T E) (x : T) (P : T → Type 0) → Some x ≡ result_ok r → IfOk r P → P x
+IfOk-result_ok (Ok y) x P is_ok holds = let same : y ≡ x = cc in subst P same holds
+IfOk-result_ok (Err e) x P is_ok holds = cc

@@ -1,0 +1,6 @@
+pub mod Counts
+pub mod AreasLemmas
+pub mod Orders
+pub mod LabelBytes
+pub mod HeaderBytes
+pub mod SlotsCalls

@@ -1,0 +1,174 @@
+//! What no clause says: values worked out by hand, texts, and each public call once.
+
+ghost use Rattle.std.specs.Prelude.{◌≡◌, ◌<◌, ◌∷◌, [], true, OnOk, IfErr, slice_get, refl};
+ghost use Rattle.store_base.specs.SlotsState.{IsObservable, HasCause};
+
+use super::*;
+use std::test::Fail;
+
+/// Two slots, of which the second cannot be written.
+#[derive(Drop)]
+struct TwoSlots {
+    first: Slot,
+    second: Slot,
+    faults: u64,
+}
+
+impl ReadSlots for TwoSlots {
+    ghost state = { λ s. record { count = 2; is_observable = true; slots = s.first ∷ s.second ∷ []; faults = s.faults; takes_none = true } };
+
+    ghost counted = { λ s observable. refl };
+
+    fn get(&mut self, at: u32, into: &mut Slot) -> Result<(), Fault> {
+        *into = if at == 0 { self.first } else { self.second };
+        Ok(())
+    }
+}
+
+impl Slots for TwoSlots {
+    fn set(&mut self, at: u32, slot: &Slot) -> Result<(), Fault> {
+        if at == 0 {
+            self.first = *slot;
+            Ok(())
+        } else {
+            self.faults = self.faults.saturating_add(1);
+            Err(Fault::Disk)
+        }
+    }
+}
+
+/// Copies slot `from` over slot `to`.
+fn copy_slot<S: Slots>(slots: &mut S, from: u32, to: u32) -> Result<(), Fault>
+    requires from { from < (S.ReadSlots.state slots.old).count }
+    requires to { to < (S.ReadSlots.state slots.old).count }
+    ensures copied { IsObservable (S.ReadSlots.state slots.old) → OnOk result (slice_get (S.ReadSlots.state slots.new).slots to ≡ slice_get (S.ReadSlots.state slots.old).slots from) }
+    ensures cause { IfErr result (HasCause (S.ReadSlots.state slots.old) (S.ReadSlots.state slots.new)) }
+{
+    let mut slot = [0; 4096];
+    slots.get(from, &mut slot)?;
+    slots.set(to, &slot)
+}
+
+#[test]
+fn slots_through_the_trait(rt: HostRuntime) -> Result<(), Fail> {
+    let mut slots = TwoSlots {
+        first: [1; 4096],
+        second: [2; 4096],
+        faults: 0,
+    };
+    assert_eq!(rt; copy_slot(&mut slots, 0, 1), Err(Fault::Disk));
+    copy_slot(&mut slots, 1, 0)?;
+    assert!(rt; slots.first == [2; 4096]);
+    assert_eq!(rt; slots.faults, 1);
+    Ok(())
+}
+
+#[test]
+fn areas_of_small_and_large_images(rt: HostRuntime) {
+    let lengths = [
+        (1, 20480),
+        (4, 45056),
+        (4095, 33558528),
+        (4096, 33570816),
+        (16384, 134246400),
+    ];
+    for (slots, want) in lengths {
+        if slots >= 1 && slots <= 16384 {
+            assert_eq!(rt; image_len(slots), want, "at {slots}");
+        }
+    }
+    assert_eq!(rt; gate_at(), 4096);
+    assert_eq!(rt; mark_at(3), 8195);
+    assert_eq!(rt; shadow_at(4, 0), 12288);
+    assert_eq!(rt; table_at(4, 3), 40960);
+    areas_fill_the_image();
+}
+
+#[test]
+fn header_of_the_smallest_image(rt: HostRuntime) -> Result<(), Fail> {
+    let params = Params::new(1, 1, DrawKind::Ruler, [0; 32])?;
+    let mut block = [255; 4096];
+    write_header(&params, &mut block);
+    let front = [
+        0x48, 0x53, 0x54, 0x4F, 0x52, 0x45, 0x30, 0x31, 0x00, 0x00, 0x00, 0x01, 0x01, 0x00, 0x01,
+        0x00,
+    ];
+    assert_eq!(rt; block[..16], front[..]);
+    assert!(rt; block[16..].iter().all(|byte| *byte == 0));
+    let read = read_header(&block).ok_or("no header")?;
+    assert_eq!(rt;
+        (read.slots(), read.height(), read.kind(), read.seed()),
+        (1, 1, DrawKind::Ruler, [0; 32])
+    );
+    Ok(())
+}
+
+#[test]
+fn parameters_out_of_range(rt: HostRuntime) {
+    for (slots, height) in [(0, 1), (16385, 1), (1, 0), (1, 9)] {
+        assert!(rt;
+            Params::new(slots, height, DrawKind::Sha256, [7; 32]).is_err(),
+            "at {slots} {height}"
+        );
+    }
+    assert!(rt; Params::new(16384, 8, DrawKind::Sha256, [7; 32]).is_ok());
+}
+
+#[test]
+fn labels_and_their_order(rt: HostRuntime) {
+    let mut bytes = [0; 124];
+    bytes[0] = 0x55;
+    bytes[1] = 0x61;
+    let key = Key::new(bytes);
+    let start = Label {
+        level: 0,
+        lead: Lead::Start,
+        index: 9,
+    };
+    let led = Label {
+        level: 0,
+        lead: Lead::Key(key),
+        index: 258,
+    };
+    let spelled = led.to_bytes();
+    assert_eq!(rt; spelled[..4], [0, 1, 0x55, 0x61][..]);
+    assert_eq!(rt; spelled[126..], [0, 0, 1, 2][..]);
+    assert!(rt; Label::from_bytes(&spelled) == Some(led));
+    assert!(rt; start < led);
+    assert!(rt; key > Key::new([0; 124]));
+    assert!(rt; led.lead.key_bytes() == Some(&bytes));
+}
+
+#[test]
+fn byte_strings(rt: HostRuntime) -> Result<(), Fail> {
+    let value = Value::new(b"abc");
+    assert!(rt; value.clone()? == value);
+    assert_eq!(rt; value.as_slice(), b"abc".as_slice());
+    let bytes = Bytes::new(b"");
+    assert!(rt; bytes.clone()? == bytes);
+    assert_eq!(rt; bytes.as_slice().len(), 0);
+    Ok(())
+}
+
+#[test]
+fn texts_of_faults(rt: HostRuntime) -> Result<(), Fail> {
+    let alloc = rt.alloc();
+    assert_eq!(rt;
+        format!(in alloc; "{DiskFault}")?.as_str(),
+        "the disk failed"
+    );
+    assert_eq!(rt; format!(in alloc; "{NoMemory}")?.as_str(), "out of memory");
+    assert_eq!(rt;
+        format!(in alloc; "{}", Fault::from(DiskFault))?.as_str(),
+        "the disk failed"
+    );
+    assert_eq!(rt;
+        format!(in alloc; "{}", Fault::from(NoMemory))?.as_str(),
+        "out of memory"
+    );
+    assert_eq!(rt;
+        format!(in alloc; "{BadParams}")?.as_str(),
+        "the parameters are out of range"
+    );
+    Ok(())
+}
