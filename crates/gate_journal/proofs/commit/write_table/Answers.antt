@@ -13,7 +13,7 @@ write_at-requires g c =
     let changes : Changes = g.S.SlotChanges.changes c.args.changes.now in
     let below : c.loop-k.k < changes.count = omega (arith, c.loop-k-test.true, c.count-k-end.ensures) in
     let a = areas c.args.slots (changes.slot c.loop-k.k) (c.requires.changes.below c.loop-k.k below) in
-    let at : c.table_at.result ≡ table_at c.args.slots (changes.slot c.loop-k.k) = c.table_at.ensures ∙ ap (table_at c.args.slots) c.change-slot.ensures.slot in
+    let at : c.table_at.result ≡ table_at c.args.slots (changes.slot c.loop-k.k) = c.table_at.ensures.value ∙ ap (table_at c.args.slots) c.change-slot.ensures.slot in
     omega (arith, at, a.table_end, c.requires.changes.whole c.loop-k.k below, ap length c.change-slot.ensures.bytes, c.requires.size, c.loop-k.invariant.calls.size)
 
 pub loop-k-preserved : goal.loop-k-preserved
@@ -24,7 +24,7 @@ loop-k-preserved g c = record {
       let observable_mid = observable_after _ _ _ c.loop-k.invariant.calls observable in
       let below : c.loop-k.k < changes.count = omega (arith, c.loop-k-test.true, c.count-k-end.ensures) in
       table_step c.args.slots changes c.requires.changes _ _ _ c.loop-k.k below observable_mid
-      (g.met.D.Disk.sound c.loop-k.disk observable_mid) _ _ _ c.change-slot.ensures.slot c.table_at.ensures c.change-slot.ensures.bytes (c.loop-k.invariant.comes observable)
+      (g.met.D.Disk.sound c.loop-k.disk observable_mid) _ _ _ c.change-slot.ensures.slot c.table_at.ensures.value c.change-slot.ensures.bytes (c.loop-k.invariant.comes observable)
       c.in_ok-write_at.ensures;
 }
 
@@ -33,7 +33,7 @@ returns-in_err-write_at-clause-reaches g c observable =
     let changes : Changes = g.S.SlotChanges.changes c.args.changes.now in
     let observable_mid = observable_after _ _ _ c.loop-k.invariant.calls observable in
     let below : c.loop-k.k < changes.count = omega (arith, c.loop-k-test.true, c.count-k-end.ensures) in
-    let at : c.table_at.result ≡ table_at c.args.slots (changes.slot c.loop-k.k) = c.table_at.ensures ∙ ap (table_at c.args.slots) c.change-slot.ensures.slot in
+    let at : c.table_at.result ≡ table_at c.args.slots (changes.slot c.loop-k.k) = c.table_at.ensures.value ∙ ap (table_at c.args.slots) c.change-slot.ensures.slot in
     let whole : length c.change-slot.new.into ≡ 4096 = ap length c.change-slot.ensures.bytes ∙ c.requires.changes.whole c.loop-k.k below in
     comes_short (OutsideTable c.args.slots changes) (OutsideTable c.args.slots changes) _ _ _ _ _ _ c.from_residual.result c.from_residual.ensures.0 (g.met.D.Disk.sound c.loop-k.disk observable_mid)
     (λ place outside. outside) (c.loop-k.invariant.comes observable)

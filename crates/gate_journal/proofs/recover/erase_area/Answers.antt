@@ -33,7 +33,7 @@ loop-block-init g c = record {
 
 pub clear_block-requires : goal.clear_block-requires
 clear_block-requires g c =
-    omega (arith, c.loop-block-test.true, c.table_at-block-end.ensures, table_end c.args.slots, c.loop-block.invariant.calls.size, c.requires.size)
+    omega (arith, c.loop-block-test.true, c.table_at-block-end.ensures.value, table_end c.args.slots, c.loop-block.invariant.calls.size, c.requires.size)
 
 pub returns-in_err-clear_block-clause-reaches : goal.returns-in_err-clear_block-clause-reaches
 returns-in_err-clear_block-clause-reaches g c observable =
@@ -41,7 +41,7 @@ returns-in_err-clear_block-clause-reaches g c observable =
     let n = 4096 * c.loop-block.block - 4097 in
     let two : 2 ≤ c.loop-block.block = c.loop-block.auto.block in
     let there : c.loop-block.block * 4096 ≡ 4097 + n = omega arith in
-    let fits : n + 4096 ≤ total = omega (arith, c.loop-block-test.true, c.table_at-block-end.ensures, journal_end c.args.slots) in
+    let fits : n + 4096 ≤ total = omega (arith, c.loop-block-test.true, c.table_at-block-end.ensures.value, journal_end c.args.slots) in
     let observable_mid = observable_after _ _ _ c.loop-block.invariant.calls observable in
     Reaches-fault (IsApart 4097 total) _ _ _ c.from_residual-in_err-clear_block.result c.from_residual-in_err-clear_block.ensures.0
     (Keeps-trans (IsApart 4097 total) _ _ _ (g.met.D.Disk.sound c.loop-block.disk observable_mid) (c.loop-block.invariant.keeps observable)
@@ -53,7 +53,7 @@ loop-block-preserved g c =
     let n = 4096 * c.loop-block.block - 4097 in
     let two : 2 ≤ c.loop-block.block = c.loop-block.auto.block in
     let there : c.loop-block.block * 4096 ≡ 4097 + n = omega arith in
-    let fits : n + 4096 ≤ total = omega (arith, c.loop-block-test.true, c.table_at-block-end.ensures, journal_end c.args.slots) in
+    let fits : n + 4096 ≤ total = omega (arith, c.loop-block-test.true, c.table_at-block-end.ensures.value, journal_end c.args.slots) in
     let next : n + 4096 ≡ 4096 * (c.loop-block.block + 1) - 4097 = omega arith in
     record {
       calls = search rules;
@@ -74,7 +74,7 @@ returns-clause-reaches g c observable =
     let observable_mid = observable_after _ _ _ c.loop-block.invariant.calls observable in
     let blocks = table_blocks c.args.slots in
     let end : 4096 * c.loop-block.block - 4097 ≡ total =
-    omega (arith, c.loop-block-test.false, c.loop-block.auto.block-end, c.table_at-block-end.ensures, blocks, journal_end c.args.slots, shadow_end c.args.slots, marks_end c.args.slots) in
+    omega (arith, c.loop-block-test.false, c.loop-block.auto.block-end, c.table_at-block-end.ensures.value, blocks, journal_end c.args.slots, shadow_end c.args.slots, marks_end c.args.slots) in
     Reaches-sync {U = Unit {0}} (IsApart 4097 total) (IsZeroAt 4097 total) _ _ _ tt c.sync.result observable_mid (g.met.D.Disk.sound c.loop-block.disk observable_mid)
     (record {
       keeps = c.loop-block.invariant.keeps observable;
