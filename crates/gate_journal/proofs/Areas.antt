@@ -37,3 +37,8 @@ table_end slots = omega arith
 pub table_blocks : (slots : ℕ) → 4096 * (table_at slots 0 / 4096) ≡ table_at slots 0
 unfolding table_at
 table_blocks slots = omega arith
+
+-- an image is whole blocks
+pub image_blocks : (slots : ℕ) → 4096 * (image_len slots / 4096) ≡ image_len slots
+unfolding image_len
+image_blocks slots = omega arith

@@ -1,5 +1,5 @@
 -- The states of the disk between the phases of a commit.
-use Rattle.std.proofs.Common.{◌≡◌, ℕ, ◌<◌, List, [], ◌∷◌, slice_index, sym, ap, inl, subst, Result, Ok, Err, OnOk, IsErr, length}
+use Rattle.std.proofs.Common.{◌≡◌, ℕ, ◌<◌, List, [], ◌∷◌, slice_index, sym, ap, inl, subst, Result, Ok, Err, OnOk, IfOk, IsErr, length}
 use Rattle.std.proofs.lemmas.Bool.{false≢true}
 use Rattle.store_model.specs.Parameters.{image_len}
 use Rattle.disk_model.specs.DiskState.{DiskState, IsDurable, IsSound}
@@ -130,3 +130,7 @@ commits_none slots changes disk value none long sound durable empty =
       done = same;
       empty = empty;
     }
+
+pub if_ok_map : {T E : Type 0} (result : Result T E) (P Q : T → Type 0) → ((value : T) → P value → Q value) → IfOk result P → IfOk result Q
+if_ok_map (Ok value) P Q leads here = leads value here
+if_ok_map (Err error) P Q leads here = tt

@@ -3,8 +3,10 @@
 
 mod changes;
 mod commit;
+mod format;
 mod journal;
 mod recover;
+mod view;
 
 pub use changes::SlotChanges;
 pub use journal::Journal;

@@ -1,6 +1,6 @@
 //! What recovery makes of the image that a crash left: the table with the journal redone, where the commit flag is set,
 //! and an empty journal.
-ghost use Rattle.std.specs.Prelude.{◌≡◌, ◌↔◌, ℕ, ◌+◌, ◌-◌, ◌*◌, ◌<◌, ◌≤◌, min, length, slice_index, IsTrue, IfOk, OnOk};
+ghost use Rattle.std.specs.Prelude.{◌≡◌, ◌↔◌, ℕ, ◌+◌, ◌-◌, ◌*◌, ◌<◌, ◌≤◌, min, length, slice_index, not, ◌==◌, IsTrue, IfOk, OnOk};
 ghost use Rattle.store_model.specs.Parameters.{image_len, shadow_at, table_at};
 ghost use Rattle.store_model.specs.Images.{bytes_at, is_raised, is_marked, recovered, journal_len};
 ghost use Rattle.disk_model.specs.DiskState.{DiskState, IsObservable, IsDurable};
@@ -33,6 +33,18 @@ fn is_block_zero<D: Disk>(disk: &mut D, at: u64) -> Result<bool, DiskFault>
     let mut block = [0; BLOCK];
     disk.read_at(at, &mut block)?;
     Ok(is_zero(&block))
+}
+
+// Whether the byte at this offset is not zero.
+pub fn is_byte_set<D: Disk>(disk: &mut D, at: u64) -> Result<bool, DiskFault>
+    requires { at + 1 ≤ (D.state disk.old).size }
+    ensures call { IsCall (D.state disk.old) (D.state disk.new) result }
+    ensures reads { IsObservable (D.state disk.old) → ReadsOnly (D.state disk.old) (D.state disk.new) }
+    ensures value { IsObservable (D.state disk.old) → IfOk result (λ set. set ≡ not (slice_index (D.state disk.old).bytes at == 0)) }
+{
+    let mut byte = [0; 1];
+    disk.read_at(at, &mut byte)?;
+    Ok(byte[0] != 0)
 }
 
 // Makes as many bytes as the buffer has zero, where they are not.
@@ -103,15 +115,14 @@ fn is_journal_zero<D: Disk>(disk: &mut D, slots: u32) -> Result<bool, DiskFault>
 }
 
 // Whether the commit flag is set.
-fn is_flag_set<D: Disk>(disk: &mut D) -> Result<bool, DiskFault>
+#[tactic(auto, unfolding(store_model::specs::Images::is_raised))]
+pub fn is_flag_set<D: Disk>(disk: &mut D) -> Result<bool, DiskFault>
     requires { 4097 ≤ (D.state disk.old).size }
     ensures call { IsCall (D.state disk.old) (D.state disk.new) result }
     ensures reads { IsObservable (D.state disk.old) → ReadsOnly (D.state disk.old) (D.state disk.new) }
     ensures value { IsObservable (D.state disk.old) → IfOk result (λ set. set ≡ is_raised (D.state disk.old).bytes) }
 {
-    let mut flag = [0; 1];
-    disk.read_at(gate_at(), &mut flag)?;
-    Ok(flag[0] != 0)
+    is_byte_set(disk, gate_at())
 }
 
 // Puts the shadow block of a slot into the table.
