@@ -11,3 +11,4 @@ pub mod Reading
 pub mod Redoing
 pub mod Recovering
 pub mod Recoveries
+pub mod Formatting

@@ -4,3 +4,4 @@ pub mod Places
 pub mod Recovery
 pub mod ViewState
 pub mod Formats
+pub mod View

@@ -1,5 +1,5 @@
 //! How a disk becomes the image of the empty tree.
-ghost use Rattle.std.specs.Prelude.{◌≡◌, ◌⊎◌, ℕ, ◌+◌, ◌-◌, ◌*◌, ◌<◌, ◌≤◌, [], ◌∷◌, ◌==◌, slice_index, OnOk, IfOk, Err};
+ghost use Rattle.std.specs.Prelude.{◌≡◌, ◌≢◌, ◌⊎◌, ℕ, ◌+◌, ◌-◌, ◌*◌, ◌<◌, ◌≤◌, [], ◌∷◌, ◌==◌, slice_index, OnOk, IfOk, Err};
 ghost use Rattle.store_model.specs.Parameters.{IsParameters, image_len as len_of};
 ghost use Rattle.disk_model.specs.DiskState.{DiskState, IsObservable, IsDurable};
 ghost use Rattle.disk_model.specs.DiskCalls.{IsCall, overwrite};
@@ -49,4 +49,17 @@ fn write_first<D: Disk>(disk: &mut D) -> Result<(), DiskFault>
 {
     disk.write_at(0, &[FIRST])?;
     disk.sync()
+}
+
+// Formats a disk with nothing pending whose first byte is not that of an image.
+pub fn format_durable<D: Disk>(disk: &mut D, params: &Params) -> Result<(), DiskFault>
+    requires valid { IsParameters params.now }
+    requires size { (D.state disk.old).size ≡ len_of params.now.slots }
+    requires durable { IsObservable (D.state disk.old) → IsDurable (D.state disk.old) }
+    requires no_image { IsObservable (D.state disk.old) → slice_index (D.state disk.old).bytes 0 ≢ 0x48 }
+    ensures call { IsCall (D.state disk.old) (D.state disk.new) result }
+    ensures formats { IsObservable (D.state disk.old) → Formats params.now (D.state disk.old) (D.state disk.new) result }
+{
+    write_rest(disk, params)?;
+    write_first(disk)
 }

@@ -1,18 +1,23 @@
 //! The calls of the journal.
-ghost use Rattle.std.specs.Prelude.{◌≡◌, ◌+◌, ◌*◌, ◌<◌, IsOk, OnErr};
+ghost use Rattle.std.specs.Prelude.{◌≡◌, ◌≢◌, ◌↔◌, ◌⊎◌, ◌+◌, ◌*◌, ◌<◌, slice_index, IsOk, OnOk, OnErr};
 ghost use Rattle.store_model.specs.Parameters.{image_len};
+ghost use Rattle.store_model.specs.Images.{recovered_slot};
 ghost use Rattle.disk_model.specs.DiskState.{IsObservable, IsDurable};
 ghost use Rattle.disk_model.specs.DiskCalls.{Rose};
-ghost use Rattle.gate_journal.specs.Places.{AreCalls, Makes};
+ghost use Rattle.gate_journal.specs.Places.{AreCalls, Makes, ReadsOnly};
 ghost use Rattle.gate_journal.specs.Phases.{HasEmptyJournal};
 ghost use Rattle.gate_journal.specs.Changes.{AreChanges, Commits};
 ghost use Rattle.gate_journal.specs.Recovery.{Recovers};
+ghost use Rattle.gate_journal.specs.Formats.{Formats};
 
 use crate::changes::SlotChanges;
 use crate::commit::commit_changes;
+use crate::fault::JournalFault;
+use crate::format::{format_durable, is_image};
 use crate::recover::recover_durable;
+use crate::view::read_slot;
 use disk_model::Disk;
-use store_base::{DiskFault, Params};
+use store_base::{DiskFault, Params, Slot, image_len as len_of};
 
 /// The redo journal of an image. Its calls take no memory.
 pub struct Journal;
@@ -62,5 +67,55 @@ impl Journal {
     {
         disk.sync()?;
         recover_durable(disk, params.slots())
+    }
+
+    /// Writes the image of the empty tree to a disk of its length that is no image.
+    ///
+    /// `WrongLength` comes exactly where the disk's length is not that of an image of these parameters, and
+    /// `AlreadyImage` exactly where the length is right and the first byte is that of an image, and then nothing was
+    /// written. `Disk` comes only where the disk failed. From there on, each image that a crash at any moment of the call
+    /// may leave is no image, or that of the empty tree, and so is what the disk reads after `Disk`. After Ok the disk is
+    /// durable and reads the image of the empty tree.
+    pub fn format<D: Disk>(disk: &mut D, params: &Params) -> Result<(), JournalFault>
+        requires { IsObservable (D.state disk.old) → IsDurable (D.state disk.old) }
+        ensures size { (D.state disk.new).size ≡ (D.state disk.old).size }
+        ensures observable { (D.state disk.new).is_observable ≡ (D.state disk.old).is_observable }
+
+        ensures wrong_length { (result ≡ Err JournalFault.WrongLength) ↔ ((D.state disk.old).size ≢ image_len params.now.slots) }
+        ensures wrong_length_keeps { result ≡ Err JournalFault.WrongLength → disk.new ≡ disk.old }
+
+        ensures already_image { IsObservable (D.state disk.old) → result ≡ Err JournalFault.AlreadyImage → slice_index (D.state disk.old).bytes 0 ≡ 0x48 }
+        ensures already_image_keeps { IsObservable (D.state disk.old) → result ≡ Err JournalFault.AlreadyImage → ReadsOnly (D.state disk.old) (D.state disk.new) }
+        ensures image_is_found { IsObservable (D.state disk.old) → (D.state disk.old).size ≡ image_len params.now.slots → slice_index (D.state disk.old).bytes 0 ≡ 0x48
+            → (result ≡ Err JournalFault.AlreadyImage) ⊎ (result ≡ Err JournalFault.Disk) }
+
+        ensures disk_failed { result ≡ Err JournalFault.Disk → Rose (D.state disk.old).faults (D.state disk.new).faults }
+        ensures formats { IsObservable (D.state disk.old) → (D.state disk.old).size ≡ image_len params.now.slots → slice_index (D.state disk.old).bytes 0 ≢ 0x48
+            → Formats params.now (D.state disk.old) (D.state disk.new) result }
+    {
+        if disk.len() != len_of(params.slots()) {
+            return Err(JournalFault::WrongLength);
+        }
+        if is_image(disk)? {
+            return Err(JournalFault::AlreadyImage);
+        }
+        Ok(format_durable(disk, params)?)
+    }
+
+    /// Reads what recovery would leave in slot `at`, and writes nothing.
+    /// After `DiskFault` the buffer may hold anything, and the disk is as it was.
+    pub fn view_slot<D: Disk>(
+        disk: &mut D,
+        params: &Params,
+        at: u32,
+        into: &mut Slot,
+    ) -> Result<(), DiskFault>
+        requires below { at < params.now.slots }
+        requires size { (D.state disk.old).size ≡ image_len params.now.slots }
+        ensures calls { AreCalls (D.state disk.old) (D.state disk.new) result }
+        ensures reads { IsObservable (D.state disk.old) → ReadsOnly (D.state disk.old) (D.state disk.new) }
+        ensures slot { IsObservable (D.state disk.old) → OnOk result (into.new ≡ recovered_slot params.now.slots (D.state disk.old).bytes at) }
+    {
+        read_slot(disk, params.slots(), at, into)
     }
 }

@@ -3,10 +3,13 @@
 
 mod changes;
 mod commit;
+mod fault;
 mod format;
 mod journal;
 mod recover;
 mod view;
 
 pub use changes::SlotChanges;
+pub use fault::JournalFault;
 pub use journal::Journal;
+pub use view::View;

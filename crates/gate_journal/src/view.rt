@@ -59,3 +59,56 @@ pub fn read_slot<D: Disk>(
     let place = place_of(disk, slots, slot)?;
     disk.read_at(place, into)
 }
+
+/// The slots of the image that a disk recovers to, read through the journal; the disk is not written.
+///
+/// Its calls take no memory, and its faults are the disk's.
+#[derive(Drop)]
+pub struct View<D: Disk> {
+    disk: D,
+    params: Params,
+    ghost sized: { (D.state disk).size ≡ image_len params.slots },
+}
+
+impl<D: Disk> View<D> {
+    ghost use Rattle.gate_journal.specs.View.{disk_of, params_of};
+
+    /// The view on a disk of the length of these parameters.
+    pub fn new(disk: D, params: &Params) -> View<D>
+        requires { (D.state disk).size ≡ image_len params.now.slots }
+        ensures disk { disk_of result ≡ disk }
+        ensures params { params_of result ≡ params.now }
+    {
+        View {
+            disk,
+            params: *params,
+        }
+    }
+
+    /// The disk below.
+    pub fn disk(&self) -> &D
+        ensures { result.now ≡ disk_of self.now }
+    {
+        &self.disk
+    }
+
+    /// Hands the disk back.
+    pub fn into_disk(self) -> D
+        ensures { result ≡ disk_of self }
+    {
+        let View { disk, .. } = self;
+        disk
+    }
+}
+
+impl<D: Disk> ReadSlots for View<D> {
+    ghost use Rattle.gate_journal.specs.View.{disk_of, params_of};
+
+    ghost state = { λ view. viewed (params_of view).slots (D.state (disk_of view)) };
+
+    ghost counted = { λ view observable. viewed_count (params_of view).slots (D.state (disk_of view)) };
+
+    fn get(&mut self, at: u32, into: &mut Slot) -> Result<(), Fault> {
+        Ok(read_slot(&mut self.disk, self.params.slots(), at, into)?)
+    }
+}
