@@ -1,5 +1,6 @@
 use Rattle.std.proofs.Common.{◌≡◌, ◌≤◌, ap, arith}
 use Rattle.store_model.specs.Parameters.{image_len}
+use Rattle.disk_model.proofs.Crashes.{IsObservable-call}
 use Rattle.gate_journal.proofs.Areas.{marks_end, shadow_end, table_end}
 use Rattle.gate_journal.proofs.Formatting.{formats_unread, formats_read}
 use Rattle.gate_journal.proofs.journal.Journal.format.Goals as goal
@@ -24,4 +25,4 @@ returns-in_err-is_image-clause-formats g c observable size differs =
 pub returns-clause-formats : goal.returns-clause-formats
 returns-clause-formats g c observable size differs =
     formats_read c.args.params.now (g.D.Disk.state c.args.disk.now) (g.D.Disk.state c.is_image.new.disk) (g.D.Disk.state c.format_durable.new.disk) c.in_ok-format_durable.field-0 _ (c.requires observable) differs (c.is_image.ensures.reads observable)
-    (c.in_ok-format_durable.ensures.formats ?)
+    (c.in_ok-format_durable.ensures.formats (IsObservable-call (g.D.Disk.state c.args.disk.now) (g.D.Disk.state c.is_image.new.disk) _ c.is_image.ensures.call observable))
