@@ -2,8 +2,8 @@
 use Rattle.std.proofs.Common.{◌≡◌, ℕ, ◌+◌, ◌≤◌, List, length, arith, Result, Ok, Err, OnOk, IsErr, refl, sym, subst, ◌∙◌}
 use Rattle.std.proofs.lemmas.Bool.{false≢true}
 use Rattle.disk_model.specs.DiskState.{DiskState, IsObservable, IsDurable, IsSound}
-use Rattle.disk_model.specs.DiskCalls.{raised_by, Rose, overwrite, IsCall, IsWrite, IsSync}
-use Rattle.disk_model.proofs.Counts.{Rose-later, Rose-earlier}
+use Rattle.disk_model.specs.DiskCalls.{raised_by, overwrite, IsCall, IsWrite, IsSync}
+use Rattle.disk_model.proofs.Counts.{Rose-earlier}
 use Rattle.gate_journal.specs.Places.{IsApart, AreCalls, Made, Makes, Keeps, Reaches}
 use Rattle.gate_journal.proofs.Places.{Keeps-trans, Keeps-sync, Keeps-write}
 

@@ -1,18 +1,18 @@
 -- The images on the way of a commit, from an old image with an empty journal to the one with the slots changed.
 use Rattle.std.proofs.Common.{◌≡◌, ◌⊎◌, ℕ, zero, suc, ◌+◌, ◌-◌, ◌<◌, ◌≤◌, List, [], ◌∷◌, length, take, drop, slice_index, true, false, not, ◌==◌, if◌then◌else◌, Bool, refl, sym, ap, ◌∙◌, inl, inr, arith, subst, get_or-take, get_or-drop}
-use Rattle.std.proofs.lemmas.Bool.{cases_lt, cases_eq, ne_eqb}
+use Rattle.std.proofs.lemmas.Bool.{cases_lt, cases_eq}
 use Rattle.std.proofs.lemmas.List.{get_or-replicate}
 use Rattle.store_model.specs.Lists.{zeros}
 use Rattle.store_model.specs.Parameters.{mark_at, shadow_at, table_at, image_len}
-use Rattle.store_model.specs.Images.{bytes_at, is_raised, is_marked, recovered}
-use Rattle.disk_model.specs.DiskCalls.{SameOutside, overwrite}
+use Rattle.store_model.specs.Images.{bytes_at, is_raised, is_marked}
+use Rattle.disk_model.specs.DiskCalls.{overwrite}
 use Rattle.disk_model.proofs.Images.{SameOutside-overwrite, take-drop-overwrite}
 use Rattle.gate_journal.specs.Places.{IsApart, SameAt}
-use Rattle.gate_journal.specs.Changes.{Changes, AreChanges, OutsideEntry, OutsideJournal, OutsideTable, HasEntry, AreJournaled, AreErased, with_first, with_slots, RecoversToEither}
-use Rattle.gate_journal.specs.Phases.{table_slot, redo_slot, HasTable, HasRedo, HasEmptyJournal, settled, JournalPhase, InPhase}
+use Rattle.gate_journal.specs.Changes.{Changes, AreChanges, OutsideEntry, OutsideJournal, OutsideTable, AreJournaled, AreErased, with_first, with_slots, RecoversToEither}
+use Rattle.gate_journal.specs.Phases.{table_slot, redo_slot, HasTable, HasRedo, HasEmptyJournal, JournalPhase, InPhase}
 use Rattle.gate_journal.specs.Phases.JournalPhase.{Journaling, Flagging, Redoing, Clearing, Erasing}
-use Rattle.gate_journal.proofs.Areas.{Areas, areas, journal_end, marks_end, shadow_end, table_end}
-use Rattle.gate_journal.proofs.Places.{SameAt-refl, SameAt-trans, SameAt-weaken, SameAt-outside, bytes_at-same}
+use Rattle.gate_journal.proofs.Areas.{areas, marks_end, shadow_end, table_end}
+use Rattle.gate_journal.proofs.Places.{SameAt-refl, SameAt-trans, SameAt-outside, bytes_at-same}
 use Rattle.gate_journal.proofs.Entries.{slice_index-overwrite}
 use Rattle.gate_journal.proofs.Phases.{recovered_in_phase, settled-same, settled_empty}
 
@@ -272,9 +272,9 @@ module _ (slots : ℕ) (changes : Changes) (valid : AreChanges slots changes) wh
         bytes_at-same (OutsideTable slots changes) 0 4096 before image (λ place low high. below_table place (omega (arith, marks_end slots, shadow_end slots))) same in
         either Redoing image (
           redo old image long (HasJournal-same (OutsideTable slots changes) before image (λ place low high. below_table place high) same stands.journal) (header ∙ stands.table.header ∙ sym new_header)
-          (λ i below none.
-          bytes_at-same (OutsideTable slots changes) (table_at slots i) 4096 before image (λ place from to k low. table_apart slots i (changes.slot k) below (valid.below k low) (none k low) place from to) same
-          ∙ stands.table.table i below ∙ sym (with_slots_other old long i below none)),
+              (λ i below none.
+              bytes_at-same (OutsideTable slots changes) (table_at slots i) 4096 before image (λ place from to k low. table_apart slots i (changes.slot k) below (valid.below k low) (none k low) place from to) same
+              ∙ stands.table.table i below ∙ sym (with_slots_other old long i below none)),
           set_flag image (same.same 4096 (below_table 4096 (omega (arith, marks_end slots, shadow_end slots))) ∙ one),
         )
 

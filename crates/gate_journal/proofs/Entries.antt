@@ -1,14 +1,14 @@
 -- What single writes into the areas of an image do.
-use Rattle.std.proofs.Common.{◌≡◌, ℕ, ◌+◌, ◌<◌, ◌≤◌, List, [], ◌∷◌, ◌++◌, length, take, drop, slice_index, refl, sym, ap, ◌∙◌, subst, inl, inr, arith, Result, Ok, Err, OnOk, length-append, length-take}
+use Rattle.std.proofs.Common.{◌≡◌, ℕ, ◌+◌, ◌<◌, ◌≤◌, List, [], ◌∷◌, ◌++◌, length, take, drop, slice_index, sym, ap, ◌∙◌, subst, inr, arith, Result, Ok, Err, OnOk, length-append, length-take}
 use Rattle.std.proofs.lemmas.List.{get_or_append_left, get_or_at}
-use Rattle.store_model.specs.Parameters.{mark_at, shadow_at, table_at, image_len}
+use Rattle.store_model.specs.Parameters.{mark_at, shadow_at, image_len}
 use Rattle.store_model.specs.Images.{bytes_at}
 use Rattle.disk_model.specs.DiskState.{DiskState, IsObservable, IsSound}
 use Rattle.disk_model.specs.DiskCalls.{SameOutside, overwrite, IsWrite}
 use Rattle.disk_model.proofs.Images.{take-drop-overwrite, take-drop-outside}
-use Rattle.gate_journal.specs.Places.{IsApart, SameAt, Keeps, Reaches}
+use Rattle.gate_journal.specs.Places.{IsApart, Keeps, Reaches}
 use Rattle.gate_journal.specs.Changes.{OutsideEntry, HasEntry}
-use Rattle.gate_journal.proofs.Areas.{Areas, areas, table_end}
+use Rattle.gate_journal.proofs.Areas.{areas, table_end}
 use Rattle.gate_journal.proofs.Places.{Keeps-trans, Keeps-write}
 
 -- the byte that was written

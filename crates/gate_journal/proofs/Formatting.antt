@@ -1,22 +1,22 @@
 -- The images on the way of a format.
-use Rattle.std.proofs.Common.{◌≡◌, ◌⊎◌, ℕ, zero, suc, ◌+◌, ◌-◌, ◌*◌, ◌<◌, ◌≤◌, List, [], ◌∷◌, ◌++◌, length, take, drop, replicate, slice_index, Option, None, refl, sym, ap, ◌∙◌, inl, inr, arith, subst, length-append, length-take, length-drop, append_assoc, get_or-take, get_or-drop, Result, Ok, OnOk, IsErr}
+use Rattle.std.proofs.Common.{◌≡◌, ℕ, zero, suc, ◌+◌, ◌-◌, ◌*◌, ◌<◌, ◌≤◌, List, [], ◌∷◌, ◌++◌, length, take, drop, replicate, slice_index, Option, None, refl, sym, ap, ◌∙◌, inl, inr, arith, length-append, length-take, length-drop, append_assoc, get_or-take, get_or-drop, Result, Ok, OnOk, IsErr}
 use Rattle.std.specs.List.{flat_map}
 use Rattle.std.proofs.lemmas.Bool.{cases_eq, cases_lt}
 use Rattle.std.proofs.lemmas.List.{ext_get_or, get_or_append_left, get_or-append_right, get_or-replicate, length-replicate, replicate-append-replicate}
-use Rattle.store_model.specs.Lists.{zeros, zero_filled, numbers_from, numbers_below, cut_before, in_order}
-use Rattle.store_model.specs.Parameters.{Parameters, IsParameters, image_len, table_at}
+use Rattle.store_model.specs.Lists.{zeros, zero_filled, numbers_from, cut_before, in_order}
+use Rattle.store_model.specs.Parameters.{Parameters, IsParameters, image_len}
 use Rattle.store_model.specs.Trees.{empty_tree}
 use Rattle.store_model.specs.Pairs.{pairs}
 use Rattle.store_model.specs.Draws.{Draw, draw_of}
 use Rattle.store_model.specs.Pages.{Page, level_list, groups, level_pages, pages_of_pairs, pages}
 use Rattle.store_model.specs.Placement.{place, put_all}
-use Rattle.store_model.specs.Images.{header, slot_bytes, table_bytes, layout, journal_len, NamesParameters}
+use Rattle.store_model.specs.Images.{header, slot_bytes, table_bytes, layout, journal_len}
 use Rattle.disk_model.specs.DiskState.{DiskState, IsDurable, IsSound}
 use Rattle.disk_model.specs.DiskCalls.{LeavesOnly, overwrite}
 use Rattle.disk_model.proofs.Crashes.{LeavesOnly-trans, LeavesOnly-weaken}
 use Rattle.disk_model.proofs.Images.{slice_index-overwrite}
 use Rattle.store_base.proofs.HeaderBytes.{length-header}
-use Rattle.gate_journal.specs.Places.{IsApart, SameAt, Keeps, Reaches, ReadsOnly, IsZeroAt}
+use Rattle.gate_journal.specs.Places.{IsApart, SameAt, Keeps, Reaches, ReadsOnly}
 use Rattle.gate_journal.specs.Formats.{IsNoImage, IsEmptyOrNone, HasEmptyRest, Formats}
 use Rattle.gate_journal.proofs.Areas.{journal_end, marks_end, shadow_end, table_end}
 use Rattle.gate_journal.proofs.Places.{Keeps-durable}

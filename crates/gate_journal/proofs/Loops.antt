@@ -1,15 +1,14 @@
 -- The loops over the changed slots, one step on and at the end.
-use Rattle.std.proofs.Common.{◌≡◌, ℕ, suc, ◌+◌, ◌*◌, ◌<◌, ◌≤◌, List, length, slice_index, refl, sym, ap, ◌∙◌, subst, inl, inr, arith, add-one, Result, Ok, Err, OnOk, IsErr}
+use Rattle.std.proofs.Common.{◌≡◌, ℕ, ◌+◌, ◌*◌, ◌<◌, List, length, refl, sym, ap, ◌∙◌, subst, inl, inr, arith, add-one, Result, Ok, IsErr}
 use borrow.Author.Count.{below_more}
-use Rattle.store_model.specs.Parameters.{mark_at, shadow_at, table_at, image_len}
-use Rattle.store_model.specs.Images.{bytes_at}
+use Rattle.store_model.specs.Parameters.{mark_at, shadow_at, table_at}
 use Rattle.disk_model.specs.DiskState.{DiskState, IsObservable, IsSound}
 use Rattle.disk_model.specs.DiskCalls.{IsWrite, IsSync, overwrite}
-use Rattle.gate_journal.specs.Places.{IsApart, SameAt, Keeps, Reaches, Made, Makes, Comes}
+use Rattle.gate_journal.specs.Places.{IsApart, SameAt, Keeps, Reaches, Makes, Comes}
 use Rattle.gate_journal.specs.Changes.{Changes, AreChanges, OutsideEntry, OutsideJournal, OutsideTable, HasEntry, with_first}
-use Rattle.gate_journal.proofs.Areas.{Areas, areas}
-use Rattle.gate_journal.proofs.Places.{Keeps-trans, Keeps-weaken, Keeps-write, Keeps-sync, Keeps-refl, bytes_at-same}
-use Rattle.gate_journal.proofs.Calls.{Made-then, Made-as, Made-none, Makes-write, Reaches-sync, Reaches-fault}
+use Rattle.gate_journal.proofs.Areas.{areas}
+use Rattle.gate_journal.proofs.Places.{Keeps-trans, Keeps-weaken, Keeps-write, bytes_at-same}
+use Rattle.gate_journal.proofs.Calls.{Made-then, Made-as, Makes-write, Reaches-sync, Reaches-fault}
 
 -- the places outside all changed slots' journal are outside that of one
 pub outside_one : (slots : ℕ) (changes : Changes) (k slot : ℕ) → k < changes.count → slot ≡ changes.slot k → (place : ℕ) → OutsideJournal slots changes place → OutsideEntry slots slot place

@@ -1,15 +1,15 @@
 -- What each phase of the journal recovers to.
-use Rattle.std.proofs.Common.{◌≡◌, ◌⊎◌, ℕ, ◌+◌, ◌*◌, ◌<◌, ◌≤◌, List, ◌++◌, length, take, drop, slice_index, true, false, Bool, refl, sym, ap, ◌∙◌, inl, inr, arith, subst, length-append, length-take, length-drop, take-append-drop, append_assoc, get_or-take, get_or-drop, if◌then◌else◌, ◌&&◌, not, ◌==◌}
+use Rattle.std.proofs.Common.{◌≡◌, ◌⊎◌, ℕ, ◌+◌, ◌*◌, ◌<◌, List, ◌++◌, length, take, drop, slice_index, true, false, Bool, refl, sym, ap, ◌∙◌, inl, inr, arith, length-take, length-drop, take-append-drop, append_assoc, get_or-take, get_or-drop, if◌then◌else◌, ◌&&◌, not, ◌==◌}
 use Rattle.std.specs.List.{flat_map}
 use Rattle.std.proofs.lemmas.Bool.{cases_Bool}
-use Rattle.std.proofs.lemmas.List.{take_at, drop_at, take_all, drop-drop, ext_get_or, length-replicate, get_or-replicate}
+use Rattle.std.proofs.lemmas.List.{take_all, drop-drop, ext_get_or, length-replicate, get_or-replicate}
 use Rattle.store_model.specs.Lists.{zeros, numbers_below}
 use Rattle.store_model.specs.Parameters.{shadow_at, table_at, image_len}
 use Rattle.store_model.specs.Images.{bytes_at, is_raised, is_marked, recovered_slot, recovered, journal_len}
-use Rattle.gate_journal.specs.Phases.{table_slot, redo_slot, HasTable, HasRedo, HasEmptyJournal, settled, JournalPhase, InPhase}
+use Rattle.gate_journal.specs.Phases.{table_slot, HasTable, HasRedo, HasEmptyJournal, settled, JournalPhase, InPhase}
 use Rattle.gate_journal.specs.Phases.JournalPhase.{Journaling, Flagging, Redoing, Clearing, Erasing}
-use Rattle.gate_journal.proofs.Areas.{Areas, areas, journal_end, table_end, shadow_end, marks_end}
-use Rattle.gate_journal.proofs.Slots.{block-flat_map, flat_map-blocks, flat_map-same}
+use Rattle.gate_journal.proofs.Areas.{areas, journal_end, table_end, shadow_end, marks_end}
+use Rattle.gate_journal.proofs.Slots.{flat_map-blocks, flat_map-same}
 
 -- images whose parts are equal
 same_parts : (slots : ℕ) (head other_head : List ℕ) (slot other : ℕ → List ℕ) → head ≡ other_head → ((i : ℕ) → i < slots → slot i ≡ other i)

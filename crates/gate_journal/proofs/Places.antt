@@ -2,7 +2,7 @@
 use Rattle.std.proofs.Common.{◌≡◌, ℕ, ◌+◌, ◌<◌, ◌≤◌, List, length, take, drop, slice_index, refl, sym, ◌∙◌, inl, inr, arith, Result, length-take, length-drop, get_or-take, get_or-drop}
 use Rattle.std.proofs.lemmas.List.{ext_get_or}
 use Rattle.store_model.specs.Images.{bytes_at}
-use Rattle.disk_model.specs.DiskState.{DiskState, IsObservable, IsDurable, IsSound, MayLeaveOnly}
+use Rattle.disk_model.specs.DiskState.{DiskState, IsObservable, IsDurable, IsSound}
 use Rattle.disk_model.specs.DiskCalls.{SameOutside, LeavesOnly, IsRead, IsWrite, IsSync}
 use Rattle.disk_model.proofs.Crashes.{LeavesOnly-refl, LeavesOnly-trans, LeavesOnly-weaken, MayLeaveOnly-end}
 use Rattle.gate_journal.specs.Places.{IsApart, SameAt, TornOutside, Keeps}

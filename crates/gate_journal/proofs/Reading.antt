@@ -4,7 +4,7 @@ use Rattle.std.proofs.lemmas.Bool.{cases_lt}
 use Rattle.std.proofs.lemmas.List.{length-replicate, get_or-replicate}
 use Rattle.store_model.specs.Lists.{zeros}
 use Rattle.disk_model.specs.DiskState.{DiskState, IsObservable, IsDurable, IsSound}
-use Rattle.disk_model.specs.DiskCalls.{LeavesOnly, IsRead, overwrite}
+use Rattle.disk_model.specs.DiskCalls.{IsRead, overwrite}
 use Rattle.disk_model.proofs.Images.{take-drop-overwrite}
 use Rattle.disk_model.proofs.Crashes.{LeavesOnly-refl, LeavesOnly-trans, LeavesOnly-weaken}
 use Rattle.gate_journal.specs.Places.{IsApart, SameAt, TornOutside, Keeps, Reaches, ReadsOnly, IsZeroAt}

@@ -1,15 +1,15 @@
 -- The images on the way of a recovery, and what they recover to.
-use Rattle.std.proofs.Common.{◌≡◌, ◌⊎◌, ℕ, ◌+◌, ◌-◌, ◌*◌, ◌<◌, ◌≤◌, List, ◌++◌, length, take, drop, slice_index, true, false, Bool, not, ◌==◌, if◌then◌else◌, ◌&&◌, refl, sym, ap, ◌∙◌, inl, inr, arith, subst, length-append, length-take, length-drop, append_assoc}
+use Rattle.std.proofs.Common.{◌≡◌, ℕ, ◌+◌, ◌-◌, ◌*◌, ◌<◌, ◌≤◌, List, ◌++◌, length, take, drop, slice_index, true, false, Bool, not, ◌==◌, if◌then◌else◌, ◌&&◌, sym, ap, ◌∙◌, inl, inr, arith, length-append, length-take, length-drop, append_assoc}
 use Rattle.std.specs.List.{flat_map}
 use Rattle.std.proofs.lemmas.Bool.{cases_Bool, cases_eq, both_ways}
-use Rattle.std.proofs.lemmas.List.{take_at, drop_at, drop-drop, take-take, take-append-le, get_or_append_left, get_or-append_right, get_or-replicate, length-replicate}
+use Rattle.std.proofs.lemmas.List.{take_at, drop_at, drop-drop, get_or_append_left, get_or-append_right, get_or-replicate, length-replicate}
 use Rattle.store_model.specs.Lists.{zeros, numbers_below}
 use Rattle.store_model.specs.Parameters.{mark_at, shadow_at, table_at, image_len}
 use Rattle.store_model.specs.Images.{bytes_at, is_raised, is_marked, recovered_slot, recovered, journal_len}
 use Rattle.gate_journal.specs.Places.{IsApart, SameAt, IsZeroAt}
 use Rattle.gate_journal.specs.Phases.{table_slot, redo_slot, HasTable, HasRedo, HasEmptyJournal, settled}
 use Rattle.gate_journal.specs.Recovery.{OutsideMarked, AreRedone, RecoversAs}
-use Rattle.gate_journal.proofs.Areas.{Areas, areas, journal_end, marks_end, shadow_end, table_end}
+use Rattle.gate_journal.proofs.Areas.{areas, journal_end, marks_end, shadow_end, table_end}
 use Rattle.gate_journal.proofs.Places.{bytes_at-same}
 use Rattle.gate_journal.proofs.Slots.{block-flat_map, length-flat_map-blocks}
 use Rattle.gate_journal.proofs.Phases.{recovered_clear, recovered_set, settled-same, settled_empty}

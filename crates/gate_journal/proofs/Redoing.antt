@@ -1,13 +1,13 @@
 -- The loops that redo the marked slots, one step on.
-use Rattle.std.proofs.Common.{◌≡◌, ℕ, ◌+◌, ◌<◌, ◌≤◌, List, slice_index, true, false, not, ◌==◌, ap, ◌∙◌, sym, subst, inl, inr, arith, Ok, length}
+use Rattle.std.proofs.Common.{◌≡◌, ℕ, ◌+◌, ◌<◌, ◌≤◌, List, slice_index, true, false, not, ◌==◌, ap, ◌∙◌, sym, subst, inl, inr, arith, Ok}
 use Rattle.std.proofs.lemmas.Bool.{cases_lt, both_ways, ne_eqb}
 use Rattle.store_model.specs.Parameters.{mark_at, shadow_at, table_at}
 use Rattle.store_model.specs.Images.{bytes_at, is_marked}
 use Rattle.disk_model.specs.DiskState.{DiskState, IsSound}
-use Rattle.gate_journal.specs.Places.{IsApart, SameAt, Keeps, Reaches}
+use Rattle.gate_journal.specs.Places.{IsApart, Keeps, Reaches}
 use Rattle.gate_journal.specs.Phases.{table_slot}
 use Rattle.gate_journal.specs.Recovery.{OutsideMarked, AreRedone}
-use Rattle.gate_journal.proofs.Areas.{Areas, areas, marks_end, shadow_end}
+use Rattle.gate_journal.proofs.Areas.{areas, shadow_end}
 use Rattle.gate_journal.proofs.Places.{Keeps-trans, Keeps-weaken, bytes_at-same}
 use Rattle.gate_journal.proofs.Committing.{table_apart}
 

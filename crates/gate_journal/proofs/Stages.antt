@@ -1,5 +1,5 @@
 -- The states of the disk between the phases of a commit.
-use Rattle.std.proofs.Common.{◌≡◌, ℕ, ◌<◌, List, [], ◌∷◌, slice_index, sym, ap, inl, subst, Result, Ok, Err, OnOk, IfOk, IsErr, length}
+use Rattle.std.proofs.Common.{◌≡◌, ℕ, List, [], ◌∷◌, slice_index, sym, ap, inl, subst, Result, Ok, Err, OnOk, IfOk, IsErr, length}
 use Rattle.std.proofs.lemmas.Bool.{false≢true}
 use Rattle.store_model.specs.Parameters.{image_len}
 use Rattle.disk_model.specs.DiskState.{DiskState, IsDurable, IsSound}

@@ -1,5 +1,5 @@
 -- Slots of a table that are to be changed together, and an image with these slots changed.
-use Rattle.std.specs.Prelude.{◌≡◌, ◌⊎◌, ℕ, zero, suc, ◌+◌, ◌<◌, List, length, slice_index, Result, OnOk}
+use Rattle.std.specs.Prelude.{◌≡◌, ◌⊎◌, ℕ, zero, suc, ◌<◌, List, length, slice_index, Result, OnOk}
 use Rattle.store_model.specs.Lists.{zeros}
 use Rattle.store_model.specs.Parameters.{mark_at, shadow_at, table_at}
 use Rattle.store_model.specs.Images.{bytes_at, recovered}

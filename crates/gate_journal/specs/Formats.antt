@@ -1,6 +1,5 @@
 -- What formatting does to a disk that is no image.
-use Rattle.std.specs.Prelude.{◌≡◌, ◌⊎◌, ℕ, ◌-◌, ◌<◌, ◌≤◌, List, ◌++◌, slice_index, Result, OnOk}
-use Rattle.store_model.specs.Lists.{zeros}
+use Rattle.std.specs.Prelude.{◌≡◌, ◌⊎◌, ℕ, ◌-◌, ◌<◌, ◌≤◌, List, slice_index, Result, OnOk}
 use Rattle.store_model.specs.Parameters.{Parameters, image_len}
 use Rattle.store_model.specs.Trees.{empty_tree}
 use Rattle.store_model.specs.Images.{header, layout, NamesParameters}

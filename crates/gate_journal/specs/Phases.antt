@@ -1,8 +1,8 @@
 -- The phases of the redo journal, each a predicate on images.
-use Rattle.std.specs.Prelude.{◌≡◌, ℕ, ◌<◌, ◌≤◌, List, ◌++◌, length, take, slice_index, true, false, if◌then◌else◌}
+use Rattle.std.specs.Prelude.{◌≡◌, ℕ, ◌<◌, ◌≤◌, List, ◌++◌, take, slice_index, true, false, if◌then◌else◌}
 use Rattle.std.specs.List.{flat_map}
 use Rattle.store_model.specs.Lists.{zeros, numbers_below}
-use Rattle.store_model.specs.Parameters.{shadow_at, table_at, image_len}
+use Rattle.store_model.specs.Parameters.{shadow_at, table_at}
 use Rattle.store_model.specs.Images.{bytes_at, is_raised, is_marked, journal_len}
 
 -- a slot of the table as it stands in the image

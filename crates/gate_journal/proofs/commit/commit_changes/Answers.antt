@@ -1,5 +1,5 @@
 -- Each path of the commit: the phases that it went through leave only such images.
-use Rattle.std.proofs.Common.{◌≤◌, ◌∙◌, arith}
+use Rattle.std.proofs.Common.{◌∙◌, arith}
 use Rattle.disk_model.proofs.Crashes.{IsObservable-call}
 use Rattle.gate_journal.proofs.Areas.{marks_end, shadow_end, table_end}
 use Rattle.gate_journal.proofs.Stages.{leaves_journaling, stage_journaled, leaves_flagging, stage_flagged, leaves_redoing, stage_redone, leaves_clearing, stage_cleared, commits_fault, commits}

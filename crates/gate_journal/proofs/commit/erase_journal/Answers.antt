@@ -1,7 +1,5 @@
 use Rattle.std.proofs.Common.{◌≡◌, ◌*◌, ◌<◌, arith, rules, refl}
-use Rattle.store_base.specs.declared.fault.DiskFault.{DiskFault}
 use Rattle.store_model.specs.Lists.{zeros}
-use Rattle.gate_journal.specs.Places.{AreCalls}
 use Rattle.gate_journal.specs.Changes.{Changes, OutsideJournal, AreErased}
 use Rattle.gate_journal.proofs.Calls.{observable_after}
 use Rattle.gate_journal.proofs.Loops.{entries_step, outside_one, comes_short, comes_to}

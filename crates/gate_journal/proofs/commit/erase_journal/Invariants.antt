@@ -1,4 +1,4 @@
-use Rattle.std.proofs.Common.{◌*◌, Result, Ok}
+use Rattle.std.proofs.Common.{◌*◌, Ok}
 use Rattle.store_base.specs.declared.fault.DiskFault.{DiskFault}
 use Rattle.disk_model.specs.DiskState.{IsObservable}
 use Rattle.gate_journal.specs.Places.{AreCalls, Comes}

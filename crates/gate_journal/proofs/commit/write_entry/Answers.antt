@@ -1,6 +1,6 @@
-use Rattle.std.proofs.Common.{◌≤◌, ◌+◌, length, arith}
-use Rattle.gate_journal.proofs.Areas.{Areas, areas, table_end}
-use Rattle.gate_journal.proofs.Entries.{entry_reaches, entry_failed}
+use Rattle.std.proofs.Common.{arith}
+use Rattle.gate_journal.proofs.Areas.{areas, table_end}
+use Rattle.gate_journal.proofs.Entries.{entry_reaches}
 use Rattle.disk_model.proofs.Crashes.{IsObservable-call}
 use Rattle.gate_journal.proofs.commit.write_entry.Goals as goal
 

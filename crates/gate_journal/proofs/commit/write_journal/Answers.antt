@@ -1,6 +1,4 @@
 use Rattle.std.proofs.Common.{◌≡◌, ◌*◌, ◌<◌, arith, rules}
-use Rattle.store_base.specs.declared.fault.DiskFault.{DiskFault}
-use Rattle.gate_journal.specs.Places.{AreCalls}
 use Rattle.gate_journal.specs.Changes.{Changes, OutsideJournal, AreJournaled}
 use Rattle.gate_journal.proofs.Calls.{observable_after}
 use Rattle.gate_journal.proofs.Loops.{entries_step, outside_one, comes_short, comes_to}

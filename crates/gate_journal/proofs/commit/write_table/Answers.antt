@@ -1,8 +1,8 @@
-use Rattle.std.proofs.Common.{◌≡◌, ℕ, ◌+◌, ◌<◌, ◌≤◌, length, sym, ap, ◌∙◌, subst, arith, rules}
+use Rattle.std.proofs.Common.{◌≡◌, ℕ, ◌<◌, length, sym, ap, ◌∙◌, subst, arith, rules}
 use Rattle.store_model.specs.Parameters.{table_at}
-use Rattle.gate_journal.specs.Places.{IsApart, AreCalls}
-use Rattle.gate_journal.specs.Changes.{Changes, OutsideTable, with_first}
-use Rattle.gate_journal.proofs.Areas.{Areas, areas}
+use Rattle.gate_journal.specs.Places.{IsApart}
+use Rattle.gate_journal.specs.Changes.{Changes, OutsideTable}
+use Rattle.gate_journal.proofs.Areas.{areas}
 use Rattle.gate_journal.proofs.Places.{Keeps-write}
 use Rattle.gate_journal.proofs.Calls.{observable_after}
 use Rattle.gate_journal.proofs.Loops.{table_step, comes_short, comes_to}

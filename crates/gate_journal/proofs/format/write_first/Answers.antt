@@ -1,4 +1,4 @@
-use Rattle.std.proofs.Common.{◌≡◌, List, [], ◌∷◌, refl}
+use Rattle.std.proofs.Common.{◌≡◌, [], ◌∷◌, refl}
 use Rattle.disk_model.specs.DiskCalls.{overwrite}
 use Rattle.disk_model.proofs.Crashes.{IsObservable-call}
 use Rattle.gate_journal.specs.Places.{IsApart}

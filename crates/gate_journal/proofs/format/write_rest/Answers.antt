@@ -5,7 +5,6 @@ use Rattle.store_model.specs.Parameters.{Parameters, image_len}
 use Rattle.store_model.specs.Images.{header}
 use Rattle.disk_model.specs.DiskState.{DiskState, IsObservable, IsSound}
 use Rattle.disk_model.specs.DiskCalls.{IsWrite}
-use Rattle.disk_model.proofs.Crashes.{IsObservable-call}
 use Rattle.gate_journal.specs.Places.{IsApart, Keeps, IsZeroAt}
 use Rattle.gate_journal.specs.Formats.{HasEmptyRest}
 use Rattle.gate_journal.proofs.Areas.{marks_end, shadow_end, table_end, image_blocks}

@@ -1,7 +1,7 @@
-use Rattle.std.proofs.Common.{◌≡◌, ℕ, ◌+◌, ◌≤◌, length, sym, ap, ◌∙◌, subst, arith, rules}
+use Rattle.std.proofs.Common.{◌≡◌, ℕ, length, sym, ap, ◌∙◌, subst, arith, rules}
 use Rattle.store_model.specs.Lists.{zeros}
 use Rattle.disk_model.proofs.Crashes.{IsObservable-call}
-use Rattle.gate_journal.specs.Places.{IsApart, IsZeroAt, Keeps}
+use Rattle.gate_journal.specs.Places.{IsApart, IsZeroAt}
 use Rattle.gate_journal.proofs.Calls.{Reaches-write, Reaches-then}
 use Rattle.gate_journal.proofs.Places.{Keeps-read}
 use Rattle.gate_journal.proofs.Reading.{zero_read, zero_written}

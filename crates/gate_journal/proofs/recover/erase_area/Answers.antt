@@ -1,8 +1,6 @@
-use Rattle.std.proofs.Common.{◌≡◌, ℕ, ◌+◌, ◌-◌, ◌*◌, ◌/◌, ◌≤◌, ap, arith, subst, rules}
-use Rattle.store_model.specs.Parameters.{table_at}
+use Rattle.std.proofs.Common.{◌≡◌, ℕ, ◌+◌, ◌-◌, ◌*◌, ◌≤◌, arith, subst, rules}
 use Rattle.store_model.specs.Images.{journal_len}
-use Rattle.disk_model.proofs.Crashes.{IsObservable-call}
-use Rattle.gate_journal.specs.Places.{IsApart, IsZeroAt, Keeps}
+use Rattle.gate_journal.specs.Places.{IsApart, IsZeroAt}
 use Rattle.gate_journal.proofs.Areas.{marks_end, shadow_end, table_end, table_blocks, journal_end}
 use Rattle.gate_journal.proofs.Places.{Keeps-trans, Keeps-weaken}
 use Rattle.gate_journal.proofs.Calls.{observable_after, Reaches-fault, Reaches-sync}

@@ -1,5 +1,4 @@
-use Rattle.std.proofs.Common.{◌≡◌, ◌+◌, ◌-◌, ◌*◌, ◌<◌, ◌≤◌, refl, arith}
-use Rattle.store_model.specs.Parameters.{table_at}
+use Rattle.std.proofs.Common.{refl, arith}
 use Rattle.gate_journal.proofs.Areas.{marks_end, shadow_end, table_end, table_blocks}
 use Rattle.gate_journal.proofs.recover.is_journal_zero.Goals as goal
 

@@ -1,4 +1,4 @@
-use Rattle.std.proofs.Common.{◌≡◌, ◌∙◌}
+use Rattle.std.proofs.Common.{◌∙◌}
 use Rattle.gate_journal.proofs.Calls.{observable_after}
 use Rattle.gate_journal.proofs.Recoveries.{recovers_empty, recovers_erased}
 use Rattle.gate_journal.proofs.recover.recover_durable.Goals as goal

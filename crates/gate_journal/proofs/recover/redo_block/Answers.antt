@@ -3,7 +3,7 @@ use Rattle.store_model.specs.Parameters.{mark_at, table_at}
 use Rattle.store_model.specs.Images.{is_marked}
 use Rattle.gate_journal.specs.Places.{IsApart, Keeps}
 use Rattle.gate_journal.specs.Recovery.{OutsideMarked, AreRedone}
-use Rattle.disk_model.specs.DiskState.{DiskState, IsObservable}
+use Rattle.disk_model.specs.DiskState.{IsObservable}
 use Rattle.gate_journal.proofs.Reading.{byte_read}
 use Rattle.gate_journal.proofs.Areas.{marks_end, shadow_end, table_end}
 use Rattle.gate_journal.proofs.Places.{Keeps-trans, Keeps-weaken}

@@ -1,4 +1,4 @@
-use Rattle.std.proofs.Common.{◌≡◌, ℕ, List, ◌+◌, ◌≤◌, length, take, drop, sym, ap, ◌∙◌, subst, arith}
+use Rattle.std.proofs.Common.{◌≡◌, ℕ, ◌+◌, ◌≤◌, length, take, drop, sym, ap, ◌∙◌, subst, arith}
 use Rattle.store_model.specs.Parameters.{shadow_at, table_at}
 use Rattle.store_model.specs.Images.{bytes_at}
 use Rattle.disk_model.specs.DiskCalls.{overwrite}
@@ -6,7 +6,7 @@ use Rattle.disk_model.proofs.Crashes.{IsObservable-call}
 use Rattle.disk_model.proofs.Images.{take-drop-overwrite}
 use Rattle.gate_journal.specs.Places.{IsApart}
 use Rattle.gate_journal.specs.Phases.{table_slot}
-use Rattle.gate_journal.proofs.Areas.{Areas, areas, table_end}
+use Rattle.gate_journal.proofs.Areas.{areas, table_end}
 use Rattle.gate_journal.proofs.Places.{Keeps-read}
 use Rattle.gate_journal.proofs.Calls.{Reaches-write, Reaches-then}
 use Rattle.gate_journal.proofs.recover.redo_slot.Goals as goal

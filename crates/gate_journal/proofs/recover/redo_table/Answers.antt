@@ -1,6 +1,4 @@
-use Rattle.std.proofs.Common.{◌≡◌, ℕ, ◌+◌, ◌*◌, ◌<◌, ◌≤◌, min, subst, arith, rules}
-use Rattle.disk_model.specs.DiskState.{DiskState, IsObservable}
-use Rattle.gate_journal.specs.Places.{Keeps}
+use Rattle.std.proofs.Common.{◌≡◌, ℕ, ◌+◌, ◌*◌, ◌<◌, min, subst, arith, rules}
 use Rattle.gate_journal.specs.Recovery.{OutsideMarked, AreRedone}
 use Rattle.gate_journal.proofs.Calls.{observable_after, Reaches-fault, Reaches-sync}
 use Rattle.gate_journal.proofs.Redoing.{block_keeps, block_redone}

@@ -1,8 +1,8 @@
-use Rattle.std.proofs.Common.{◌≡◌, ℕ, ◌+◌, ◌≤◌, List, Bool, true, not, ◌==◌, ◌&&◌, slice_index, sym, ap, ◌∙◌, arith}
+use Rattle.std.proofs.Common.{◌≡◌, ℕ, List, Bool, true, not, ◌==◌, ◌&&◌, slice_index, sym, ap, ◌∙◌, arith}
 use Rattle.store_model.specs.Parameters.{mark_at}
 use Rattle.store_model.specs.Images.{is_raised, is_marked}
 use Rattle.disk_model.proofs.Crashes.{IsObservable-call}
-use Rattle.gate_journal.proofs.Areas.{Areas, areas, marks_end, shadow_end, table_end}
+use Rattle.gate_journal.proofs.Areas.{areas, marks_end, shadow_end, table_end}
 use Rattle.gate_journal.proofs.Stages.{if_ok_map}
 use Rattle.gate_journal.proofs.view.is_redone.Goals as goal
 

@@ -1,4 +1,4 @@
-use Rattle.std.proofs.Common.{◌≡◌, ℕ, Bool, true, false, sym, ap, ◌∙◌, if◌then◌else◌}
+use Rattle.std.proofs.Common.{ℕ, Bool, sym, ap, ◌∙◌, if◌then◌else◌}
 use Rattle.store_model.specs.Parameters.{shadow_at, table_at}
 use Rattle.store_model.specs.Images.{bytes_at, recovered_slot}
 use Rattle.gate_journal.proofs.view.place_of.Goals as goal

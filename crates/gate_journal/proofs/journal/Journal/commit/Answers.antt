@@ -1,4 +1,4 @@
-use Rattle.std.proofs.Common.{◌≡◌, ◌∙◌, sym}
+use Rattle.std.proofs.Common.{◌∙◌, sym}
 use Rattle.gate_journal.proofs.Stages.{commits_none}
 use Rattle.gate_journal.proofs.journal.Journal.commit.Goals as goal
 

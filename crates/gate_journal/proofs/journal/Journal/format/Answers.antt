@@ -1,4 +1,4 @@
-use Rattle.std.proofs.Common.{◌≡◌, ◌≤◌, ap, arith}
+use Rattle.std.proofs.Common.{ap, arith}
 use Rattle.store_model.specs.Parameters.{image_len}
 use Rattle.disk_model.proofs.Crashes.{IsObservable-call}
 use Rattle.gate_journal.proofs.Areas.{marks_end, shadow_end, table_end}

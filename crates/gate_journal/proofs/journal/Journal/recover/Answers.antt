@@ -1,6 +1,5 @@
-use Rattle.std.proofs.Common.{◌≡◌, ◌∙◌, subst}
+use Rattle.std.proofs.Common.{◌∙◌}
 use Rattle.disk_model.proofs.Crashes.{IsObservable-call}
-use Rattle.gate_journal.specs.Recovery.{RecoversDurable}
 use Rattle.gate_journal.proofs.Calls.{observable_after}
 use Rattle.gate_journal.proofs.Recoveries.{recovers_synced}
 use Rattle.gate_journal.proofs.journal.Journal.recover.Goals as goal
