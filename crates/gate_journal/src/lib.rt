@@ -13,3 +13,6 @@ pub use changes::SlotChanges;
 pub use fault::JournalFault;
 pub use journal::Journal;
 pub use view::View;
+
+#[cfg(test)]
+mod tests;
