@@ -1,6 +1,6 @@
 -- Where the areas of an image lie, seen from its ends.
-use Rattle.std.proofs.Common.{◌≡◌, ℕ, ◌+◌, ◌-◌, ◌*◌, ◌<◌, ◌≤◌, arith}
-use Rattle.store_model.specs.Parameters.{mark_blocks, gate_at, marks_at, mark_at, shadow_at, table_at, image_len}
+use Rattle.std.proofs.Common.{ℕ, ◌+◌, ◌*◌, ◌<◌, ◌≤◌, arith}
+use Rattle.store_model.specs.Parameters.{mark_blocks, marks_at, mark_at, shadow_at, table_at, image_len}
 
 -- a mark lies before the shadow
 pub mark_at-below : (slots i : ℕ) → i ≤ slots → mark_at i < shadow_at slots 0

@@ -1,5 +1,5 @@
 -- The header's bytes: their length, and that they say all that the parameters are.
-use Rattle.std.proofs.Common.{◌≡◌, ℕ, ◌+◌, ◌-◌, ◌<◌, ◌≤◌, List, [], ◌∷◌, ◌++◌, length, take, drop, slice_index, refl, subst, ap, sym, ◌∙◌, arith, rules, length-append}
+use Rattle.std.proofs.Common.{◌≡◌, ℕ, ◌-◌, ◌<◌, List, [], ◌∷◌, ◌++◌, length, take, drop, slice_index, refl, subst, ap, sym, ◌∙◌, arith, length-append}
 use Rattle.std.specs.Prelude.{codes, Result, Ok, Err, Some, IfOk}
 use Rattle.std.specs.Result.{result_ok}
 use Rattle.std.specs.Int.{w32, to_be_bytes, from_be_bytes}
@@ -10,7 +10,7 @@ use Rattle.store_model.specs.declared.draw_kind.DrawKind.TheVariants.{Ruler, Sha
 use Rattle.store_model.specs.Lists.{IsBytes, zeros, zero_filled}
 use Rattle.store_model.specs.Parameters.{Parameters, IsParameters}
 use Rattle.store_model.specs.Images.{kind_byte, header}
-use Rattle.store_base.proofs.Orders.{IsBytes-cons, IsBytes-append, IsBytes-zeros, IsBytes-to_be_bytes, to_be_bytes-same}
+use Rattle.store_base.proofs.Orders.{IsBytes-cons, IsBytes-append, IsBytes-zeros, IsBytes-to_be_bytes}
 
 -- the 48 bytes in front of the zeros
 abbrev pub header_front : Parameters → List ℕ

@@ -1,5 +1,5 @@
 -- The bytes of labels.
-use Rattle.std.proofs.Common.{◌≡◌, ℕ, ◌<◌, ◌≤◌, List, [], ◌∷◌, ◌++◌, length, take, drop, slice_index, refl, ap, sym, ◌∙◌, Bool, true, false, nat_eq, ◌&&◌, arith, rules, length-append}
+use Rattle.std.proofs.Common.{◌≡◌, ℕ, ◌<◌, ◌≤◌, List, [], ◌∷◌, ◌++◌, length, take, drop, slice_index, refl, ap, sym, ◌∙◌, Bool, true, false, nat_eq, ◌&&◌, arith, length-append}
 use Rattle.store_base.proofs.Orders.{append-same, IsBytes-cons, IsBytes-append, IsBytes-zeros, IsBytes-take, IsBytes-drop, IsBytes-to_be_bytes, to_be_bytes-same, ordering_then-then, slice_cmp-append, slice_cmp-to_be_bytes, pointwise-append, pointwise-to_be_bytes}
 use Rattle.std.proofs.lemmas.List.{take_at, take_all, length-take, length-drop, take-append-drop}
 use Rattle.std.proofs.lemmas.Nat.{be_bytes_4}

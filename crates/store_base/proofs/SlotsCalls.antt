@@ -1,5 +1,5 @@
 -- Calls on slots one after the other.
-use Rattle.std.proofs.Common.{◌≡◌, ℕ, ◌≤◌, refl, subst, sym, ◌∙◌, arith}
+use Rattle.std.proofs.Common.{refl, ◌∙◌, arith}
 use Rattle.store_base.specs.declared.store_fault.Fault.{Fault}
 use Rattle.store_base.specs.declared.store_fault.Fault.TheVariants.{Disk, NoMemory}
 use Rattle.store_base.specs.SlotsState.{SlotsState, IsObservable, TakesNone, HasCause, Continues}

@@ -103,7 +103,8 @@ impl Label {
     /// or it is 0 and bytes 2 to 125 are not all zero.
     pub fn from_bytes(bytes: &[u8; 130]) -> Option<Label>
         ensures found { IfSome result (λ label. IsLabel label × (label_bytes label ≡ bytes.now)) }
-        ensures only { (label : model.Label) → IsLabel label → label_bytes label ≡ bytes.now → result ≡ Some label }
+        ensures only { (label : model.Label) → IsLabel label → label_bytes label ≡ bytes.now
+            → result ≡ Some label }
     {
         let lead = Lead::from_bytes(&bytes[1..126])?;
         let mut index = [0; 4];

@@ -37,8 +37,10 @@ impl Params {
 
     /// The parameters, or `BadParams` exactly where they are out of range.
     pub fn new(slots: u32, height: u8, kind: DrawKind, seed: [u8; 32]) -> Result<Self, BadParams>
-        ensures exact { IsOk result ↔ IsParameters (record { slots = slots; height = height; kind = kind; seed = seed }) }
-        ensures value { IfOk result (λ p. p ≡ record { slots = slots; height = height; kind = kind; seed = seed }) }
+        ensures exact { IsOk result
+            ↔ IsParameters (record { slots = slots; height = height; kind = kind; seed = seed }) }
+        ensures value { IfOk result
+            (λ p. p ≡ record { slots = slots; height = height; kind = kind; seed = seed }) }
         ensures valid { IfOk result IsParameters }
     {
         if slots < 1 || slots > 16384 || height < 1 || height > 8 {

@@ -15,7 +15,13 @@ struct TwoSlots {
 }
 
 impl ReadSlots for TwoSlots {
-    ghost state = { λ s. record { count = 2; is_observable = true; slots = s.first ∷ s.second ∷ []; faults = s.faults; takes_none = true } };
+    ghost state = { λ s. record {
+      count = 2;
+      is_observable = true;
+      slots = s.first ∷ s.second ∷ [];
+      faults = s.faults;
+      takes_none = true;
+    } };
 
     ghost counted = { λ s observable. refl };
 
@@ -41,7 +47,9 @@ impl Slots for TwoSlots {
 fn copy_slot<S: Slots>(slots: &mut S, from: u32, to: u32) -> Result<(), Fault>
     requires from { from < (S.ReadSlots.state slots.old).count }
     requires to { to < (S.ReadSlots.state slots.old).count }
-    ensures copied { IsObservable (S.ReadSlots.state slots.old) → OnOk result (slice_get (S.ReadSlots.state slots.new).slots to ≡ slice_get (S.ReadSlots.state slots.old).slots from) }
+    ensures copied { IsObservable (S.ReadSlots.state slots.old)
+        → OnOk result (slice_get (S.ReadSlots.state slots.new).slots to
+        ≡ slice_get (S.ReadSlots.state slots.old).slots from) }
     ensures cause { IfErr result (HasCause (S.ReadSlots.state slots.old) (S.ReadSlots.state slots.new)) }
 {
     let mut slot = [0; 4096];

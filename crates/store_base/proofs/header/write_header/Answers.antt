@@ -1,8 +1,5 @@
-use Rattle.std.proofs.Common.{rules, refl, ◌≡◌, ap, sym, ◌∙◌, List, ℕ, ◌++◌, length, append-nil}
-use Rattle.store_model.specs.Lists.{zeros}
-use Rattle.store_model.specs.Images.{header}
-use Rattle.store_base.proofs.Orders.{put_mid-last}
-use Rattle.store_base.proofs.HeaderBytes.{header_front, header-front}
+use Rattle.std.proofs.Common.{refl, append-nil}
+use Rattle.store_base.proofs.HeaderBytes.{header-front}
 use Rattle.store_base.proofs.header.write_header.Goals as goal
 
 pub returns : goal.returns

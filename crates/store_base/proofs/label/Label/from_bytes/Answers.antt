@@ -1,4 +1,4 @@
-use Rattle.std.proofs.Common.{◌≡◌, Some, sym, ◌∙◌, ap}
+use Rattle.std.proofs.Common.{Some, sym, ◌∙◌, ap}
 use Rattle.std.proofs.lemmas.Bool.{false≢true}
 use Rattle.store_base.specs.Leads.{lead_of}
 use Rattle.store_base.proofs.LabelBytes.{label_bytes-parts, lead_bytes-spelled, label_bytes-same}

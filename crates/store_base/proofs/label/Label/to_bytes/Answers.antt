@@ -1,7 +1,6 @@
-use Rattle.std.proofs.Common.{rules, lit≤, arith, subst, ◌≡◌, List, ℕ, length, drop, ◌++◌, ◌∷◌, [], refl, sym}
-use Rattle.store_model.specs.Labels.{label_bytes, IsLabel, IsLead}
+use Rattle.std.proofs.Common.{rules, lit≤, drop, ◌∷◌, refl}
+use Rattle.store_model.specs.Labels.{label_bytes}
 use Rattle.store_model.specs.Lists.{zeros}
-use Rattle.store_base.specs.Leads.{lead_of}
 use Rattle.store_base.proofs.Orders.{drop-take, put_mid-last}
 use Rattle.store_base.proofs.LabelBytes.{lead_of-no_key}
 use Rattle.store_base.proofs.label.Label.to_bytes.Goals as goal

@@ -1,4 +1,4 @@
-use Rattle.std.proofs.Common.{rules, refl, sym, ◌∙◌, ap, arith, subst, ℕ, ◌≡◌, take, drop, length, ◌-◌, nat_eq, true}
+use Rattle.std.proofs.Common.{sym, ◌∙◌, arith, subst, ℕ, ◌≡◌, take, drop, length, ◌-◌, nat_eq, true}
 use Rattle.std.specs.Cmp.Lexicographic.{pointwise}
 use Rattle.store_model.specs.Lists.{zeros}
 use Rattle.store_base.proofs.LabelBytes.{lead_bytes-zeros}
