@@ -1,5 +1,4 @@
 pub mod Copying
-pub mod Counts
 pub mod Crashes
 pub mod Images
 pub mod Ranges

@@ -1,22 +1,8 @@
 -- What one call of a disk does, and what several calls after one another may leave.
 use Rattle.std.specs.Prelude.{◌≡◌, ◌↔◌, ◌⊎◌, ℕ, ◌+◌, ◌-◌, ◌^◌, ◌<◌, ◌≤◌, min, List, ◌++◌, length, take, drop, slice_index, Result, OnOk, OnErr}
+pub use Rattle.store_model.specs.Lists.{overwrite}
+pub use Rattle.store_base.specs.Counts.{raised_by, raised, Rose}
 use Rattle.disk_model.specs.DiskState.{DiskState, IsObservable, IsDurable}
-
--- so many more, up to the last value of a u64, at which a count stays
-abbrev pub raised_by : ℕ → ℕ → ℕ
-raised_by count more = min (count + more) (2 ^ 64 - 1)
-
--- one more
-abbrev pub raised : ℕ → ℕ
-raised count = raised_by count 1
-
--- a count rose: it is greater than it was, or stands at the last value of a u64
-abbrev pub Rose : ℕ → ℕ → Type 0
-Rose old new = raised old ≤ new
-
--- the bytes with these in the place of those at this offset
-abbrev pub overwrite : List ℕ → ℕ → List ℕ → List ℕ
-overwrite old at bytes = take at old ++ bytes ++ drop (at + length bytes) old
 
 -- as many bytes, each outside the range of n bytes at this offset as it was, those in the range whatever they are
 pub record SameOutside (at n : ℕ) (old new : List ℕ) : Type 0 where

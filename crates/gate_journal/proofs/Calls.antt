@@ -3,7 +3,7 @@ use Rattle.std.proofs.Common.{◌≡◌, ℕ, ◌+◌, ◌≤◌, List, length, 
 use Rattle.std.proofs.lemmas.Bool.{false≢true}
 use Rattle.disk_model.specs.DiskState.{DiskState, IsObservable, IsDurable, IsSound}
 use Rattle.disk_model.specs.DiskCalls.{raised_by, overwrite, IsCall, IsWrite, IsSync}
-use Rattle.disk_model.proofs.Counts.{Rose-earlier}
+use Rattle.store_base.proofs.Counts.{Rose-earlier}
 use Rattle.gate_journal.specs.Places.{IsApart, AreCalls, Made, Makes, Keeps, Reaches}
 use Rattle.gate_journal.proofs.Places.{Keeps-trans, Keeps-sync, Keeps-write}
 

@@ -4,7 +4,7 @@ use Rattle.std.proofs.lemmas.Bool.{cases_lt, cases_eq}
 use Rattle.std.proofs.lemmas.List.{get_or-replicate}
 use Rattle.store_model.specs.Lists.{zeros}
 use Rattle.store_model.specs.Parameters.{mark_at, shadow_at, table_at, image_len}
-use Rattle.store_model.specs.Images.{bytes_at, is_raised, is_marked}
+use Rattle.store_model.specs.Images.{bytes_at, is_flag_set, is_marked}
 use Rattle.disk_model.specs.DiskCalls.{overwrite}
 use Rattle.disk_model.proofs.Images.{SameOutside-overwrite, take-drop-overwrite}
 use Rattle.gate_journal.specs.Places.{IsApart, SameAt}
@@ -37,12 +37,12 @@ HasTable-same slots places target a b header table same has = record {
       ∙ has.table i below;
 }
 
-pub clear_flag : (image : List ℕ) → slice_index image 4096 ≡ 0 → is_raised image ≡ false
-unfolding is_raised
+pub clear_flag : (image : List ℕ) → slice_index image 4096 ≡ 0 → is_flag_set image ≡ false
+unfolding is_flag_set
 clear_flag image zero_flag = ap (λ (b : ℕ). not (b == 0)) zero_flag
 
-pub set_flag : (image : List ℕ) → slice_index image 4096 ≡ 1 → is_raised image ≡ true
-unfolding is_raised
+pub set_flag : (image : List ℕ) → slice_index image 4096 ≡ 1 → is_flag_set image ≡ true
+unfolding is_flag_set
 set_flag image one = ap (λ (b : ℕ). not (b == 0)) one
 
 module _ (slots : ℕ) (changes : Changes) (valid : AreChanges slots changes) where

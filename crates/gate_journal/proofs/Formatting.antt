@@ -15,7 +15,7 @@ use Rattle.disk_model.specs.DiskState.{DiskState, IsDurable, IsSound}
 use Rattle.disk_model.specs.DiskCalls.{LeavesOnly, overwrite}
 use Rattle.disk_model.proofs.Crashes.{LeavesOnly-trans, LeavesOnly-weaken}
 use Rattle.disk_model.proofs.Images.{slice_index-overwrite}
-use Rattle.store_base.proofs.HeaderBytes.{length-header}
+use Rattle.store_model.proofs.ImagesLemmas.{length-header}
 use Rattle.gate_journal.specs.Places.{IsApart, SameAt, Keeps, Reaches, ReadsOnly}
 use Rattle.gate_journal.specs.Formats.{IsNoImage, IsEmptyOrNone, HasEmptyRest, Formats}
 use Rattle.gate_journal.proofs.Areas.{journal_end, marks_end, shadow_end, table_end}

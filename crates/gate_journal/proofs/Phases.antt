@@ -5,7 +5,7 @@ use Rattle.std.proofs.lemmas.Bool.{cases_Bool}
 use Rattle.std.proofs.lemmas.List.{take_all, drop-drop, ext_get_or, length-replicate, get_or-replicate}
 use Rattle.store_model.specs.Lists.{zeros, numbers_below}
 use Rattle.store_model.specs.Parameters.{shadow_at, table_at, image_len}
-use Rattle.store_model.specs.Images.{bytes_at, is_raised, is_marked, recovered_slot, recovered, journal_len}
+use Rattle.store_model.specs.Images.{bytes_at, is_flag_set, is_marked, recovered_slot, recovered, journal_len}
 use Rattle.gate_journal.specs.Phases.{table_slot, HasTable, HasRedo, HasEmptyJournal, settled, JournalPhase, InPhase}
 use Rattle.gate_journal.specs.Phases.JournalPhase.{Journaling, Flagging, Redoing, Clearing, Erasing}
 use Rattle.gate_journal.proofs.Areas.{areas, journal_end, table_end, shadow_end, marks_end}
@@ -19,14 +19,14 @@ same_parts slots head other_head slot other heads same =
     ∙ ap (λ (l : List ℕ). other_head ++ zeros (journal_len slots) ++ l) (flat_map-same slot other 0 slots (λ i low. same i (omega arith)))
 
 -- with the flag clear recovery keeps the table
-pub recovered_clear : (slots : ℕ) (target image : List ℕ) → is_raised image ≡ false → HasTable slots target image → recovered slots image ≡ settled slots target
+pub recovered_clear : (slots : ℕ) (target image : List ℕ) → is_flag_set image ≡ false → HasTable slots target image → recovered slots image ≡ settled slots target
 unfolding recovered recovered_slot
 recovered_clear slots target image clear has =
     same_parts slots (take 4096 image) (take 4096 target) (recovered_slot slots image) (table_slot slots target) has.header
     λ i below. ap (λ (raised : Bool). bytes_at image (if raised && is_marked image i then shadow_at slots i else table_at slots i) 4096) clear ∙ has.table i below
 
 -- with the flag set it redoes the marked slots
-pub recovered_set : (slots : ℕ) (target image : List ℕ) → is_raised image ≡ true → HasRedo slots target image → recovered slots image ≡ settled slots target
+pub recovered_set : (slots : ℕ) (target image : List ℕ) → is_flag_set image ≡ true → HasRedo slots target image → recovered slots image ≡ settled slots target
 unfolding recovered recovered_slot
 recovered_set slots target image set has =
     same_parts slots (take 4096 image) (take 4096 target) (recovered_slot slots image) (table_slot slots target) has.header
@@ -35,19 +35,19 @@ recovered_set slots target image set has =
 -- the one law: an image in any phase recovers to the one image or to the other
 pub recovered_in_phase : (slots : ℕ) (old new : List ℕ) (phase : JournalPhase) (image : List ℕ) → InPhase slots old new phase image → (recovered slots image ≡ settled slots old) ⊎ (recovered slots image ≡ settled slots new)
 recovered_in_phase slots old new Journaling image is = inl (recovered_clear slots old image is.1 is.0)
-recovered_in_phase slots old new Flagging image is = elim (cases_Bool (is_raised image)) [
+recovered_in_phase slots old new Flagging image is = elim (cases_Bool (is_flag_set image)) [
   | inl set ↦ inr (recovered_set slots new image set is.1)
   | inr clear ↦ inl (recovered_clear slots old image clear is.0)
 ]
 recovered_in_phase slots old new Redoing image is = inr (recovered_set slots new image is.1 is.0)
-recovered_in_phase slots old new Clearing image is = elim (cases_Bool (is_raised image)) [
+recovered_in_phase slots old new Clearing image is = elim (cases_Bool (is_flag_set image)) [
   | inl set ↦ inr (recovered_set slots new image set is.1)
   | inr clear ↦ inr (recovered_clear slots new image clear is.0)
 ]
 recovered_in_phase slots old new Erasing image is = inr (recovered_clear slots new image is.1 is.0)
 
 -- from the table on, every phase recovers to the new image
-pub recovered_late : (slots : ℕ) (new image : List ℕ) → (HasTable slots new image × (is_raised image ≡ false)) ⊎ (HasRedo slots new image × (is_raised image ≡ true)) → recovered slots image ≡ settled slots new
+pub recovered_late : (slots : ℕ) (new image : List ℕ) → (HasTable slots new image × (is_flag_set image ≡ false)) ⊎ (HasRedo slots new image × (is_flag_set image ≡ true)) → recovered slots image ≡ settled slots new
 recovered_late slots new image (inl is) = recovered_clear slots new image is.1 is.0
 recovered_late slots new image (inr is) = recovered_set slots new image is.1 is.0
 
@@ -85,7 +85,7 @@ settled_empty slots image long empty =
 
 -- an image with an empty journal is what it recovers to
 pub recovered_empty : (slots : ℕ) (image : List ℕ) → length image ≡ image_len slots → HasEmptyJournal slots image → recovered slots image ≡ image
-unfolding is_raised
+unfolding is_flag_set
 recovered_empty slots image long empty =
     let zero_flag : slice_index image 4096 ≡ 0 = empty 4096 (omega arith) (omega (arith, shadow_end slots, marks_end slots)) in
     recovered_clear slots image image (ap (λ (b : ℕ). not (b == 0)) zero_flag) (record { header = refl; table = λ i below. refl }) ∙ settled_empty slots image long empty

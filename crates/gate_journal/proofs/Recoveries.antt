@@ -3,7 +3,7 @@ use Rattle.std.proofs.Common.{◌≡◌, ◌⊎◌, ℕ, ◌-◌, List, [], ◌�
 use Rattle.gate_journal.proofs.Areas.{marks_end, shadow_end, table_end}
 use Rattle.std.proofs.lemmas.Bool.{cases_eq, ne_eqb, both_ways}
 use Rattle.store_model.specs.Parameters.{image_len}
-use Rattle.store_model.specs.Images.{is_raised, recovered, journal_len}
+use Rattle.store_model.specs.Images.{is_flag_set, recovered, journal_len}
 use Rattle.disk_model.specs.DiskState.{DiskState, IsObservable, IsDurable, IsSound}
 use Rattle.disk_model.specs.DiskCalls.{LeavesOnly, overwrite, IsSync}
 use Rattle.disk_model.proofs.Crashes.{LeavesOnly-trans, LeavesOnly-weaken}
@@ -17,8 +17,8 @@ use Rattle.gate_journal.proofs.Committing.{HasTable-same}
 use Rattle.gate_journal.proofs.Stages.{no_claim, on_ok_map, phase_leaves, reads_after}
 use Rattle.gate_journal.proofs.Recovering.{has_table, redo_kept, while_redone, table_redone, while_cleared, while_erased, when_erased, empty-recovered}
 
-pub flag_clear : (image : List ℕ) → is_raised image ≡ false → slice_index image 4096 ≡ 0
-unfolding is_raised
+pub flag_clear : (image : List ℕ) → is_flag_set image ≡ false → slice_index image 4096 ≡ 0
+unfolding is_flag_set
 flag_clear image clear = elim (cases_eq (slice_index image 4096) 0) [
   | inl zero_flag ↦ zero_flag
   | inr differs ↦ absurd (both_ways (not (slice_index image 4096 == 0)) clear (ap not (ne_eqb (slice_index image 4096) 0 differs)))
@@ -30,7 +30,7 @@ leaves_reading slots old new durable reads =
     LeavesOnly-weaken old new old.crash_images (RecoversAs slots old.bytes) (λ image left. ap (recovered slots) (durable image left)) reads.leaves
 
 -- the flag was clear
-pub settles_clear : {T E : Type 0} (slots : ℕ) (old new : DiskState) (value : T) → length old.bytes ≡ image_len slots → IsDurable old → ReadsOnly old new → is_raised old.bytes ≡ false → SettlesFlag {E = E} slots old new (Ok value)
+pub settles_clear : {T E : Type 0} (slots : ℕ) (old new : DiskState) (value : T) → length old.bytes ≡ image_len slots → IsDurable old → ReadsOnly old new → is_flag_set old.bytes ≡ false → SettlesFlag {E = E} slots old new (Ok value)
 settles_clear slots old new value long durable reads clear = record {
   crash = leaves_reading slots old new durable reads;
   durable = IsDurable-reads old new durable reads;
@@ -49,12 +49,12 @@ settles_fault slots old new result fails leaves = record {
 
 module _ (slots : ℕ) (old mid : DiskState) (long : length old.bytes ≡ image_len slots) (durable : IsDurable old) (reads : ReadsOnly old mid) where
   -- while marked slots are redone
-  pub leaves_redoing : (new : DiskState) → is_raised old.bytes ≡ true → Keeps (OutsideMarked slots 0 slots mid.bytes) mid new → LeavesOnly old new (RecoversAs slots old.bytes)
+  pub leaves_redoing : (new : DiskState) → is_flag_set old.bytes ≡ true → Keeps (OutsideMarked slots 0 slots mid.bytes) mid new → LeavesOnly old new (RecoversAs slots old.bytes)
   leaves_redoing new set keeps =
       phase_leaves (OutsideMarked slots 0 slots mid.bytes) (RecoversAs slots old.bytes) old mid new (leaves_reading slots old mid durable reads) (IsDurable-reads old mid durable reads) keeps
       (λ image. subst (λ (l : List ℕ). SameAt (OutsideMarked slots 0 slots l) l image → RecoversAs slots old.bytes image) (sym reads.bytes) (while_redone slots old.bytes long set image))
 
-  module _ (next : DiskState) (set : is_raised old.bytes ≡ true) (kept : Keeps (OutsideMarked slots 0 slots mid.bytes) mid next) (redone : AreRedone slots 0 slots mid.bytes next.bytes) (next_durable : IsDurable next) where
+  module _ (next : DiskState) (set : is_flag_set old.bytes ≡ true) (kept : Keeps (OutsideMarked slots 0 slots mid.bytes) mid next) (redone : AreRedone slots 0 slots mid.bytes next.bytes) (next_durable : IsDurable next) where
     same_marks : SameAt (OutsideMarked slots 0 slots old.bytes) old.bytes next.bytes
     same_marks = subst (λ (l : List ℕ). SameAt (OutsideMarked slots 0 slots l) l next.bytes) reads.bytes kept.reads
 

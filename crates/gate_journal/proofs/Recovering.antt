@@ -5,7 +5,7 @@ use Rattle.std.proofs.lemmas.Bool.{cases_Bool, cases_eq, both_ways}
 use Rattle.std.proofs.lemmas.List.{take_at, drop_at, drop-drop, get_or_append_left, get_or-append_right, get_or-replicate, length-replicate}
 use Rattle.store_model.specs.Lists.{zeros, numbers_below}
 use Rattle.store_model.specs.Parameters.{mark_at, shadow_at, table_at, image_len}
-use Rattle.store_model.specs.Images.{bytes_at, is_raised, is_marked, recovered_slot, recovered, journal_len}
+use Rattle.store_model.specs.Images.{bytes_at, is_flag_set, is_marked, recovered_slot, recovered, journal_len}
 use Rattle.gate_journal.specs.Places.{IsApart, SameAt, IsZeroAt}
 use Rattle.gate_journal.specs.Phases.{table_slot, redo_slot, HasTable, HasRedo, HasEmptyJournal, settled}
 use Rattle.gate_journal.specs.Recovery.{OutsideMarked, AreRedone, RecoversAs}
@@ -21,8 +21,8 @@ mark_same : (a b : List ℕ) (i : ℕ) → slice_index b (mark_at i) ≡ slice_i
 unfolding is_marked
 mark_same a b i same = ap (λ (x : ℕ). not (x == 0)) same
 
-flag_same : (a b : List ℕ) → slice_index b 4096 ≡ slice_index a 4096 → is_raised b ≡ is_raised a
-unfolding is_raised
+flag_same : (a b : List ℕ) → slice_index b 4096 ≡ slice_index a 4096 → is_flag_set b ≡ is_flag_set a
+unfolding is_flag_set
 flag_same a b same = ap (λ (x : ℕ). not (x == 0)) same
 
 module _ (slots : ℕ) (old : List ℕ) (long : length old ≡ image_len slots) where
@@ -32,7 +32,7 @@ module _ (slots : ℕ) (old : List ℕ) (long : length old ≡ image_len slots) 
       let here = areas slots i below in
       let end = table_end slots in
       let part : (at : ℕ) → at + 4096 ≤ length old → length (bytes_at old at 4096) ≡ 4096 = λ at within. omega (arith, length-take 4096 (drop at old), length-drop at old, within) in
-      elim (cases_Bool (is_raised old && is_marked old i)) [
+      elim (cases_Bool (is_flag_set old && is_marked old i)) [
         | inl is_so ↦ ap (λ (b : Bool). length (bytes_at old (if b then shadow_at slots i else table_at slots i) 4096)) is_so ∙ part (shadow_at slots i) (omega (arith, here.shadow_end, end, long))
         | inr not_so ↦ ap (λ (b : Bool). length (bytes_at old (if b then shadow_at slots i else table_at slots i) 4096)) not_so ∙ part (table_at slots i) (omega (arith, here.table_end, long))
       ]
@@ -82,7 +82,7 @@ module _ (slots : ℕ) (old : List ℕ) (long : length old ≡ image_len slots) 
   settled-recovered = settled_empty slots (recovered slots old) long-recovered empty-recovered
 
   -- with the flag clear the image has the recovered table
-  pub has_table : is_raised old ≡ false → HasTable slots (recovered slots old) old
+  pub has_table : is_flag_set old ≡ false → HasTable slots (recovered slots old) old
   unfolding recovered_slot
   has_table clear = record {
     header = sym header-recovered;
@@ -90,7 +90,7 @@ module _ (slots : ℕ) (old : List ℕ) (long : length old ≡ image_len slots) 
         sym (table-recovered i below ∙ ap (λ (b : Bool). bytes_at old (if b && is_marked old i then shadow_at slots i else table_at slots i) 4096) clear);
   }
 
-  redo-recovered : is_raised old ≡ true → (i : ℕ) → i < slots → redo_slot slots old i ≡ table_slot slots (recovered slots old) i
+  redo-recovered : is_flag_set old ≡ true → (i : ℕ) → i < slots → redo_slot slots old i ≡ table_slot slots (recovered slots old) i
   unfolding recovered_slot
   redo-recovered set i below =
       sym (table-recovered i below ∙ ap (λ (b : Bool). bytes_at old (if b && is_marked old i then shadow_at slots i else table_at slots i) 4096) set)
@@ -106,7 +106,7 @@ module _ (slots : ℕ) (old : List ℕ) (long : length old ≡ image_len slots) 
   unmarked_apart i below is place from to k first last marks =
       table_apart slots i k below last (λ same. both_ways (is_marked old i) is (ap (is_marked old) (sym same) ∙ marks)) place from to
 
-  module _ (set : is_raised old ≡ true) (image : List ℕ) (same : SameAt (OutsideMarked slots 0 slots old) old image) where
+  module _ (set : is_flag_set old ≡ true) (image : List ℕ) (same : SameAt (OutsideMarked slots 0 slots old) old image) where
     spared : (place : ℕ) → place < table_at slots 0 → OutsideMarked slots 0 slots old place
     spared place low = before_table slots 0 slots old (omega arith) place low
 
@@ -165,7 +165,7 @@ module _ (slots : ℕ) (old : List ℕ) (long : length old ≡ image_len slots) 
               | inr not_so ↦ slot_unmarked image i (mark ∙ not_so) ∙ kept (table_at slots i) (omega (arith, at.table_is, shadow_end slots, marks_end slots)) ∙ sym (slot_unmarked before i not_so) ∙ redo.redo i below
             ];
       } in
-      elim (cases_Bool (is_raised image)) [
+      elim (cases_Bool (is_flag_set image)) [
         | inl set ↦ recovered_set slots (recovered slots old) image set again ∙ settled-recovered
         | inr clear ↦ recovered_clear slots (recovered slots old) image clear here ∙ settled-recovered
       ]

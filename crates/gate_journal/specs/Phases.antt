@@ -3,7 +3,7 @@ use Rattle.std.specs.Prelude.{◌≡◌, ℕ, ◌<◌, ◌≤◌, List, ◌++◌
 use Rattle.std.specs.List.{flat_map}
 use Rattle.store_model.specs.Lists.{zeros, numbers_below}
 use Rattle.store_model.specs.Parameters.{shadow_at, table_at}
-use Rattle.store_model.specs.Images.{bytes_at, is_raised, is_marked, journal_len}
+use Rattle.store_model.specs.Images.{bytes_at, is_flag_set, is_marked, journal_len}
 
 -- a slot of the table as it stands in the image
 abbrev pub table_slot : ℕ → List ℕ → ℕ → List ℕ
@@ -46,8 +46,8 @@ pub data JournalPhase : Type 0 where
 
 -- an image that a crash in this phase may leave, on the way from the one image to the other
 abbrev pub InPhase : ℕ → List ℕ → List ℕ → JournalPhase → List ℕ → Type 0
-InPhase slots old new Journaling image = HasTable slots old image × (is_raised image ≡ false)
+InPhase slots old new Journaling image = HasTable slots old image × (is_flag_set image ≡ false)
 InPhase slots old new Flagging image = HasTable slots old image × HasRedo slots new image
-InPhase slots old new Redoing image = HasRedo slots new image × (is_raised image ≡ true)
+InPhase slots old new Redoing image = HasRedo slots new image × (is_flag_set image ≡ true)
 InPhase slots old new Clearing image = HasTable slots new image × HasRedo slots new image
-InPhase slots old new Erasing image = HasTable slots new image × (is_raised image ≡ false)
+InPhase slots old new Erasing image = HasTable slots new image × (is_flag_set image ≡ false)

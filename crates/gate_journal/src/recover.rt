@@ -2,7 +2,7 @@
 //! and an empty journal.
 ghost use Rattle.std.specs.Prelude.{◌≡◌, ◌↔◌, ℕ, ◌+◌, ◌-◌, ◌*◌, ◌<◌, ◌≤◌, min, length, slice_index, not, ◌==◌, IsTrue, IfOk, OnOk};
 ghost use Rattle.store_model.specs.Parameters.{image_len, shadow_at, table_at};
-ghost use Rattle.store_model.specs.Images.{bytes_at, is_raised, is_marked, recovered, journal_len};
+ghost use Rattle.store_model.specs.Images.{bytes_at, is_flag_set, is_marked, recovered, journal_len};
 ghost use Rattle.disk_model.specs.DiskState.{DiskState, IsObservable, IsDurable};
 ghost use Rattle.disk_model.specs.DiskCalls.{IsCall};
 ghost use Rattle.gate_journal.specs.Places.{IsApart, AreCalls, Reaches, ReadsOnly, IsZeroAt};
@@ -115,12 +115,12 @@ fn is_journal_zero<D: Disk>(disk: &mut D, slots: u32) -> Result<bool, DiskFault>
 }
 
 // Whether the commit flag is set.
-#[tactic(auto, unfolding(store_model::specs::Images::is_raised))]
+#[tactic(auto, unfolding(store_model::specs::Images::is_flag_set))]
 pub fn is_flag_set<D: Disk>(disk: &mut D) -> Result<bool, DiskFault>
     requires { 4097 ≤ (D.state disk.old).size }
     ensures call { IsCall (D.state disk.old) (D.state disk.new) result }
     ensures reads { IsObservable (D.state disk.old) → ReadsOnly (D.state disk.old) (D.state disk.new) }
-    ensures value { IsObservable (D.state disk.old) → IfOk result (λ set. set ≡ is_raised (D.state disk.old).bytes) }
+    ensures value { IsObservable (D.state disk.old) → IfOk result (λ set. set ≡ is_flag_set (D.state disk.old).bytes) }
 {
     is_byte_set(disk, gate_at())
 }

@@ -1,7 +1,7 @@
 //! The slots of the image that a disk recovers to, read without recovering it.
 ghost use Rattle.std.specs.Prelude.{◌≡◌, ◌+◌, ◌<◌, ◌≤◌, not, ◌==◌, ◌&&◌, slice_index, OnOk, IfOk};
 ghost use Rattle.store_model.specs.Parameters.{IsParameters, image_len};
-ghost use Rattle.store_model.specs.Images.{bytes_at, is_raised, is_marked, recovered_slot};
+ghost use Rattle.store_model.specs.Images.{bytes_at, is_flag_set, is_marked, recovered_slot};
 ghost use Rattle.disk_model.specs.DiskState.{DiskState, IsObservable};
 ghost use Rattle.gate_journal.specs.Places.{AreCalls, ReadsOnly};
 ghost use Rattle.gate_journal.specs.ViewState.{viewed, viewed_count};
@@ -17,7 +17,7 @@ fn is_redone<D: Disk>(disk: &mut D, slots: u32, slot: u32) -> Result<bool, DiskF
     requires size { (D.state disk.old).size ≡ image_len slots }
     ensures calls { AreCalls (D.state disk.old) (D.state disk.new) result }
     ensures reads { IsObservable (D.state disk.old) → ReadsOnly (D.state disk.old) (D.state disk.new) }
-    ensures value { IsObservable (D.state disk.old) → IfOk result (λ redone. redone ≡ (is_raised (D.state disk.old).bytes && is_marked (D.state disk.old).bytes slot)) }
+    ensures value { IsObservable (D.state disk.old) → IfOk result (λ redone. redone ≡ (is_flag_set (D.state disk.old).bytes && is_marked (D.state disk.old).bytes slot)) }
 {
     if !is_flag_set(disk)? {
         return Ok(false);

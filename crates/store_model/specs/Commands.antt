@@ -1,11 +1,12 @@
 -- The commands of a script, and the replies with their text.
-use Rattle.std.specs.Prelude.{ℕ, List, [], ◌∷◌, ◌++◌, map, Option, Some, None, codes}
+use Rattle.std.specs.Prelude.{ℕ, ◌<◌, ◌^◌, IsTrue, List, [], ◌∷◌, ◌++◌, Option, Some, None, codes}
 use Rattle.std.specs.Fmt.{decimal}
 use Rattle.std.specs.List.{flat_map}
 use Rattle.hex.specs.Hex.{encode_lower}
 use Rattle.store_model.specs.declared.refusal.Refusal.{Refusal}
 use Rattle.store_model.specs.declared.refusal.Refusal.TheVariants as refusals
-use Rattle.store_model.specs.Paths.{Path, Name}
+use Rattle.store_model.specs.Lists.{IsBytes}
+use Rattle.store_model.specs.Paths.{Path, Name, is_path}
 
 pub data Command : Type 0 where
   Make : Path → Command
@@ -14,21 +15,34 @@ pub data Command : Type 0 where
   Rename : Path → Path → Command
   Remove : Path → Command
   Prune : Path → Command
-  List_children : Path → Command
+  ListChildren : Path → Command
   Read : Path → ℕ → ℕ → Command
   Space : Command
   Digest : Command
+
+-- what a script can ask for: paths that keys can hold, bytes, numbers of 32 bits
+abbrev pub IsCommand : Command → Type 0
+IsCommand (Make p) = IsTrue (is_path p)
+IsCommand (Write p at bytes) = IsTrue (is_path p) × (at < 2 ^ 32) × IsBytes bytes
+IsCommand (Cut p len) = IsTrue (is_path p) × (len < 2 ^ 32)
+IsCommand (Rename p q) = IsTrue (is_path p) × IsTrue (is_path q)
+IsCommand (Remove p) = IsTrue (is_path p)
+IsCommand (Prune p) = IsTrue (is_path p)
+IsCommand (ListChildren p) = IsTrue (is_path p)
+IsCommand (Read p at len) = IsTrue (is_path p) × (at < 2 ^ 32) × (len < 2 ^ 32)
+IsCommand Space = Unit {0}
+IsCommand Digest = Unit {0}
 
 -- a child's name, and for a file its size
 abbrev pub Child : Type 0
 Child = Name × Option ℕ
 
 pub data Reply : Type 0 where
-  Done : Reply
+  Acknowledged : Reply
   Content : List ℕ → Reply
   Listing : List Child → Reply
-  Usage : ℕ → ℕ → Reply
-  Image_digest : List ℕ → Reply
+  PagesUsed : ℕ → ℕ → Reply
+  ImageDigest : List ℕ → Reply
   Refused : Refusal → Reply
 
 -- the word that a refusal prints
@@ -66,9 +80,9 @@ child_line child = child_text child.0 child.1
 
 -- the bytes of a reply, each of its lines ended by LF
 unfoldable pub reply_text : Reply → List ℕ
-reply_text Done = line (codes "ok")
+reply_text Acknowledged = line (codes "ok")
 reply_text (Content bytes) = line (codes "ok " ++ content_text bytes)
 reply_text (Listing children) = flat_map child_line children ++ line (codes "end")
-reply_text (Usage used slots) = line (codes "space " ++ decimal used ++ codes " " ++ decimal slots)
-reply_text (Image_digest digest) = line (codes "digest " ++ encode_lower digest)
+reply_text (PagesUsed used slots) = line (codes "space " ++ decimal used ++ codes " " ++ decimal slots)
+reply_text (ImageDigest digest) = line (codes "digest " ++ encode_lower digest)
 reply_text (Refused refusal) = line (codes "no " ++ refusal_text refusal)

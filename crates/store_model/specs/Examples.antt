@@ -1,12 +1,12 @@
 -- Words for the worked examples: all have the draw `ruler` and a seed of zeros.
-use Rattle.std.specs.Prelude.{ℕ, List, [], ◌∷◌, ◌++◌, map, Option, Some, None, codes}
+use Rattle.std.specs.Prelude.{ℕ, List, [], ◌∷◌, Some, None, codes}
 use Prim.Native.String.{String}
 use Rattle.std.specs.List.{flat_map}
 use Rattle.store_model.specs.declared.draw_kind.DrawKind.TheVariants.{Ruler}
 use Rattle.store_model.specs.Lists.{zeros, zero_filled}
 use Rattle.store_model.specs.Parameters.{Parameters}
 use Rattle.store_model.specs.Trees.{Tree, empty_tree}
-use Rattle.store_model.specs.Labels.{Lead, Label}
+use Rattle.store_model.specs.Labels.{Label}
 use Rattle.store_model.specs.Labels.Lead.{Start, Leader}
 use Rattle.store_model.specs.Draws.{draw_of}
 use Rattle.store_model.specs.Pages.{Cell, Page, pages}

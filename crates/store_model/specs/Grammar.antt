@@ -1,7 +1,7 @@
 -- What a line of a script says. Fields are parted by exactly one space.
-use Rattle.std.specs.Prelude.{ℕ, ◌+◌, ◌-◌, ◌*◌, ◌%◌, List, [], ◌∷◌, ◌++◌, length, Bool, true, false, not, ◌&&◌, ◌||◌, Option, Some, None, Result, Ok, Err, nat_le, ◌==◌, if◌then◌else◌, codes}
+use Rattle.std.specs.Prelude.{ℕ, ◌+◌, ◌-◌, ◌*◌, List, [], ◌∷◌, Bool, true, false, not, ◌&&◌, Option, Some, None, Result, Ok, Err, nat_le, ◌==◌, if◌then◌else◌, codes}
 use Rattle.std.specs.List.{list_all, slice_split, fold}
-use Rattle.std.specs.Option.{option_map, option_and_then}
+use Rattle.std.specs.Option.{option_map}
 use Rattle.hex.specs.Hex.{decode_of}
 use Rattle.hex.specs.declared.error.FromHexError.{FromHexError}
 use Rattle.store_model.specs.declared.refusal.Refusal.{Refusal}
@@ -9,7 +9,7 @@ use Rattle.store_model.specs.declared.refusal.Refusal.TheVariants as refusals
 use Rattle.store_model.specs.Lists.{same_bytes}
 use Rattle.store_model.specs.Paths.{Path, root, is_name, fits_field}
 use Rattle.store_model.specs.Commands.{Command}
-use Rattle.store_model.specs.Commands.Command.{Make, Write, Cut, Rename, Remove, Prune, List_children, Read, Space, Digest}
+use Rattle.store_model.specs.Commands.Command.{Make, Write, Cut, Rename, Remove, Prune, ListChildren, Read, Space, Digest}
 
 -- the greatest number
 abbrev pub number_limit : ℕ
@@ -70,7 +70,7 @@ command_of_fields (w ∷ a ∷ []) =
     on_word w (codes "make") (option_map Make (path_of a))
     (on_word w (codes "remove") (option_map Remove (path_of a))
     (on_word w (codes "prune") (option_map Prune (path_of a))
-    (on_word w (codes "list") (option_map List_children (path_of a)) None)))
+    (on_word w (codes "list") (option_map ListChildren (path_of a)) None)))
 command_of_fields (w ∷ a ∷ b ∷ []) =
     on_word w (codes "cut") (path_of a >>= λ p. number_of b >>= λ n. Some (Cut p n))
     (on_word w (codes "rename") (path_of a >>= λ p. path_of b >>= λ q. Some (Rename p q)) None)
@@ -91,7 +91,7 @@ has_short_paths (Cut p len) = fits_field p
 has_short_paths (Rename p q) = fits_field p && fits_field q
 has_short_paths (Remove p) = fits_field p
 has_short_paths (Prune p) = fits_field p
-has_short_paths (List_children p) = fits_field p
+has_short_paths (ListChildren p) = fits_field p
 has_short_paths (Read p at len) = fits_field p
 has_short_paths Space = true
 has_short_paths Digest = true

@@ -1,12 +1,12 @@
 -- The bytes of an image: header, slots, layout, and what recovery makes of an image.
-use Rattle.std.specs.Prelude.{◌≡◌, ◌≢◌, ℕ, ◌+◌, ◌*◌, List, [], ◌∷◌, ◌++◌, map, length, take, drop, Bool, true, false, not, ◌&&◌, Option, Some, None, slice_index, nat_eq, ◌==◌, if◌then◌else◌, codes}
+use Rattle.std.specs.Prelude.{◌≡◌, ℕ, ◌+◌, ◌*◌, List, [], ◌∷◌, ◌++◌, length, take, drop, Bool, not, ◌&&◌, Option, Some, None, slice_index, ◌==◌, if◌then◌else◌, codes}
 use Rattle.std.specs.Int.{w16, w32, to_be_bytes}
 use Rattle.std.specs.List.{flat_map}
 use Rattle.store_model.specs.declared.draw_kind.DrawKind.{DrawKind}
 use Rattle.store_model.specs.declared.draw_kind.DrawKind.TheVariants.{Ruler, Sha256}
 use Rattle.store_model.specs.Lists.{zeros, zero_filled, numbers_below}
-use Rattle.store_model.specs.Parameters.{Parameters, IsParameters, mark_blocks, mark_at, shadow_at, table_at, image_len}
-use Rattle.store_model.specs.Trees.{Tree}
+use Rattle.store_model.specs.Parameters.{Parameters, IsParameters, block_len, gate_at, mark_blocks, mark_at, shadow_at, table_at, image_len}
+use Rattle.store_model.specs.Trees.{Tree, IsTree}
 use Rattle.store_model.specs.Labels.{label_bytes}
 use Rattle.store_model.specs.Draws.{draw_of}
 use Rattle.store_model.specs.Pages.{Cell, Page, Fits, pages}
@@ -18,7 +18,7 @@ kind_byte Sha256 = 1
 
 -- the header block: the text HSTORE01, slots, height, draw kind, format version 1, a zero, the seed, zeros
 unfoldable pub header : Parameters → List ℕ
-header p = zero_filled 4096 (codes "HSTORE01" ++ to_be_bytes w32 p.slots ++ p.height ∷ kind_byte p.kind ∷ 1 ∷ 0 ∷ p.seed)
+header p = zero_filled block_len (codes "HSTORE01" ++ to_be_bytes w32 p.slots ++ p.height ∷ kind_byte p.kind ∷ 1 ∷ 0 ∷ p.seed)
 
 abbrev pub value_bytes : Option (List ℕ) → List ℕ
 value_bytes None = []
@@ -30,11 +30,11 @@ cell_bytes cell = cell.key ++ value_bytes cell.value
 
 -- a slot that holds a page: 01, the label, the number of cells, the cells, zeros
 unfoldable pub page_bytes : Page → List ℕ
-page_bytes page = zero_filled 4096 (1 ∷ label_bytes page.label ++ length page.cells ∷ flat_map cell_bytes page.cells)
+page_bytes page = zero_filled block_len (1 ∷ label_bytes page.label ++ length page.cells ∷ flat_map cell_bytes page.cells)
 
 -- an empty slot is all zeros
 unfoldable pub slot_bytes : Option Page → List ℕ
-slot_bytes None = zeros 4096
+slot_bytes None = zeros block_len
 slot_bytes (Some page) = page_bytes page
 
 -- the table as bytes
@@ -43,7 +43,7 @@ table_bytes table = flat_map slot_bytes table
 
 -- the bytes of the areas between header and table: gate block, marks area and shadow
 unfoldable pub journal_len : ℕ → ℕ
-journal_len slots = 4096 * (1 + mark_blocks slots + slots)
+journal_len slots = block_len * (1 + mark_blocks slots + slots)
 
 -- the one image of a tree under its parameters
 unfoldable pub layout : Tree → Parameters → List ℕ
@@ -52,32 +52,41 @@ layout t p = header p ++ zeros (journal_len p.slots) ++ table_bytes (place (draw
 -- the image's header names these parameters
 pub record NamesParameters (image : List ℕ) (p : Parameters) : Type 0 where
   pub in_range : IsParameters p
-  pub header_is : take 4096 image ≡ header p
+  pub header_is : take block_len image ≡ header p
 
 -- n bytes of the image, from a place on
 abbrev pub bytes_at : List ℕ → ℕ → ℕ → List ℕ
 bytes_at image at n = take n (drop at image)
 
--- whether the gate is raised: byte 0 of the gate block is not 0
-unfoldable pub is_raised : List ℕ → Bool
-is_raised image = not (slice_index image 4096 == 0)
+-- whether the commit flag is set: byte 0 of the gate block is not 0
+unfoldable pub is_flag_set : List ℕ → Bool
+is_flag_set image = not (slice_index image gate_at == 0)
 
 -- whether slot i is marked
 unfoldable pub is_marked : List ℕ → ℕ → Bool
 is_marked image i = not (slice_index image (mark_at i) == 0)
 
--- what recovery leaves in slot i: its shadow where the gate is raised and the slot marked, and else the slot
+-- what recovery leaves in slot i: its shadow where the commit flag is set and the slot marked, and else the slot
 unfoldable pub recovered_slot : ℕ → List ℕ → ℕ → List ℕ
-recovered_slot slots image i = bytes_at image (if is_raised image && is_marked image i then shadow_at slots i else table_at slots i) 4096
+recovered_slot slots image i = bytes_at image (if is_flag_set image && is_marked image i then shadow_at slots i else table_at slots i) block_len
 
 -- what recovery leaves of an image: its header, zeros, and the slots
 unfoldable pub recovered : ℕ → List ℕ → List ℕ
-recovered slots image = take 4096 image ++ zeros (journal_len slots) ++ flat_map (recovered_slot slots image) (numbers_below slots)
+recovered slots image = take block_len image ++ zeros (journal_len slots) ++ flat_map (recovered_slot slots image) (numbers_below slots)
 
--- the image represents the tree: its header names the parameters, it has their length, the tree fits,
--- and recovery leaves the tree's layout
+-- what scrubbing leaves in slot i: zeros where byte 0 of what recovery leaves is 0, and else that
+unfoldable pub scrubbed_slot : ℕ → List ℕ → ℕ → List ℕ
+scrubbed_slot slots image i = if slice_index (recovered_slot slots image i) 0 == 0 then zeros block_len else recovered_slot slots image i
+
+-- what scrubbing leaves of an image: the recovered image, with the slots whose byte 0 is 0 made zero
+unfoldable pub scrubbed : ℕ → List ℕ → List ℕ
+scrubbed slots image = take block_len image ++ zeros (journal_len slots) ++ flat_map (scrubbed_slot slots image) (numbers_below slots)
+
+-- the image represents the tree, which is one: its header names the parameters, it has their length, the tree
+-- fits, and recovery leaves the tree's layout
 pub record Represents (image : List ℕ) (t : Tree) (p : Parameters) : Type 0 where
   pub names : NamesParameters image p
   pub length_is : length image ≡ image_len p.slots
+  pub tree : IsTree t
   pub fits : Fits t p
   pub layout_is : recovered p.slots image ≡ layout t p

@@ -1,11 +1,11 @@
 -- How a list of pairs becomes pages: levels, groups, runs. This cut is the store's own.
-use Rattle.std.specs.Prelude.{◌≡◌, ◌≢◌, ℕ, ◌+◌, ◌≤◌, ◌<◌, List, [], ◌∷◌, ◌++◌, map, length, Bool, true, false, IsTrue, Option, Some, None, nat_le, nat_lt, ◌==◌, if◌then◌else◌}
+use Rattle.std.specs.Prelude.{◌≡◌, ℕ, ◌≤◌, ◌<◌, List, [], ◌∷◌, map, length, Bool, Option, Some, None, nat_le, nat_lt, ◌==◌, if◌then◌else◌, false}
 use Rattle.std.specs.List.{filter, flat_map, enumerate_from, AllByRecursion}
 use Rattle.std.specs.List.Sorted.{IsStrictlySortedBy}
 use Rattle.store_model.specs.Lists.{IsBytes, runs, cut_before, numbers_below}
 use Rattle.store_model.specs.Parameters.{Parameters}
 use Rattle.store_model.specs.Paths.{key_cmp}
-use Rattle.store_model.specs.Pairs.{Pair, pairs}
+use Rattle.store_model.specs.Pairs.{Pair, IsValue, pairs}
 use Rattle.store_model.specs.Trees.{Tree}
 use Rattle.store_model.specs.Labels.{Lead, Label, IsLabel}
 use Rattle.store_model.specs.Labels.Lead.{Start, Leader}
@@ -46,6 +46,16 @@ unfoldable pub lead_of : Draw → ℕ → List Cell → Lead
 lead_of d level [] = Start
 lead_of d level (cell ∷ cells) = if leads_group d level cell then Leader cell.key else Start
 
+-- a group is not empty and is cut nowhere within
+abbrev pub IsGroup : Draw → ℕ → List Cell → Type 0
+IsGroup d level [] = ⊥
+IsGroup d level (cell ∷ cells) = AllByRecursion (λ other. leads_group d level other ≡ false) cells
+
+-- a group that is led by its first key
+abbrev pub IsLedGroup : Draw → ℕ → List Cell → Type 0
+IsLedGroup d level [] = ⊥
+IsLedGroup d level (cell ∷ cells) = lead_of d level (cell ∷ cells) ≡ Leader cell.key
+
 -- the pages of one group: its runs, numbered from 0
 unfoldable pub group_pages : ℕ → Lead → List Cell → List Page
 group_pages level lead cells = map (λ run. record { label = record { level = level; lead = lead; index = run.0 }; cells = run.1 }) (enumerate_from 0 (runs (page_room level) cells))
@@ -70,10 +80,7 @@ page_count t p = length (pages t p)
 abbrev pub Fits : Tree → Parameters → Type 0
 Fits t p = page_count t p ≤ p.slots
 
--- what a value and a cell of a level may be
-abbrev pub IsValue : List ℕ → Type 0
-IsValue v = (1 ≤ length v) × (length v ≤ 256) × IsBytes v
-
+-- what the value of a cell may be on a level
 abbrev pub IsCellValue : ℕ → Option (List ℕ) → Type 0
 IsCellValue level (Some v) = (level ≡ 0) × IsValue v
 IsCellValue level None = 0 < level

@@ -1,10 +1,11 @@
 -- The list of pairs that spells a tree: the list layer's view of it.
-use Rattle.std.specs.Prelude.{ℕ, suc, List, [], ◌∷◌, ◌++◌, map, length}
+use Rattle.std.specs.Prelude.{◌≡◌, ℕ, ◌≤◌, IsTrue, List, [], ◌∷◌, map, length}
 use Rattle.std.specs.Int.{w32, to_be_bytes}
-use Rattle.std.specs.List.{flat_map, enumerate_from}
-use Rattle.store_model.specs.Lists.{runs}
+use Rattle.std.specs.List.{flat_map, enumerate_from, AllByRecursion}
+use Rattle.std.specs.FinMap.{is_sorted}
+use Rattle.store_model.specs.Lists.{IsBytes, runs}
 use Rattle.store_model.specs.Parameters.{Parameters}
-use Rattle.store_model.specs.Paths.{Path, key}
+use Rattle.store_model.specs.Paths.{Path, key, key_cmp}
 use Rattle.store_model.specs.Trees.{Tree, Node}
 use Rattle.store_model.specs.Trees.Node.{Directory, File}
 
@@ -31,3 +32,18 @@ node_pairs path (File bytes) p = (key path 0, file_value (length bytes)) ∷ map
 -- the pairs of a tree, path after path. They rise by key, since paths and keys have one order
 unfoldable pub pairs : Tree → Parameters → List Pair
 pairs t p = flat_map (λ e. node_pairs e.0 e.1 p) t
+
+-- what a value may be: 1 to 256 bytes
+abbrev pub IsValue : List ℕ → Type 0
+IsValue v = (1 ≤ length v) × (length v ≤ 256) × IsBytes v
+
+-- a pair has a key of 124 bytes and a value
+pub record IsPair (pair : Pair) : Type 0 where
+  pub key_length : length pair.0 ≡ 124
+  pub key_bytes : IsBytes pair.0
+  pub value : IsValue pair.1
+
+-- a finite map from keys to values: the keys strictly rise
+pub record IsPairs (s : List Pair) : Type 0 where
+  pub sorted : IsTrue (is_sorted key_cmp s)
+  pub pairs : AllByRecursion IsPair s

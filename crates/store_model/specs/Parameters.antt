@@ -1,5 +1,5 @@
 -- What an image is made with, and where its areas lie.
-use Rattle.std.specs.Prelude.{◌≡◌, ℕ, ◌+◌, ◌*◌, ◌/◌, ◌≤◌, List, length}
+use Rattle.std.specs.Prelude.{◌≡◌, ℕ, ◌+◌, ◌-◌, ◌*◌, ◌/◌, ◌≤◌, List, length}
 use Rattle.store_model.specs.declared.draw_kind.DrawKind.{DrawKind}
 use Rattle.store_model.specs.Lists.{IsBytes}
 
@@ -25,28 +25,28 @@ block_len = 4096
 
 -- the blocks of the marks area: a byte for each slot and one that is reserved
 unfoldable pub mark_blocks : ℕ → ℕ
-mark_blocks slots = (slots + 1 + 4095) / 4096
+mark_blocks slots = (slots + 1 + (block_len - 1)) / block_len
 
 -- the first byte of the gate block
 abbrev pub gate_at : ℕ
-gate_at = 4096
+gate_at = block_len
 
 -- the first byte of the marks area
 abbrev pub marks_at : ℕ
-marks_at = 8192
+marks_at = 2 * block_len
 
 -- the mark of slot i
 abbrev pub mark_at : ℕ → ℕ
-mark_at i = 8192 + i
+mark_at i = marks_at + i
 
 -- the shadow block of slot i
 unfoldable pub shadow_at : ℕ → ℕ → ℕ
-shadow_at slots i = 4096 * (2 + mark_blocks slots + i)
+shadow_at slots i = block_len * (2 + mark_blocks slots + i)
 
 -- slot i of the table
 unfoldable pub table_at : ℕ → ℕ → ℕ
-table_at slots i = 4096 * (2 + mark_blocks slots + slots + i)
+table_at slots i = block_len * (2 + mark_blocks slots + slots + i)
 
 -- the length of an image
 unfoldable pub image_len : ℕ → ℕ
-image_len slots = 4096 * (2 + mark_blocks slots + 2 * slots)
+image_len slots = block_len * (2 + mark_blocks slots + 2 * slots)

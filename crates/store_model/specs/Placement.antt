@@ -1,13 +1,13 @@
 -- Where pages lie in the table: greedy placement by rank (Blelloch and Golovin), and the order condition
 -- of an ordered hash table (Amble and Knuth) that makes the table of a set of pages unique.
 use Rattle.std.specs.Prelude.{◌≡◌, ℕ, ◌+◌, ◌%◌, ◌<◌, List, [], ◌∷◌, map, length, replicate, Bool, true, false, Option, Some, None, slice_get, slice_set}
-use Rattle.std.specs.List.{find, filter_map}
+use Rattle.std.specs.List.{find, filter_map, AllByRecursion}
 use Rattle.std.specs.declared.cmp.Ordering.{Ordering}
 use Rattle.std.specs.declared.cmp.Ordering.TheVariants.{Less}
 use Rattle.store_model.specs.Lists.{numbers_below, in_order}
 use Rattle.store_model.specs.Labels.{Label, label_cmp}
 use Rattle.store_model.specs.Draws.{Draw}
-use Rattle.store_model.specs.Pages.{Page}
+use Rattle.store_model.specs.Pages.{Page, IsPage}
 
 -- each slot is empty or holds a page
 abbrev pub Table : Type 0
@@ -65,3 +65,9 @@ HoldsPage table slot page = slice_get table slot ≡ Some (Some page)
 abbrev pub IsInOrder : Draw → Table → Type 0
 IsInOrder d table = (page : Page) (i : ℕ) → i < d.slots → HoldsPage table (probe d.slots (d.start page.label) i) page
     → (k : ℕ) → k < i → (other : Page) × HoldsPage table (probe d.slots (d.start page.label) k) other × (label_cmp other.label page.label ≡ Less)
+
+-- an ordered table: as many slots as the draw's, each empty or with a page, in order
+pub record IsOrderedTable (d : Draw) (table : Table) : Type 0 where
+  pub slots : length table ≡ d.slots
+  pub pages : AllByRecursion IsPage (pages_in table)
+  pub in_order : IsInOrder d table

@@ -1,5 +1,5 @@
 -- Scripts: the lines of a byte string, and what they answer one after another.
-use Rattle.std.specs.Prelude.{ℕ, List, [], ◌∷◌, ◌++◌, length, Bool, Result, Ok, Err, nat_lt, ◌==◌, if◌then◌else◌}
+use Rattle.std.specs.Prelude.{ℕ, List, [], ◌∷◌, length, Result, Ok, Err, nat_lt, ◌==◌, if◌then◌else◌}
 use Rattle.std.specs.List.{filter, slice_split, flat_map}
 use Rattle.store_model.specs.declared.refusal.Refusal.{Refusal}
 use Rattle.store_model.specs.declared.refusal.Refusal.TheVariants as refusals
@@ -30,15 +30,22 @@ answer_by t (Ok c) p = step t c p
 unfoldable pub answer : Tree → List ℕ → Parameters → Step
 answer t text p = if nat_lt line_limit (length text) then (record { reply = Refused refusals.Long; tree = t }) else answer_by t (parse text) p
 
--- the replies to lines, one after another from a tree
-unfoldable pub replies : Tree → List (List ℕ) → Parameters → List Reply
-replies t [] p = []
-replies t (text ∷ texts) p = (answer t text p).reply ∷ replies (answer t text p).tree texts p
+-- the replies to questions, one after another from a tree, where each is answered by a step from the tree before it
+unfoldable pub replies_by : {Q : Type 0} → (Tree → Q → Step) → Tree → List Q → List Reply
+replies_by answered t [] = []
+replies_by answered t (question ∷ questions) = (answered t question).reply ∷ replies_by answered (answered t question).tree questions
 
--- the tree after lines
+-- the tree after them
+unfoldable pub tree_by : {Q : Type 0} → (Tree → Q → Step) → Tree → List Q → Tree
+tree_by answered t [] = t
+tree_by answered t (question ∷ questions) = tree_by answered (answered t question).tree questions
+
+-- the replies to the lines of a script, and the tree after them
+unfoldable pub replies : Tree → List (List ℕ) → Parameters → List Reply
+replies t texts p = replies_by (λ u text. answer u text p) t texts
+
 unfoldable pub tree_after : Tree → List (List ℕ) → Parameters → Tree
-tree_after t [] p = t
-tree_after t (text ∷ texts) p = tree_after (answer t text p).tree texts p
+tree_after t texts p = tree_by (λ u text. answer u text p) t texts
 
 -- the bytes of replies
 unfoldable pub replies_text : List Reply → List ℕ

@@ -1,9 +1,10 @@
 -- What a command answers on a tree, and the tree after it.
-use Rattle.std.specs.Prelude.{ℕ, ◌+◌, List, [], ◌∷◌, ◌++◌, map, length, take, drop, Bool, true, false, not, ◌&&◌, ◌||◌, Option, Some, None, is_some, nat_lt, nat_le, if◌then◌else◌}
+use Rattle.std.specs.Prelude.{ℕ, ◌+◌, List, [], ◌∷◌, map, length, take, drop, Bool, true, false, not, ◌&&◌, ◌||◌, Option, Some, None, nat_lt, if◌then◌else◌}
 use Rattle.std.specs.List.{list_any}
 use Rattle.sha2.specs.Sha256.{sha256}
 use Rattle.store_model.specs.declared.refusal.Refusal.{Refusal}
 use Rattle.store_model.specs.declared.refusal.Refusal.TheVariants as refusals
+use Rattle.store_model.specs.Lists.{overwrite}
 use Rattle.store_model.specs.Parameters.{Parameters}
 use Rattle.store_model.specs.Paths.{Path, is_root, parent, last_name, is_inside, is_at_or_inside, replanted, fits_field}
 use Rattle.store_model.specs.Trees.{Tree, Node, file_limit, exists, is_directory, is_file, contents, children, with_node, without, without_subtree, moved}
@@ -11,33 +12,33 @@ use Rattle.store_model.specs.Trees.Node.{Directory, File}
 use Rattle.store_model.specs.Pages.{page_count}
 use Rattle.store_model.specs.Images.{layout}
 use Rattle.store_model.specs.Commands.{Command, Reply, Child}
-use Rattle.store_model.specs.Commands.Command.{Make, Write, Cut, Rename, Remove, Prune, List_children, Read, Space, Digest}
-use Rattle.store_model.specs.Commands.Reply.{Done, Content, Listing, Usage, Image_digest, Refused}
+use Rattle.store_model.specs.Commands.Command.{Make, Write, Cut, Rename, Remove, Prune, ListChildren, Read, Space, Digest}
+use Rattle.store_model.specs.Commands.Reply.{Acknowledged, Content, Listing, PagesUsed, ImageDigest, Refused}
 
 -- the longest answer of one read
 abbrev pub read_limit : ℕ
 read_limit = 4096
 
--- a refusal, and whether it holds
-abbrev pub Test : Type 0
-Test = Bool × Refusal
+-- whether a refusal holds, and which
+abbrev pub Condition : Type 0
+Condition = Bool × Refusal
 
 -- the first refusal that holds
-unfoldable pub first_refusal : List Test → Option Refusal
+unfoldable pub first_refusal : List Condition → Option Refusal
 first_refusal [] = None
-first_refusal (test ∷ tests) = if test.0 then Some test.1 else first_refusal tests
+first_refusal (condition ∷ conditions) = if condition.0 then Some condition.1 else first_refusal conditions
 
--- the tests, each by name
-abbrev pub root_refused : Path → Test
+-- the conditions, each by name
+abbrev pub root_refused : Path → Condition
 root_refused p = (is_root p, refusals.Root)
 
-abbrev pub parent_refused : Tree → Path → Test
+abbrev pub parent_refused : Tree → Path → Condition
 parent_refused t p = (not (is_directory t (parent p)), refusals.Parent)
 
-abbrev pub exists_refused : Tree → Path → Test
+abbrev pub exists_refused : Tree → Path → Condition
 exists_refused t p = (exists t p, refusals.Exists)
 
-abbrev pub missing_refused : Tree → Path → Test
+abbrev pub missing_refused : Tree → Path → Condition
 missing_refused t p = (not (exists t p), refusals.Missing)
 
 -- whether a path at p or below it would have a longer field than keys have, were p to become q
@@ -49,35 +50,31 @@ abbrev pub has_child : Tree → Path → Bool
 has_child t p = nat_lt 0 (length (children t p))
 
 -- the refusals of a command in their order, all but `full`
-unfoldable pub tests : Tree → Command → List Test
-tests t (Make p) = root_refused p ∷ parent_refused t p ∷ exists_refused t p ∷ []
-tests t (Write p at bytes) = parent_refused t p ∷ (is_directory t p, refusals.Kind) ∷ (nat_lt (length (contents t p)) at, refusals.Gap) ∷ (nat_lt file_limit (at + length bytes), refusals.Big) ∷ []
-tests t (Cut p len) = missing_refused t p ∷ (is_directory t p, refusals.Kind) ∷ (nat_lt (length (contents t p)) len, refusals.Gap) ∷ []
-tests t (Rename p q) = (is_root p || is_root q, refusals.Root) ∷ missing_refused t p ∷ (is_inside q p, refusals.Inside) ∷ parent_refused t q ∷ exists_refused t q ∷ (outgrows t p q, refusals.Path) ∷ []
-tests t (Remove p) = root_refused p ∷ missing_refused t p ∷ (is_directory t p && has_child t p, refusals.NotEmpty) ∷ []
-tests t (Prune p) = root_refused p ∷ missing_refused t p ∷ []
-tests t (List_children p) = missing_refused t p ∷ (is_file t p, refusals.Kind) ∷ []
-tests t (Read p at len) = missing_refused t p ∷ (is_directory t p, refusals.Kind) ∷ (nat_lt (length (contents t p)) at, refusals.Gap) ∷ (nat_lt read_limit len, refusals.Big) ∷ []
-tests t Space = []
-tests t Digest = []
+unfoldable pub conditions : Tree → Command → List Condition
+conditions t (Make p) = root_refused p ∷ parent_refused t p ∷ exists_refused t p ∷ []
+conditions t (Write p at bytes) = parent_refused t p ∷ (is_directory t p, refusals.Kind) ∷ (nat_lt (length (contents t p)) at, refusals.Gap) ∷ (nat_lt file_limit (at + length bytes), refusals.Big) ∷ []
+conditions t (Cut p len) = missing_refused t p ∷ (is_directory t p, refusals.Kind) ∷ (nat_lt (length (contents t p)) len, refusals.Gap) ∷ []
+conditions t (Rename p q) = (is_root p || is_root q, refusals.Root) ∷ missing_refused t p ∷ (is_inside q p, refusals.Inside) ∷ parent_refused t q ∷ exists_refused t q ∷ (outgrows t p q, refusals.Path) ∷ []
+conditions t (Remove p) = root_refused p ∷ missing_refused t p ∷ (is_directory t p && has_child t p, refusals.NotEmpty) ∷ []
+conditions t (Prune p) = root_refused p ∷ missing_refused t p ∷ []
+conditions t (ListChildren p) = missing_refused t p ∷ (is_file t p, refusals.Kind) ∷ []
+conditions t (Read p at len) = missing_refused t p ∷ (is_directory t p, refusals.Kind) ∷ (nat_lt (length (contents t p)) at, refusals.Gap) ∷ (nat_lt read_limit len, refusals.Big) ∷ []
+conditions t Space = []
+conditions t Digest = []
 
 -- the refusal of a command, `full` apart
 abbrev pub refusal_of : Tree → Command → Option Refusal
-refusal_of t c = first_refusal (tests t c)
-
--- a file's bytes with other bytes put at a place, over what is there and past the end
-unfoldable pub overwritten : List ℕ → ℕ → List ℕ → List ℕ
-overwritten old at bytes = take at old ++ bytes ++ drop (at + length bytes) old
+refusal_of t c = first_refusal (conditions t c)
 
 -- the tree after a command that is not refused
 unfoldable pub next_tree : Tree → Command → Tree
 next_tree t (Make p) = with_node t p Directory
-next_tree t (Write p at bytes) = with_node t p (File (overwritten (contents t p) at bytes))
+next_tree t (Write p at bytes) = with_node t p (File (overwrite (contents t p) at bytes))
 next_tree t (Cut p len) = with_node t p (File (take len (contents t p)))
 next_tree t (Rename p q) = moved t p q
 next_tree t (Remove p) = without t p
 next_tree t (Prune p) = without_subtree t p
-next_tree t (List_children p) = t
+next_tree t (ListChildren p) = t
 next_tree t (Read p at len) = t
 next_tree t Space = t
 next_tree t Digest = t
@@ -92,16 +89,16 @@ child_of e = (last_name e.0, size e.1)
 
 -- the reply to a command that is not refused
 unfoldable pub reply_of : Tree → Command → Parameters → Reply
-reply_of t (Make path) p = Done
-reply_of t (Write path at bytes) p = Done
-reply_of t (Cut path len) p = Done
-reply_of t (Rename from to) p = Done
-reply_of t (Remove path) p = Done
-reply_of t (Prune path) p = Done
-reply_of t (List_children path) p = Listing (map child_of (children t path))
+reply_of t (Make path) p = Acknowledged
+reply_of t (Write path at bytes) p = Acknowledged
+reply_of t (Cut path len) p = Acknowledged
+reply_of t (Rename from to) p = Acknowledged
+reply_of t (Remove path) p = Acknowledged
+reply_of t (Prune path) p = Acknowledged
+reply_of t (ListChildren path) p = Listing (map child_of (children t path))
 reply_of t (Read path at len) p = Content (take len (drop at (contents t path)))
-reply_of t Space p = Usage (page_count t p) p.slots
-reply_of t Digest p = Image_digest (sha256 (layout t p))
+reply_of t Space p = PagesUsed (page_count t p) p.slots
+reply_of t Digest p = ImageDigest (sha256 (layout t p))
 
 -- whether `full` is among the refusals of a command: it may need pages
 unfoldable pub may_fill : Command → Bool
@@ -111,7 +108,7 @@ may_fill (Cut p len) = false
 may_fill (Rename p q) = true
 may_fill (Remove p) = false
 may_fill (Prune p) = false
-may_fill (List_children p) = false
+may_fill (ListChildren p) = false
 may_fill (Read p at len) = false
 may_fill Space = false
 may_fill Digest = false

@@ -1,9 +1,9 @@
 -- What a store holds: a finite map from paths to directories and files.
-use Rattle.std.specs.Prelude.{◌≡◌, ◌≢◌, ℕ, ◌+◌, ◌≤◌, List, [], ◌∷◌, ◌++◌, map, length, take, drop, Bool, true, false, not, IsTrue, Option, Some, None, is_some, if◌then◌else◌}
+use Rattle.std.specs.Prelude.{◌≡◌, ℕ, ◌≤◌, List, [], ◌∷◌, map, length, Bool, true, false, not, IsTrue, Option, Some, None, is_some, if◌then◌else◌}
 use Rattle.std.specs.FinMap.{find, put, is_sorted}
 use Rattle.std.specs.List.{filter, AllByRecursion}
 use Rattle.store_model.specs.Lists.{IsBytes}
-use Rattle.store_model.specs.Paths.{Path, Name, root, is_root, is_path, path_cmp, same_path, parent, last_name, is_at_or_inside, replanted}
+use Rattle.store_model.specs.Paths.{Path, is_root, is_path, path_cmp, same_path, parent, is_at_or_inside, replanted}
 
 pub data Node : Type 0 where
   Directory : Node

@@ -1,6 +1,5 @@
 -- The command line behind the image's path.
-use Rattle.std.specs.Prelude.{ℕ, List, [], ◌∷◌, length, Bool, ◌&&◌, Option, Some, None, Result, Ok, Err, nat_le, nat_eq, ◌==◌, if◌then◌else◌, codes}
-use Rattle.std.specs.Option.{option_map}
+use Rattle.std.specs.Prelude.{ℕ, List, [], ◌∷◌, length, ◌&&◌, Option, Some, None, nat_le, ◌==◌, if◌then◌else◌, codes}
 use Rattle.hex.specs.Hex.{decode_of}
 use Rattle.store_model.specs.declared.draw_kind.DrawKind.{DrawKind}
 use Rattle.store_model.specs.declared.draw_kind.DrawKind.TheVariants.{Ruler, Sha256}

@@ -2,6 +2,7 @@
 //! computing. The values were worked out by hand from the format, and not by this program.
 
 pub mod draws;
+pub mod edges;
 pub mod formats;
 pub mod grammar;
 pub mod scripts;

@@ -6,3 +6,4 @@ pub mod pages;
 pub mod pairs;
 pub mod placement;
 pub mod scripts;
+pub mod trees;

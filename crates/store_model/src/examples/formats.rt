@@ -2,10 +2,10 @@
 #![tactic(auto, unfolding(crate::specs::Compute::everything))]
 
 ghost use Rattle.std.specs.Prelude.{◌≡◌, ℕ, ◌+◌, ◌-◌, List, [], ◌∷◌, ◌++◌, codes, take, drop, length, Some, None};
-ghost use Rattle.store_model.specs.Lists.{zeros};
+ghost use Rattle.store_model.specs.Lists.{zeros, zero_filled};
 ghost use Rattle.store_model.specs.Parameters.{image_len};
 ghost use Rattle.store_model.specs.Labels.{label_bytes};
-ghost use Rattle.store_model.specs.Images.{header, slot_bytes};
+ghost use Rattle.store_model.specs.Images.{header, slot_bytes, recovered_slot, scrubbed_slot};
 ghost use Rattle.store_model.specs.Examples.{ruler, start_label, led_label, page, directory_cell, key_cell, key_of};
 
 /// The lengths of images.
@@ -39,4 +39,23 @@ pub fn slots_of_two_directories()
     ensures empty { slot_bytes None ≡ zeros 4096 }
     ensures uu { slot_bytes (Some (page (led_label 0 (codes "UU")) (directory_cell (codes "UU") ∷ []))) ≡
         1 ∷ 0 ∷ 1 ∷ 0x55 ∷ 0x55 ∷ zeros 126 ++ 1 ∷ 0x55 ∷ 0x55 ∷ zeros 122 ++ 0 ∷ 1 ∷ 1 ∷ zeros (4096 - 259) }
+{}
+
+/// The slot of the file `/U` of one byte in a table of eight slots: its first pair, and behind it its block.
+pub fn slot_of_a_file()
+    ensures { slot_bytes (Some (page (led_label 0 (codes "U"))
+        (record { key = key_of (codes "U"); value = Some (2 ∷ 0 ∷ 0 ∷ 0 ∷ 1 ∷ []) }
+        ∷ record { key = zero_filled 120 (codes "U") ++ 0 ∷ 0 ∷ 0 ∷ 1 ∷ []; value = Some (0 ∷ []) } ∷ []))) ≡
+        1 ∷ 0 ∷ 1 ∷ 0x55 ∷ zeros 127 ++ 2 ∷ 0x55 ∷ zeros 123 ++ 0 ∷ 5 ∷ 2 ∷ 0 ∷ 0 ∷ 0 ∷ 1 ∷ zeros 251
+        ++ 0x55 ∷ zeros 119 ++ 0 ∷ 0 ∷ 0 ∷ 1 ∷ 0 ∷ 1 ∷ 0 ∷ zeros (255 + 3200) }
+{}
+
+/// What recovery and scrubbing leave in the one slot of an image: a slot that begins with 0 is no page, and
+/// scrubbing makes it zero; a marked slot takes its shadow where the commit flag is set, and only there.
+pub fn recovered_and_scrubbed_slots()
+    ensures kept { recovered_slot 1 (zeros 16384 ++ 0 ∷ 0x7f ∷ zeros 4094) 0 ≡ 0 ∷ 0x7f ∷ zeros 4094 }
+    ensures scrubbed { scrubbed_slot 1 (zeros 16384 ++ 0 ∷ 0x7f ∷ zeros 4094) 0 ≡ zeros 4096 }
+    ensures redone { recovered_slot 1 (zeros 4096 ++ 0x7f ∷ zeros 4095 ++ 1 ∷ zeros 4095 ++ 1 ∷ 2 ∷ zeros 8190) 0 ≡ 1 ∷ 2 ∷ zeros 4094 }
+    ensures not_redone { recovered_slot 1 (zeros 8192 ++ 1 ∷ zeros 4095 ++ 1 ∷ 2 ∷ zeros 8190) 0 ≡ zeros 4096 }
+    ensures not_marked { recovered_slot 1 (zeros 4096 ++ 0x7f ∷ zeros 8191 ++ 1 ∷ 2 ∷ zeros 8190) 0 ≡ zeros 4096 }
 {}

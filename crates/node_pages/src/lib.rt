@@ -1,0 +1,19 @@
+//! The pages of the store: cells, pages and lists of them, their bytes in a slot, and the pages of a group.
+//!
+//! A page holds the cells of one run of a group under its label. It is kept as the slot that it has in an
+//! image, so that it is written by one copy; cells are read from it where they are asked for.
+#![tactic(auto)]
+
+mod cell;
+mod group;
+mod page;
+mod sequence;
+mod spelling;
+
+pub use cell::Cell;
+pub use group::cut_group;
+pub use page::{Page, decode_page, encode_page, label_in};
+pub use sequence::{Cells, PageList, PairList, Sequence};
+
+#[cfg(test)]
+mod tests;

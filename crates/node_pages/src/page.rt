@@ -1,0 +1,257 @@
+//! Pages, and their slots.
+
+ghost use Rattle.std.specs.Prelude.{◌≡◌, ◌+◌, ◌-◌, ◌*◌, ◌<◌, ◌≤◌, ◌↔◌, [], ◌∷◌, ◌++◌, length, map, take, drop, None, Some, IfSome, IsTrue, nat_eq, slice_get, slice_index};
+ghost use Rattle.std.specs.List.Sorted.{IsStrictlySortedBy};
+ghost use Rattle.std.specs.Cmp.{partial_equiv_from_equiv, on_equiv, on_per};
+ghost use Rattle.std.specs.Cmp.Lexicographic.{pointwise, nat_list_eq_equiv};
+ghost use Rattle.store_model.specs.Lists.{zeros};
+ghost use Rattle.store_model.specs.Paths.{key_cmp};
+ghost use Rattle.store_model.specs.Pages as model;
+ghost use Rattle.store_model.specs.Pages.{IsCell, IsPage, page_room};
+ghost use Rattle.store_model.specs.Images.{cell_bytes, page_bytes, slot_bytes};
+ghost use Rattle.store_model.specs.Labels as labels;
+ghost use Rattle.store_model.specs.Labels.{IsLabel, label_bytes};
+ghost use Rattle.store_base.specs.Keys.{IsKey};
+ghost use Rattle.node_pages.specs.Cells as cells;
+
+use crate::cell::Cell;
+use crate::spelling;
+use std::marker::Model;
+use store_base::{Key, Label, Slot};
+
+/// The byte of a slot that counts the cells.
+const COUNT_AT: usize = 131;
+
+/// Where the cells of a slot begin.
+const CELLS_AT: usize = 132;
+
+/// A label and the cells of one run of its group: 1 to 10 at level 0, 1 to 31 above, with keys that strictly
+/// rise. Contracts see a page as that of the definitions; each is one, as `IsPage` says. A page is kept as
+/// its slot in an image, and no call of it takes memory.
+#[derive(Clone, Copy, Debug)]
+pub struct Page {
+    label: Label,
+    slot: Slot,
+}
+
+impl Model for Page {
+    ghost use Rattle.store_model.specs.Pages as model;
+
+    ghost Value = { model.Page };
+
+    ghost use Rattle.store_model.specs.Images.{page_bytes};
+    ghost use Rattle.node_pages.specs.Cells.{page_in, IsSlotOf};
+
+    ghost view = { λ p. page_in p.label p.slot };
+
+    ghost invariant = { λ p. IsSlotOf p.label p.slot };
+
+    ghost inverse = { λ p. record { label = p.label; slot = page_bytes p } };
+
+    ghost inverse_ok = { λ p valid i. record { label = p.label; slot = valid.bytes i } };
+}
+
+/// Whether these bytes, behind the count of a page of the level, are those of so many cells and zeros.
+fn are_whole(level: u8, count: u8, area: &[u8]) -> bool
+    requires { length area.now ≡ 3964 }
+    ensures { IsTrue result ↔ cells.SpellsCells level count area.now }
+{
+    if count == 0 || count > spelling::room(level) {
+        return false;
+    }
+    let (_, rest) = area.split_at(spelling::cell_len(level) * usize::from(count));
+    spelling::are_zero(rest) && spelling::are_cells(level, count, area)
+}
+
+/// The bytes of cell `i` of the page that a slot of the label holds.
+fn bytes_of_cell<'a>(label: &Label, slot: &'a Slot, i: u32) -> &'a [u8]
+    requires holds { cells.IsSlotOf label.now slot.now }
+    requires below { i < length (cells.page_in label.now slot.now).cells }
+    ensures long { length result.now ≡ cells.cell_size label.now.level }
+    ensures valid { cells.SpellsCell label.now.level result.now }
+    ensures value { slice_get (cells.page_in label.now slot.now).cells i ≡ Some (cells.cell_in label.now.level result.now) }
+{
+    let len = spelling::cell_len(label.level);
+    let (_, area) = slot.split_at(CELLS_AT);
+    let (_, cells) = area.split_at(len * i as usize);
+    let (cell, _) = cells.split_at(len);
+    cell
+}
+
+/// Cell `i` of that page.
+fn cell_of(label: &Label, slot: &Slot, i: u32) -> Cell
+    requires holds { cells.IsSlotOf label.now slot.now }
+    requires below { i < length (cells.page_in label.now slot.now).cells }
+    ensures { slice_get (cells.page_in label.now slot.now).cells i ≡ Some result }
+{
+    spelling::read_cell(label.level, bytes_of_cell(label, slot, i))
+}
+
+/// Begins the slot of a page of the label, with no cell yet.
+fn begin(label: &Label, slot: &mut Slot)
+    requires { slot.old ≡ zeros 4096 }
+    ensures value { slot.new ≡ page_bytes (record { label = label.now; cells = [] }) }
+    ensures valid { IsLabel label.now }
+{
+    slot[0] = 1;
+    slot[1..COUNT_AT].copy_from_slice(&label.to_bytes());
+}
+
+/// Adds a cell to the slot of a page of the label.
+fn append(label: &Label, slot: &mut Slot, cell: &Cell)
+    requires cell { IsCell label.now.level cell.now }
+    requires room { slice_index slot.old COUNT_AT < page_room label.now.level }
+    requires blank { drop (cells.cell_size label.now.level * slice_index slot.old COUNT_AT) (drop CELLS_AT slot.old)
+        ≡ zeros (3964 - cells.cell_size label.now.level * slice_index slot.old COUNT_AT) }
+    ensures { slot.new ≡ cells.appended label.now.level slot.old (cell_bytes cell.now) }
+{
+    let at = CELLS_AT + spelling::cell_len(label.level) * usize::from(slot[COUNT_AT]);
+    slot[COUNT_AT] += 1;
+    spelling::write_cell(&mut slot[at..], cell);
+}
+
+/// The label of the page that a slot holds, by its first 131 bytes alone: the cells are not looked at.
+/// `None` exactly where byte 0 is not 1 or no label stands behind it, as in a free slot.
+pub fn label_in(slot: &Slot) -> Option<Label>
+    ensures found { IfSome result (λ label. IsLabel label × (take COUNT_AT slot.now ≡ 1 ∷ label_bytes label)) }
+    ensures only { (label : labels.Label) → IsLabel label → take COUNT_AT slot.now ≡ 1 ∷ label_bytes label → result ≡ Some label }
+
+    // What a slot of the table holds is free or a page.
+    ensures free { slot.now ≡ slot_bytes None → result ≡ None }
+    ensures page { (page : model.Page) → IsPage page → slot.now ≡ slot_bytes (Some page) → result ≡ Some page.label }
+{
+    if slot[0] != 1 {
+        return None;
+    }
+    let mut label = [0; 130];
+    label.copy_from_slice(&slot[1..COUNT_AT]);
+    Label::from_bytes(&label)
+}
+
+/// The page that a slot holds; `None` exactly where its bytes are no page's: byte 0 is not 1, the label's
+/// bytes are no label's, there is no cell or more than the level has room for, the length of a value is not
+/// 1 to 256 or other bytes than zeros fill it up, the keys do not strictly rise, or other bytes than zeros
+/// stand behind the last cell.
+pub fn decode_page(slot: &Slot) -> Option<Page>
+    ensures found { IfSome result (λ page. IsPage page × (page_bytes page ≡ slot.now)) }
+    ensures only { (page : model.Page) → IsPage page → page_bytes page ≡ slot.now → result ≡ Some page }
+{
+    let label = label_in(slot)?;
+    let (_, area) = slot.split_at(CELLS_AT);
+    if !are_whole(label.level, slot[COUNT_AT], area) {
+        return None;
+    }
+    Some(Page { label, slot: *slot })
+}
+
+/// Writes the bytes of a page to a slot.
+pub fn encode_page(page: &Page, slot: &mut Slot)
+    ensures { slot.new ≡ page_bytes page.now }
+{
+    *slot = page.slot;
+}
+
+impl Page {
+    /// The page of a label with one cell, which has to be one of the label's level.
+    pub fn new(label: Label, first: Cell) -> Self
+        requires { IsCell label.level first }
+        ensures value { result ≡ record { label = label; cells = first ∷ [] } }
+        ensures valid { IsPage result }
+    {
+        Page::with_first(label, &first)
+    }
+
+    /// Adds a cell behind the others: one of the page's level, with a key above theirs, where there is room.
+    pub fn push(&mut self, cell: Cell)
+        requires cell { IsCell self.old.label.level cell }
+        requires room { length self.old.cells < page_room self.old.label.level }
+        requires rising { IsStrictlySortedBy key_cmp (map (λ c. c.key) (self.old.cells ++ cell ∷ [])) }
+        ensures value { self.new ≡ record self.old { cells = self.old.cells ++ cell ∷ [] } }
+        ensures valid { IsPage self.new }
+    {
+        self.add(&cell);
+    }
+
+    /// As `new`, from a cell that stays where it is.
+    pub fn with_first(label: Label, first: &Cell) -> Self
+        requires { IsCell label.level first.now }
+        ensures value { result ≡ record { label = label; cells = first.now ∷ [] } }
+        ensures valid { IsPage result }
+    {
+        let mut slot = [0; 4096];
+        begin(&label, &mut slot);
+        append(&label, &mut slot, first);
+        Page { label, slot }
+    }
+
+    /// As `push`, from a cell that stays where it is.
+    pub fn add(&mut self, cell: &Cell)
+        requires cell { IsCell self.old.label.level cell.now }
+        requires room { length self.old.cells < page_room self.old.label.level }
+        requires rising { IsStrictlySortedBy key_cmp (map (λ c. c.key) (self.old.cells ++ cell.now ∷ [])) }
+        ensures value { self.new ≡ record self.old { cells = self.old.cells ++ cell.now ∷ [] } }
+        ensures valid { IsPage self.new }
+    {
+        append(&self.label, &mut self.slot, cell);
+    }
+
+    /// Its label.
+    pub fn label(&self) -> Label
+        ensures value { result ≡ self.now.label }
+        ensures valid { IsPage self.now }
+    {
+        self.label
+    }
+
+    /// How many cells it has: 1 to 10 at level 0, 1 to 31 above.
+    pub fn len(&self) -> u32
+        ensures value { result ≡ length self.now.cells }
+        ensures valid { IsPage self.now }
+    {
+        u32::from(self.slot[COUNT_AT])
+    }
+
+    /// Its bytes in an image.
+    pub fn as_slot(&self) -> &Slot
+        ensures value { result.now ≡ page_bytes self.now }
+        ensures valid { IsPage self.now }
+    {
+        &self.slot
+    }
+
+    /// Cell `i`, the first being 0.
+    pub fn cell(&self, i: u32) -> Cell
+        requires { i < length self.now.cells }
+        ensures value { slice_get self.now.cells i ≡ Some result }
+        ensures valid { IsPage self.now × IsCell self.now.label.level result }
+    {
+        cell_of(&self.label, &self.slot, i)
+    }
+
+    /// The key of cell `i`, without its value.
+    pub fn key(&self, i: u32) -> Key
+        requires { i < length self.now.cells }
+        ensures value { IfSome (slice_get self.now.cells i) (λ cell. cell.key ≡ result) }
+        ensures valid { IsPage self.now × IsKey result }
+    {
+        let (key, _) = bytes_of_cell(&self.label, &self.slot, i).split_at(spelling::KEY_LEN);
+        spelling::read_key(key)
+    }
+}
+
+impl PartialEq for Page {
+    ghost eq = { λ a b. pointwise nat_eq (page_bytes a) (page_bytes b) };
+
+    ghost laws = { on_per page_bytes (partial_equiv_from_equiv nat_list_eq_equiv) };
+
+    fn eq(&self, other: &Self) -> bool
+        ensures value { result ≡ pointwise nat_eq (page_bytes self.now) (page_bytes other.now) }
+        ensures same { IsTrue result ↔ (self.now ≡ other.now) }
+    {
+        self.slot == other.slot
+    }
+}
+
+impl Eq for Page {
+    ghost laws = { on_equiv page_bytes nat_list_eq_equiv };
+}

@@ -1,0 +1,90 @@
+//! Lists of cells, of pages and of pairs.
+
+ghost use Rattle.std.specs.Prelude.{◌≡◌, ◌<◌, ◌↔◌, [], ◌∷◌, ◌++◌, length, Some, OnOk, OnErr, IsTrue, slice_get};
+
+use crate::cell::Cell;
+use crate::page::Page;
+use std::alloc::Global;
+use std::marker::Model;
+use store_base::{Key, NoMemory, Value};
+
+/// A list of cells.
+pub type Cells = Sequence<Cell>;
+
+/// A list of pages.
+pub type PageList = Sequence<Page>;
+
+/// A list of pairs, each a key and its value.
+pub type PairList = Sequence<(Key, Value)>;
+
+/// A list of fewer than 2^32 items, which grows at its end. Contracts see it as the list of its items.
+#[derive(Debug, Drop)]
+pub struct Sequence<T> {
+    items: Vec<T>,
+}
+
+impl<T> Model for Sequence<T> {
+    ghost use Rattle.std.specs.Prelude.{◌<◌, List, length};
+
+    ghost Value = { List T };
+
+    ghost view = { λ s. s.items.items };
+
+    ghost invariant = { λ s. length s.items.items < 4294967296 };
+}
+
+impl<T> Sequence<T> {
+    /// The empty list. It takes no memory.
+    pub fn new(alloc: Global) -> Self
+        ensures { result ≡ [] }
+    {
+        Sequence {
+            items: Vec::new(alloc),
+        }
+    }
+
+    /// How many items it has.
+    pub fn len(&self) -> u32
+        ensures { result ≡ length self.now }
+    {
+        self.items.len() as u32
+    }
+
+    /// Whether it has none.
+    pub fn is_empty(&self) -> bool
+        ensures { IsTrue result ↔ (self.now ≡ []) }
+    {
+        self.items.is_empty()
+    }
+
+    /// Its items.
+    pub fn as_slice(&self) -> &[T]
+        ensures value { result.now ≡ self.now }
+        ensures few { length self.now < 4294967296 }
+    {
+        self.items.as_slice()
+    }
+
+    /// Item `i`, the first being 0.
+    pub fn get(&self, i: u32) -> &T
+        requires { i < length self.now }
+        ensures { slice_get self.now i ≡ Some result.now }
+    {
+        &self.items[i as usize]
+    }
+}
+
+impl<T: Drop> Sequence<T> {
+    /// Adds an item at the end. `NoMemory` comes where memory ran out, or where the list has 2^32 - 1 items;
+    /// the list is then as it was.
+    pub fn push(&mut self, item: T) -> Result<(), NoMemory>
+        ensures ok { OnOk result (self.new ≡ self.old ++ item ∷ []) }
+        ensures err { OnErr result (self.new ≡ self.old) }
+    {
+        if self.items.len() >= u32::MAX as usize {
+            return Err(NoMemory);
+        }
+        self.items.push(item)?;
+        Ok(())
+    }
+}

@@ -1,0 +1,129 @@
+-- Lemmas on the pairs of a tree: their keys rise, and have 124 bytes.
+use Rattle.std.proofs.Common.{◌≡◌, ℕ, ◌+◌, ◌<◌, ◌≤◌, List, map, length, refl, ap, ap₂, ◌∙◌, arith, IsTrue, Ordering, Less, Equal, nat_cmp}
+use Rattle.std.specs.Ordering.{ordering_then}
+use Rattle.std.specs.List.{AllByRecursion, enumerate_from}
+use Rattle.std.specs.List.Sorted.{IsStrictlySortedBy}
+use Rattle.std.specs.FinMap.{is_sorted}
+use Rattle.std.specs.Cmp.{tied_itself}
+use Rattle.std.specs.Cmp.Lexicographic.{nat_list_cmp_total, lists_total}
+use Rattle.store_model.specs.Lists.{IsBytes, runs}
+use Rattle.store_model.specs.Parameters.{Parameters}
+use Rattle.store_model.specs.Paths.{Path, is_path, key, path_cmp, key_cmp}
+use Rattle.store_model.specs.Pairs.{Pair, file_block, directory_value, file_value, node_pairs, pairs, IsValue, IsPair, IsPairs}
+use Rattle.store_model.specs.Trees.{Tree, Node, IsNode, IsEntry, IsTree}
+use Rattle.store_model.specs.Trees.Node.{Directory, File}
+use Rattle.store_model.proofs.ListsLemmas.{all_none, all_weaker, all_with, all_map, all_flat_map, IsBelow, rising_cons, rising_one, rising_map, rising_flat_map, rising_from_is_sorted, is_sorted_from_rising, numbers_in_range, numbers_rise, less_from_nat_cmp, nat_cmp-lt, length-runs, bytes_from_all, all_from_bytes, be_bytes_are_bytes}
+use Rattle.store_model.proofs.ListsLemmasCuts.{lengths_of_runs, all_runs, all_enumerate_from}
+use Rattle.store_model.proofs.PathsLemmas.{order_of_keys, length-key, bytes_of_key}
+
+-- pairs are compared by their keys, and entries by their paths
+abbrev pub pair_cmp : Pair → Pair → Ordering
+pair_cmp a b = key_cmp a.0 b.0
+
+-- entries are compared by their paths
+abbrev pub entry_cmp : (Path × Node) → (Path × Node) → Ordering
+entry_cmp a b = path_cmp a.0 b.0
+
+-- the pair is of a block of the path
+IsOfPath : Path → Pair → Type 0
+IsOfPath path pair = (block : ℕ) × (block < 4294967296) × (pair.0 ≡ key path block)
+
+-- a path compared with itself
+path_cmp-itself : (path : Path) → path_cmp path path ≡ Equal
+path_cmp-itself path = tied_itself (lists_total nat_list_cmp_total) path
+
+-- keys of one path rise with the block number
+rising_blocks : (path : Path) (i j : ℕ) → IsTrue (is_path path) → i < 4294967296 → j < 4294967296 → i < j → key_cmp (key path i) (key path j) ≡ Less
+rising_blocks path i j h hi hj l =
+    order_of_keys path path i j h h hi hj ∙ ap (λ o. ordering_then o (nat_cmp i j)) (path_cmp-itself path) ∙ nat_cmp-lt i j l
+
+-- the pairs of the blocks behind a file's first pair
+abbrev block_pair : Path → ℕ × List ℕ → Pair
+block_pair path b = (key path b.0, b.1)
+
+-- a file has fewer blocks than a block number can count
+block_count : (bytes : List ℕ) → IsNode (File bytes) → length (runs file_block bytes) < 4294967295
+block_count bytes h = let e = length-runs file_block bytes in let l = h.0 in omega arith
+
+-- the pairs of what stands at a path are all of that path
+of_path : (path : Path) (node : Node) (p : Parameters) → IsNode node → AllByRecursion (IsOfPath path) (node_pairs path node p)
+unfolding node_pairs IsOfPath
+of_path path Directory p h = ((0, omega arith, refl), tt)
+of_path path (File bytes) p h =
+    let few = block_count bytes h in
+    ((0, omega arith, refl), all_map (λ b. (1 ≤ b.0) × (b.0 < 1 + length (runs file_block bytes))) (IsOfPath path) (block_pair path) (λ b r. (b.0, omega arith, refl)) (enumerate_from 1 (runs file_block bytes)) (numbers_in_range 1 (runs file_block bytes)))
+
+-- and they rise by key
+rising_node_pairs : (path : Path) (node : Node) (p : Parameters) → IsTrue (is_path path) → IsNode node → IsStrictlySortedBy pair_cmp (node_pairs path node p)
+unfolding node_pairs
+rising_node_pairs path Directory p h g = rising_one pair_cmp (key path 0, directory_value)
+rising_node_pairs path (File bytes) p h g =
+    let few = block_count bytes g in
+    let IsNumber : ℕ × List ℕ → Type 0 = λ b. (1 ≤ b.0) × (b.0 < 1 + length (runs file_block bytes)) in
+    let numbered : AllByRecursion IsNumber (enumerate_from 1 (runs file_block bytes)) = numbers_in_range 1 (runs file_block bytes) in
+    rising_cons pair_cmp (key path 0, file_value (length bytes)) (map (block_pair path) (enumerate_from 1 (runs file_block bytes)))
+    (all_map IsNumber (λ pair. key_cmp (key path 0) pair.0 ≡ Less) (block_pair path) (λ b r. rising_blocks path 0 b.0 h (omega arith) (omega arith) (omega arith)) (enumerate_from 1 (runs file_block bytes)) numbered)
+    (rising_map (λ a b. nat_cmp a.0 b.0) pair_cmp (block_pair path) IsNumber (λ a b q r l. rising_blocks path a.0 b.0 h (omega arith) (omega arith) (less_from_nat_cmp a.0 b.0 l)) (enumerate_from 1 (runs file_block bytes)) numbered (numbers_rise 1 (runs file_block bytes)))
+
+-- pairs of a path stand below those of a path behind it
+below_paths : (q r : Path) (xs ys : List Pair) → IsTrue (is_path q) → IsTrue (is_path r) → path_cmp q r ≡ Less → AllByRecursion (IsOfPath q) xs → AllByRecursion (IsOfPath r) ys
+    → IsBelow pair_cmp xs ys
+unfolding IsOfPath
+below_paths q r xs ys hq hr l h g =
+    all_weaker _ _ (λ a u. all_weaker _ _ (λ b v.
+    ap₂ key_cmp u.2 v.2 ∙ order_of_keys q r u.0 v.0 hq hr u.1 v.1 ∙ ap (λ o. ordering_then o (nat_cmp u.0 v.0)) l) ys g) xs h
+
+-- the pairs of a tree rise by key
+pub rising_pairs : (t : Tree) (p : Parameters) → IsTree t → IsStrictlySortedBy pair_cmp (pairs t p)
+unfolding pairs
+rising_pairs t p h =
+    rising_flat_map entry_cmp pair_cmp (λ e. node_pairs e.0 e.1 p) (IsEntry t)
+    (λ e g. rising_node_pairs e.0 e.1 p g.path g.node)
+    (λ e f g k l. below_paths e.0 f.0 (node_pairs e.0 e.1 p) (node_pairs f.0 f.1 p) g.path k.path l (of_path e.0 e.1 p g.node) (of_path f.0 f.1 p k.node))
+    t h.entries (rising_from_is_sorted path_cmp t h.sorted)
+
+-- so they are a finite map
+pub is_sorted-pairs : (t : Tree) (p : Parameters) → IsTree t → IsTrue (is_sorted key_cmp (pairs t p))
+is_sorted-pairs t p h = is_sorted_from_rising key_cmp (pairs t p) (rising_pairs t p h)
+
+-- and the keys alone rise
+pub rising_keys : (t : Tree) (p : Parameters) → IsTree t → IsStrictlySortedBy key_cmp (map (λ pair. pair.0) (pairs t p))
+rising_keys t p h = rising_map pair_cmp key_cmp (λ pair. pair.0) (λ pair. Unit {0}) (λ a b u v l. l) (pairs t p) (all_none _ (λ pair. tt) (pairs t p)) (rising_pairs t p h)
+
+-- ---- each pair has a key of 124 bytes and a value of 1 to 256
+
+-- a pair of a key and a value
+key_pair : (path : Path) (block : ℕ) (value : List ℕ) → IsTrue (is_path path) → IsValue value → IsPair (key path block, value)
+key_pair path block value h v = record { key_length = length-key path block h; key_bytes = bytes_of_key path block h; value = v }
+
+-- a directory's value is a value
+directory_value_is_value : IsValue directory_value
+directory_value_is_value = (omega arith, omega arith, bytes_from_all directory_value (omega arith, tt))
+
+-- a file's first value is a value
+file_value_is_value : (n : ℕ) → IsValue (file_value n)
+file_value_is_value n = (omega arith, omega arith, bytes_from_all (file_value n) (omega arith, be_bytes_are_bytes n))
+
+-- the blocks of a file are values
+blocks_are_values : (bytes : List ℕ) → IsBytes bytes → AllByRecursion IsValue (runs file_block bytes)
+blocks_are_values bytes h =
+    all_with _ _ _ (λ run l b. (l.0, l.1, bytes_from_all run b)) (runs file_block bytes) (lengths_of_runs file_block bytes (omega arith))
+    (all_runs (λ c. c < 256) file_block bytes (omega arith) (all_from_bytes bytes h))
+
+-- the pairs of what stands at a path
+node_pairs_are_pairs : (path : Path) (node : Node) (p : Parameters) → IsTrue (is_path path) → IsNode node → AllByRecursion IsPair (node_pairs path node p)
+unfolding node_pairs
+node_pairs_are_pairs path Directory p h g = (key_pair path 0 directory_value h directory_value_is_value, tt)
+node_pairs_are_pairs path (File bytes) p h g = (
+  key_pair path 0 (file_value (length bytes)) h (file_value_is_value (length bytes)),
+  all_map (λ b. IsValue b.1) IsPair (block_pair path) (λ b v. key_pair path b.0 b.1 h v) (enumerate_from 1 (runs file_block bytes))
+      (all_enumerate_from IsValue 1 (runs file_block bytes) (blocks_are_values bytes g.1)),
+)
+
+-- the pairs of a tree
+pub pairs_are_pairs : (t : Tree) (p : Parameters) → IsTree t → IsPairs (pairs t p)
+unfolding pairs
+pairs_are_pairs t p h = record {
+  sorted = is_sorted-pairs t p h;
+  pairs = all_flat_map (IsEntry t) IsPair (λ e. node_pairs e.0 e.1 p) (λ e g. node_pairs_are_pairs e.0 e.1 p g.path g.node) t h.entries;
+}

@@ -1,0 +1,260 @@
+-- Lemmas on layouts: they tell trees and parameters apart.
+use Rattle.std.proofs.Common.{◌≡◌, ℕ, zero, suc, ◌+◌, ◌≤◌, List, [], ◌∷◌, ◌++◌, map, length, take, Some, Bool, true, false, ◌⊎◌, inl, inr, cond, ◌==◌, IsTrue, Contains, Ordering, Less, refl, sym, ap, ap₂, subst, ◌∙◌, arith, ne_eqb}
+use Rattle.std.specs.Ordering.{ordering_then}
+use Rattle.std.specs.Cmp.{IsTotalOrder, tied_itself}
+use Rattle.std.specs.Cmp.Lexicographic.{nat_list_cmp_total}
+use Rattle.std.specs.List.{AllByRecursion, filter, flat_map, enumerate_from}
+use Rattle.std.specs.List.Sorted.{IsStrictlySortedBy, IsPermutation}
+use Rattle.std.proofs.lemmas.List.{append-nil, append_cancel_left, length-map}
+use Rattle.std.proofs.lemmas.List.Elements.{filter-append}
+use Rattle.std.proofs.lemmas.List.FromFn.{length-enumerate_from}
+use Rattle.std.proofs.lemmas.List.Sorted.{IsPermutation-sym, IsPermutation-trans, Contains-permutation}
+use Rattle.store_model.specs.Lists.{zeros, run_count, runs, numbers_from, numbers_below}
+use Rattle.store_model.specs.Parameters.{Parameters, IsParameters}
+use Rattle.store_model.specs.Paths.{Path, is_path, path_cmp, key, key_cmp}
+use Rattle.store_model.specs.Trees.{Tree, Node, IsNode, IsEntry, IsTree}
+use Rattle.store_model.specs.Trees.Node.{Directory, File}
+use Rattle.store_model.specs.Pairs.{Pair, file_block, file_value, node_pairs, pairs}
+use Rattle.store_model.specs.Draws.{Draw, IsLawful, draw_of}
+use Rattle.store_model.specs.Pages.{Cell, Page, cell_on, lead_of, groups, group_pages, level_pages, pages_of_pairs, page_room, Fits, pages}
+use Rattle.store_model.specs.Placement.{place, pages_in, page_cmp}
+use Rattle.store_model.specs.Images.{header, table_bytes, journal_len, layout, recovered, Represents}
+use Rattle.store_model.proofs.ListsLemmas.{all_none, all_weaker, all_map, all_flat_map, all_numbers_from, then-Equal, nat_cmp-eq, rising_head, rising_tail, length-runs}
+use Rattle.store_model.proofs.ListsLemmasCuts.{flat_map-runs}
+use Rattle.store_model.proofs.PathsLemmas.{order_of_keys}
+use Rattle.store_model.proofs.PagesLemmas.{cells_of_level_0}
+use Rattle.store_model.proofs.PagesLemmasOrder.{page_of, rising_pages}
+use Rattle.store_model.proofs.PagesLemmasSizes.{keyed, pair_list_of_tree, tree_pages_are_pages}
+use Rattle.store_model.proofs.PlacementLemmas.{length-place, IsPermutation-place, label_cmp_total}
+use Rattle.store_model.proofs.PlacementLemmasDraws.{IsLawful-draw_of}
+use Rattle.store_model.proofs.ImagesLemmas.{header-layout, slots-place}
+use Rattle.store_model.proofs.TreesLemmasPaths.{same_from_tie}
+use Rattle.store_model.proofs.TreesLemmasBytes.{fronts_same, heads_same, tails_same, four_bytes_same, headers_same, tables_same}
+
+-- ---- lists that rise and have the same elements
+
+-- what a list holds is its first element or stands behind it
+held_cases : {X : Type 0} (y : X) (ys : List X) (x : X) → Contains (y ∷ ys) x → (y ≡ x) ⊎ Contains ys x
+held_cases y ys x (zero, l, e) = inl e
+held_cases y ys x (suc k, l, e) = inr (k, omega arith, e)
+
+-- the first element is held
+held_first : {X : Type 0} (y : X) (ys : List X) → Contains (y ∷ ys) y
+held_first y ys = (0, omega arith, refl)
+
+-- and so is what stands behind it
+held_later : {X : Type 0} (y : X) (ys : List X) (x : X) → Contains ys x → Contains (y ∷ ys) x
+held_later y ys x (k, l, e) = (suc k, omega arith, e)
+
+-- what holds of each element holds of what is held
+held_all : {X : Type 0} (P : X → Type 0) (ys : List X) (x : X) → AllByRecursion P ys → Contains ys x → P x
+held_all P [] x h (k, l, e) = absurd (omega arith)
+held_all P (y ∷ ys) x h c = by_case (held_cases y ys x c) (held_all P ys x h.1)
+  where
+    by_case : (y ≡ x) ⊎ Contains ys x → (Contains ys x → P x) → P x
+    by_case (inl e) later = subst P e h.0
+    by_case (inr c) later = later c
+
+-- lists that rise and hold the same elements are the same
+same_rising : {X : Type 0} {c : X → X → Ordering} (o : IsTotalOrder c) (xs ys : List X) → IsStrictlySortedBy c xs → IsStrictlySortedBy c ys → ((z : X) → Contains xs z → Contains ys z) → ((z : X) → Contains ys z → Contains xs z) → xs ≡ ys
+same_rising o [] [] h g to from = refl
+same_rising o [] (y ∷ ys) h g to from = no_element (from y (held_first y ys))
+  where
+    no_element : Contains [] y → [] ≡ y ∷ ys
+    no_element (k, l, e) = absurd (omega arith)
+same_rising o (x ∷ xs) [] h g to from = no_element (to x (held_first x xs))
+  where
+    no_element : Contains [] x → x ∷ xs ≡ []
+    no_element (k, l, e) = absurd (omega arith)
+same_rising {X} {c} o (x ∷ xs) (y ∷ ys) h g to from = ap₂ (λ z zs. z ∷ zs) first (same_rising o xs ys (rising_tail c x xs h) (rising_tail c y ys g) (λ z held. behind x xs y ys first (rising_head c x xs h) z (to z (held_later x xs z held)) held) (λ z held. behind y ys x xs (sym first) (rising_head c y ys g) z (from z (held_later y ys z held)) held))
+  where
+    not_below_itself : (z : X) → c z z ≡ Less → ⊥
+    not_below_itself z l = let tied = tied_itself o z in cc
+
+    first_by : (y ≡ x) ⊎ Contains ys x → (x ≡ y) ⊎ Contains xs y → x ≡ y
+    first_by (inl e) d = sym e
+    first_by (inr a) (inl e) = e
+    first_by (inr a) (inr b) = absurd (not_below_itself x (o.trans x y x (held_all (λ z. c x z ≡ Less) xs y (rising_head c x xs h) b) (held_all (λ z. c y z ≡ Less) ys x (rising_head c y ys g) a)))
+
+    first : x ≡ y
+    first = first_by (held_cases y ys x (to x (held_first x xs))) (held_cases x xs y (from y (held_first y ys)))
+
+    behind : (a : X) (us : List X) (b : X) (vs : List X) → a ≡ b → AllByRecursion (λ z. c a z ≡ Less) us → (z : X) → Contains (b ∷ vs) z → Contains us z → Contains vs z
+    behind a us b vs e below z held own = by_place (held_cases b vs z held)
+      where
+        by_place : (b ≡ z) ⊎ Contains vs z → Contains vs z
+        by_place (inl f) = absurd (not_below_itself z (subst (λ w. c w z ≡ Less) (e ∙ f) (held_all (λ w. c a w ≡ Less) us z below own)))
+        by_place (inr later) = later
+
+-- pages are in a total order
+page_cmp_total : IsTotalOrder page_cmp
+page_cmp_total = record {
+  antisymm = λ a b. label_cmp_total.antisymm a.label b.label;
+  trans = λ a b c. label_cmp_total.trans a.label b.label c.label;
+  congr = λ a b c. label_cmp_total.congr a.label b.label c.label;
+}
+
+-- lists of pages that rise and have one table are the same
+pub same_placement : (d : Draw) (ps qs : List Page) → IsLawful d → length ps ≤ d.slots → length qs ≤ d.slots → IsStrictlySortedBy page_cmp ps → IsStrictlySortedBy page_cmp qs → place d ps ≡ place d qs → ps ≡ qs
+same_placement d ps qs law la lb h g e =
+    let a = IsPermutation-place d ps law la in
+    let b = subst (λ table. IsPermutation qs (pages_in table)) (sym e) (IsPermutation-place d qs law lb) in
+    let moves = IsPermutation-trans ps (pages_in (place d ps)) qs a (IsPermutation-sym qs (pages_in (place d ps)) b) in
+    same_rising page_cmp_total ps qs h g (λ z held. Contains-permutation ps qs z moves held) (λ z held. Contains-permutation qs ps z (IsPermutation-sym ps qs moves) held)
+
+-- ---- the pages of a list of pairs tell it
+
+-- the pages of a level are of that level
+pages_on_level : (d : Draw) (s : List Pair) (level : ℕ) → AllByRecursion (λ page. page.label.level ≡ level) (level_pages d s level)
+unfolding level_pages group_pages
+pages_on_level d s level =
+    all_flat_map (λ cells. Unit {0}) (λ page. page.label.level ≡ level) (λ cells. group_pages level (lead_of d level cells) cells)
+    (λ cells u. all_map (λ run. Unit {0}) (λ page. page.label.level ≡ level) (page_of level (lead_of d level cells)) (λ run v. refl) (enumerate_from 0 (runs (page_room level) cells)) (all_none _ (λ run. tt) (enumerate_from 0 (runs (page_room level) cells))))
+    (groups d s level) (all_none _ (λ cells. tt) (groups d s level))
+
+-- a filter that keeps each element
+filter_each : {X : Type 0} (test : X → Bool) (xs : List X) → AllByRecursion (λ x. test x ≡ true) xs → filter test xs ≡ xs
+filter_each test [] h = refl
+filter_each test (x ∷ xs) h = ap₂ (λ b rest. cond b (x ∷ rest) rest) h.0 (filter_each test xs h.1)
+
+-- a filter that keeps none
+filter_none : {X : Type 0} (test : X → Bool) (xs : List X) → AllByRecursion (λ x. test x ≡ false) xs → filter test xs ≡ []
+filter_none test [] h = refl
+filter_none test (x ∷ xs) h = ap₂ (λ b rest. cond b (x ∷ rest) rest) h.0 (filter_none test xs h.1)
+
+-- whether a page is of level 0
+abbrev is_on_level_0 : Page → Bool
+is_on_level_0 page = page.label.level == 0
+
+-- the pages of level 0 are those at the front
+pages_of_level_0 : (d : Draw) (s : List Pair) → 1 ≤ d.height → filter is_on_level_0 (pages_of_pairs d s) ≡ level_pages d s 0
+unfolding pages_of_pairs numbers_from
+pages_of_level_0 d s h = by_height d.height h
+  where
+    by_height : (n : ℕ) → 1 ≤ n → filter is_on_level_0 (flat_map (level_pages d s) (numbers_below n)) ≡ level_pages d s 0
+    by_height zero l = absurd (omega arith)
+    by_height (suc n) l =
+        filter-append is_on_level_0 (level_pages d s 0) (flat_map (level_pages d s) (numbers_from 1 n))
+        ∙ ap₂ (λ a b. a ++ b)
+        (filter_each is_on_level_0 (level_pages d s 0) (all_weaker _ _ (λ page e. ap (λ k. k == 0) e) (level_pages d s 0) (pages_on_level d s 0)))
+        (filter_none is_on_level_0 (flat_map (level_pages d s) (numbers_from 1 n))
+        (all_flat_map (λ level. 1 ≤ level) (λ page. is_on_level_0 page ≡ false) (level_pages d s)
+        (λ level g. all_weaker _ _ (λ page e. ne_eqb page.label.level 0 (λ zero_is. omega arith)) (level_pages d s level) (pages_on_level d s level))
+        (numbers_from 1 n) (all_numbers_from 1 n)))
+        ∙ append-nil (level_pages d s 0)
+
+-- the cells of pairs tell them
+cells_tell_pairs : (r s : List Pair) → map (cell_on 0) r ≡ map (cell_on 0) s → r ≡ s
+cells_tell_pairs [] [] e = refl
+cells_tell_pairs [] (pair ∷ s) e = cc
+cells_tell_pairs (pair ∷ r) [] e = cc
+cells_tell_pairs (a ∷ r) (b ∷ s) e =
+    let cell : cell_on 0 a ≡ cell_on 0 b = heads_same e in
+    let key : a.0 ≡ b.0 = ap (λ (c : Cell). c.key) cell in
+    let some : Some a.1 ≡ Some b.1 = ap (λ (c : Cell). c.value) cell in
+    let value : a.1 ≡ b.1 = cc in
+    let rest = cells_tell_pairs r s (tails_same e) in
+    λ i. (key i, value i) ∷ rest i
+
+-- the pages of a list of pairs tell it
+pub pages_tell_pairs : (d : Draw) (r s : List Pair) → 1 ≤ d.height → pages_of_pairs d r ≡ pages_of_pairs d s → r ≡ s
+pages_tell_pairs d r s h e =
+    cells_tell_pairs r s
+    (sym (cells_of_level_0 d r) ∙ ap (flat_map (λ page. page.cells)) (sym (pages_of_level_0 d r h) ∙ ap (filter is_on_level_0) e ∙ pages_of_level_0 d s h) ∙ cells_of_level_0 d s)
+
+-- ---- the pairs of a tree tell it
+
+-- the key of a path tells it
+keys_tell_paths : (x y : Path) → IsTrue (is_path x) → IsTrue (is_path y) → key x 0 ≡ key y 0 → x ≡ y
+keys_tell_paths x y hx hy e =
+    same_from_tie x y
+    (sym (then-Equal (path_cmp x y)) ∙ ap (ordering_then (path_cmp x y)) (sym (nat_cmp-eq 0)) ∙ sym (order_of_keys x y 0 0 hx hy (omega arith) (omega arith))
+    ∙ ap (key_cmp (key x 0)) (sym e) ∙ tied_itself nat_list_cmp_total (key x 0))
+
+-- the pairs of a file's blocks
+abbrev blocks_of : Path → List ℕ → List Pair
+blocks_of x bytes = map (λ b. (key x b.0, b.1)) (enumerate_from 1 (runs file_block bytes))
+
+-- the values of numbered blocks are the blocks
+values_of_blocks : (x : Path) (n : ℕ) (blocks : List (List ℕ)) → map (λ (pair : Pair). pair.1) (map (λ b. (key x b.0, b.1)) (enumerate_from n blocks)) ≡ blocks
+values_of_blocks x n [] = refl
+values_of_blocks x n (block ∷ blocks) = ap (λ rest. block ∷ rest) (values_of_blocks x (n + 1) blocks)
+
+-- how many blocks there are
+length-blocks_of : (x : Path) (bytes : List ℕ) → length (blocks_of x bytes) ≡ length (runs file_block bytes)
+length-blocks_of x bytes = length-map (enumerate_from 1 (runs file_block bytes)) _ ∙ length-enumerate_from 1 (runs file_block bytes)
+
+-- files whose first values and blocks are the same, in front of other pairs
+files_same : (x y : Path) (a b : List ℕ) (u v : List Pair) → length a ≤ 1048576 → length b ≤ 1048576 → file_value (length a) ≡ file_value (length b) → blocks_of x a ++ u ≡ blocks_of y b ++ v → (a ≡ b) × (u ≡ v)
+files_same x y a b u v la lb first e =
+    let size : length a ≡ length b = four_bytes_same (length a) (length b) (omega arith) (omega arith) (tails_same first) in
+    let count : length (blocks_of x a) ≡ length (blocks_of y b) = length-blocks_of x a ∙ length-runs file_block a ∙ ap (λ n. run_count file_block n) size ∙ sym (length-runs file_block b) ∙ sym (length-blocks_of y b) in
+    let whole = fronts_same (blocks_of x a) (blocks_of y b) u v count e in
+    let blocks : runs file_block a ≡ runs file_block b = sym (values_of_blocks x 1 (runs file_block a)) ∙ ap (map (λ (pair : Pair). pair.1)) whole.0 ∙ values_of_blocks y 1 (runs file_block b) in
+    (sym (flat_map-runs file_block a (omega arith)) ∙ ap (flat_map (λ run. run)) blocks ∙ flat_map-runs file_block b (omega arith), whole.1)
+
+-- a key and a value in a pair
+pair_parts : {p q : Pair} → p ≡ q → (p.0 ≡ q.0) × (p.1 ≡ q.1)
+pair_parts e = (ap (λ (p : Pair). p.0) e, ap (λ (p : Pair). p.1) e)
+
+-- the pairs of what stands at a path tell it, in front of other pairs
+nodes_same : (x y : Path) (a b : Node) (p : Parameters) (u v : List Pair) → IsTrue (is_path x) → IsTrue (is_path y) → IsNode a → IsNode b → node_pairs x a p ++ u ≡ node_pairs y b p ++ v → (x ≡ y) × (a ≡ b) × (u ≡ v)
+unfolding node_pairs
+nodes_same x y Directory Directory p u v hx hy ha hb e = (keys_tell_paths x y hx hy (pair_parts (heads_same e)).0, refl, tails_same e)
+nodes_same x y Directory (File b) p u v hx hy ha hb e = let first : ◌≡◌ {A = ℕ} 1 2 = heads_same (pair_parts (heads_same e)).1 in absurd (omega arith)
+nodes_same x y (File a) Directory p u v hx hy ha hb e = let first : ◌≡◌ {A = ℕ} 2 1 = heads_same (pair_parts (heads_same e)).1 in absurd (omega arith)
+nodes_same x y (File a) (File b) p u v hx hy ha hb e =
+    let first = pair_parts (heads_same e) in
+    let rest = files_same x y a b u v ha.0 hb.0 first.1 (tails_same e) in
+    (keys_tell_paths x y hx hy first.0, ap File rest.0, rest.1)
+
+-- there is a pair of what stands at a path
+some_pair : (x : Path) (a : Node) (p : Parameters) (u : List Pair) → [] ≡ node_pairs x a p ++ u → ⊥
+unfolding node_pairs
+some_pair x Directory p u e = cc
+some_pair x (File bytes) p u e = cc
+
+-- the pairs of entries tell them
+entries_same : (t u : Tree) (p : Parameters) → AllByRecursion (λ e. IsTrue (is_path e.0) × IsNode e.1) t → AllByRecursion (λ e. IsTrue (is_path e.0) × IsNode e.1) u → pairs t p ≡ pairs u p → t ≡ u
+unfolding pairs
+entries_same [] [] p h g e = refl
+entries_same [] (f ∷ u) p h g e = absurd (some_pair f.0 f.1 p (pairs u p) e)
+entries_same (f ∷ t) [] p h g e = absurd (some_pair f.0 f.1 p (pairs t p) (sym e))
+entries_same (f ∷ t) (k ∷ u) p h g e =
+    let first = nodes_same f.0 k.0 f.1 k.1 p (pairs t p) (pairs u p) (h.0).0 (g.0).0 (h.0).1 (g.0).1 e in
+    let path = first.0 in
+    let node = first.1 in
+    let rest = entries_same t u p h.1 g.1 first.2 in
+    λ i. (path i, node i) ∷ rest i
+
+-- the pairs of a tree tell it
+pub pairs_tell_trees : (t u : Tree) (p : Parameters) → IsTree t → IsTree u → pairs t p ≡ pairs u p → t ≡ u
+pairs_tell_trees t u p h g e = entries_same t u p (all_weaker (IsEntry t) _ (λ f k. (k.path, k.node)) t h.entries) (all_weaker (IsEntry u) _ (λ f k. (k.path, k.node)) u g.entries) e
+
+-- ---- layouts
+
+-- the layouts of two trees under the same parameters
+same_parameters : (t u : Tree) (p : Parameters) → IsParameters p → IsTree t → IsTree u → Fits t p → Fits u p → layout t p ≡ layout u p → t ≡ u
+unfolding layout pages draw_of
+same_parameters t u p is ht hu ft fu e =
+    let d = draw_of p in
+    let law = IsLawful-draw_of p is in
+    let bytes = append_cancel_left (header p ++ zeros (journal_len p.slots)) (table_bytes (place d (pages t p))) (table_bytes (place d (pages u p))) e in
+    let table = tables_same (place d (pages t p)) (place d (pages u p))
+    (slots-place d (pages t p) law ft (tree_pages_are_pages t p is ht ft)) (slots-place d (pages u p) law fu (tree_pages_are_pages u p is hu fu))
+    (length-place d (pages t p) ∙ sym (length-place d (pages u p))) bytes in
+    let all = same_placement d (pages t p) (pages u p) law ft fu
+    (rising_pages d (pairs t p) (keyed (pairs t p) (pair_list_of_tree t p is ht ft))) (rising_pages d (pairs u p) (keyed (pairs u p) (pair_list_of_tree u p is hu fu))) table in
+    pairs_tell_trees t u p ht hu (pages_tell_pairs d (pairs t p) (pairs u p) is.some_level all)
+
+-- a layout tells its tree and its parameters
+pub layouts_tell : (t u : Tree) (p q : Parameters) → IsParameters p → IsParameters q → IsTree t → IsTree u → Fits t p → Fits u q → layout t p ≡ layout u q → (t ≡ u) × (p ≡ q)
+layouts_tell t u p q hp hq ht hu ft fu e =
+    let same : p ≡ q = headers_same p q hp hq (sym (header-layout t p hp) ∙ ap (λ image. take 4096 image) e ∙ header-layout u q hq) in
+    (same_parameters t u p hp ht hu ft (subst (Fits u) (sym same) fu) (e ∙ ap (layout u) (sym same)), same)
+
+-- an image tells the tree that it represents, and its parameters
+pub images_tell : (image : List ℕ) (t u : Tree) (p q : Parameters) → Represents image t p → Represents image u q → (t ≡ u) × (p ≡ q)
+images_tell image t u p q h g =
+    let same : p ≡ q = headers_same p q h.names.in_range g.names.in_range (sym h.names.header_is ∙ g.names.header_is) in
+    layouts_tell t u p q h.names.in_range g.names.in_range h.tree g.tree h.fits g.fits (sym h.layout_is ∙ ap (λ (r : Parameters). recovered r.slots image) same ∙ g.layout_is)

@@ -1,0 +1,81 @@
+//! Laws of commands and trees: which lines are commands, what they keep of a tree, and that layouts tell trees
+//! apart.
+#![tactic(auto)]
+
+ghost use Rattle.std.specs.Prelude.{◌≡◌, ℕ, ◌≤◌, List, map, length, Bool, true, false, is_some, IsTrue, Ok};
+ghost use Rattle.std.specs.FinMap.{find, is_sorted};
+ghost use Rattle.std.specs.List.{filter};
+ghost use Rattle.store_model.specs.Parameters.{Parameters, IsParameters};
+ghost use Rattle.store_model.specs.Paths.{Path, is_root, is_path, key_cmp, parent};
+ghost use Rattle.store_model.specs.Trees.{Tree, empty_tree, IsTree, is_directory, exists};
+ghost use Rattle.store_model.specs.Pairs.{Pair};
+ghost use Rattle.store_model.specs.Draws.{Draw};
+ghost use Rattle.store_model.specs.Pages.{Fits, pages_of_pairs};
+ghost use Rattle.store_model.specs.Images.{layout, Represents};
+ghost use Rattle.store_model.specs.Commands.{Command, IsCommand};
+ghost use Rattle.store_model.specs.Commands.Command.{Make};
+ghost use Rattle.store_model.specs.Steps.{next_tree, step};
+ghost use Rattle.store_model.specs.Grammar.{parse};
+ghost use Rattle.store_model.specs.Scripts.{answer, tree_after};
+
+/// The empty tree is a tree, and fits any table.
+pub fn empty_tree_is_a_tree()
+    ensures tree { IsTree empty_tree }
+    ensures fits { (p : Parameters) → Fits empty_tree p }
+{}
+
+/// A tree stays one when a directory is made at a path other than the root, where nothing stands and whose
+/// parent is a directory.
+pub fn made_directories_keep_a_tree()
+    ensures { (t : Tree) (p : Path) → IsTree t → IsTrue (is_path p) → is_root p ≡ false →
+        is_directory t (parent p) ≡ true → exists t p ≡ false → IsTree (next_tree t (Make p)) }
+{}
+
+/// A line that is parsed gives a command that a script can ask for: its paths are made of names and fit the
+/// field of a key, its numbers have 32 bits, its contents are bytes.
+pub fn parsed_lines_are_commands()
+    ensures { (text : List ℕ) (c : Command) → parse text ≡ Ok c → IsCommand c }
+{}
+
+/// A step of any command leaves a tree of a tree.
+pub fn steps_keep_trees()
+    ensures { (t : Tree) (c : Command) (p : Parameters) → IsTree t → IsCommand c → IsTree (step t c p).tree }
+{}
+
+/// The answer to any line leaves a tree of a tree, and so do the answers to a list of lines.
+pub fn answers_keep_trees()
+    ensures line { (t : Tree) (text : List ℕ) (p : Parameters) → IsTree t → IsTree (answer t text p).tree }
+    ensures lines { (t : Tree) (texts : List (List ℕ)) (p : Parameters) → IsTree t → IsTree (tree_after t texts p) }
+{}
+
+/// A list of pairs has no more pages than another if its keys are those of the other that pass a test, in their
+/// order; or if both are finite maps, and each key of the one is a key of the other. The values do not matter.
+pub fn fewer_keys_need_no_more_pages()
+    ensures kept { (d : Draw) (r s : List Pair) (kept : List ℕ → Bool) →
+        map (λ pair. pair.0) r ≡ filter kept (map (λ pair. pair.0) s) →
+        length (pages_of_pairs d r) ≤ length (pages_of_pairs d s) }
+    ensures subset { (d : Draw) (r s : List Pair) → IsTrue (is_sorted key_cmp r) → IsTrue (is_sorted key_cmp s) →
+        ((k : List ℕ) → is_some (find key_cmp k r) ≡ true → is_some (find key_cmp k s) ≡ true) →
+        length (pages_of_pairs d r) ≤ length (pages_of_pairs d s) }
+{}
+
+/// A step of any command on a tree that fits leaves a tree that fits.
+pub fn steps_keep_fitting()
+    ensures { (t : Tree) (c : Command) (p : Parameters) → IsTree t → Fits t p → Fits (step t c p).tree p }
+{}
+
+/// The answer to any line on a tree that fits leaves a tree that fits, and so do the answers to a list of lines.
+pub fn answers_keep_fitting()
+    ensures line { (t : Tree) (text : List ℕ) (p : Parameters) → IsTree t → Fits t p → Fits (answer t text p).tree p }
+    ensures lines { (t : Tree) (texts : List (List ℕ)) (p : Parameters) → IsTree t → Fits t p →
+        Fits (tree_after t texts p) p }
+{}
+
+/// Two layouts with the same bytes are of the same tree and the same parameters. So an image represents one tree
+/// at most, under one list of parameters.
+pub fn layouts_tell_trees_apart()
+    ensures layout { (t u : Tree) (p q : Parameters) → IsParameters p → IsParameters q → IsTree t → IsTree u →
+        Fits t p → Fits u q → layout t p ≡ layout u q → (t ≡ u) × (p ≡ q) }
+    ensures image { (image : List ℕ) (t u : Tree) (p q : Parameters) → Represents image t p → Represents image u q →
+        (t ≡ u) × (p ≡ q) }
+{}
