@@ -47,7 +47,7 @@ set_flag image one = ap (λ (b : ℕ). not (b == 0)) one
 
 module _ (slots : ℕ) (changes : Changes) (valid : AreChanges slots changes) where
   -- whether a slot is among the first n of the changed ones
-  find_slot : (n i : ℕ) → ((j : ℕ) × (j < n) × (changes.slot j ≡ i)) ⊎ ((j : ℕ) → j < n → changes.slot j ≡ i → ⊥)
+  pub find_slot : (n i : ℕ) → ((j : ℕ) × (j < n) × (changes.slot j ≡ i)) ⊎ ((j : ℕ) → j < n → changes.slot j ≡ i → ⊥)
   find_slot zero i = inr (λ j none is. absurd (omega arith))
   find_slot (suc n) i = elim (cases_eq (changes.slot n) i) [
     | inl here ↦ inl (n, omega arith, here)
@@ -61,7 +61,7 @@ module _ (slots : ℕ) (changes : Changes) (valid : AreChanges slots changes) wh
   ]
 
   -- outside the changed slots the image stays
-  with_first_same : (image : List ℕ) → length image ≡ image_len slots → (n : ℕ) → n ≤ changes.count → SameAt (OutsideTable slots changes) image (with_first slots changes n image)
+  pub with_first_same : (image : List ℕ) → length image ≡ image_len slots → (n : ℕ) → n ≤ changes.count → SameAt (OutsideTable slots changes) image (with_first slots changes n image)
   with_first_same image long zero few = SameAt-refl (OutsideTable slots changes) image
   with_first_same image long (suc n) few =
       let before = with_first_same image long n (omega arith) in
@@ -75,7 +75,7 @@ module _ (slots : ℕ) (changes : Changes) (valid : AreChanges slots changes) wh
       (SameOutside-overwrite so_far at (changes.bytes n) (omega (arith, whole, here.table_end, before.same_length, long))))
 
   -- a changed slot has its new bytes
-  with_first_changed : (image : List ℕ) → length image ≡ image_len slots → (n : ℕ) → n ≤ changes.count → (j : ℕ) → j < n → table_slot slots (with_first slots changes n image) (changes.slot j) ≡ changes.bytes j
+  pub with_first_changed : (image : List ℕ) → length image ≡ image_len slots → (n : ℕ) → n ≤ changes.count → (j : ℕ) → j < n → table_slot slots (with_first slots changes n image) (changes.slot j) ≡ changes.bytes j
   with_first_changed image long zero few j low = absurd (omega arith)
   with_first_changed image long (suc n) few j low =
       let before = with_first_same image long n (omega arith) in
@@ -98,7 +98,7 @@ module _ (slots : ℕ) (changes : Changes) (valid : AreChanges slots changes) wh
       ]
 
   -- a slot that is not changed stays
-  with_slots_other : (image : List ℕ) → length image ≡ image_len slots → (i : ℕ) → i < slots → ((j : ℕ) → j < changes.count → changes.slot j ≡ i → ⊥) → table_slot slots (with_slots slots changes image) i ≡ table_slot slots image i
+  pub with_slots_other : (image : List ℕ) → length image ≡ image_len slots → (i : ℕ) → i < slots → ((j : ℕ) → j < changes.count → changes.slot j ≡ i → ⊥) → table_slot slots (with_slots slots changes image) i ≡ table_slot slots image i
   with_slots_other image long i below none =
       bytes_at-same (OutsideTable slots changes) (table_at slots i) 4096 image (with_slots slots changes image)
       (λ place from to k low. table_apart slots i (changes.slot k) below (valid.below k low) (none k low) place from to)

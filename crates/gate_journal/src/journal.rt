@@ -64,6 +64,9 @@ impl Journal {
         requires { (D.state disk.old).size ≡ image_len params.now.slots }
         ensures calls { AreCalls (D.state disk.old) (D.state disk.new) result }
         ensures recovers { IsObservable (D.state disk.old) → Recovers params.now.slots (D.state disk.old) (D.state disk.new) result }
+
+        // with an empty journal nothing is written
+        ensures quiet { IsObservable (D.state disk.old) → HasEmptyJournal params.now.slots (D.state disk.old).bytes → (D.state disk.new).writes ≡ (D.state disk.old).writes }
     {
         disk.sync()?;
         recover_durable(disk, params.slots())

@@ -193,6 +193,7 @@ pub fn recover_durable<D: Disk>(disk: &mut D, slots: u32) -> Result<(), DiskFaul
     requires durable { IsObservable (D.state disk.old) → IsDurable (D.state disk.old) }
     ensures calls { AreCalls (D.state disk.old) (D.state disk.new) result }
     ensures recovers { IsObservable (D.state disk.old) → RecoversDurable slots (D.state disk.old) (D.state disk.new) result }
+    ensures quiet { IsObservable (D.state disk.old) → HasEmptyJournal slots (D.state disk.old).bytes → ReadsOnly (D.state disk.old) (D.state disk.new) }
 {
     if is_journal_zero(disk, slots)? {
         return Ok(());
