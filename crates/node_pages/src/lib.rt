@@ -14,3 +14,6 @@ pub use cell::Cell;
 pub use group::cut_group;
 pub use page::{Page, decode_page, encode_page, label_in};
 pub use sequence::{Cells, PageList, PairList, Sequence};
+
+#[cfg(test)]
+mod tests;

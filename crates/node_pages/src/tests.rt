@@ -1,0 +1,123 @@
+//! What no clause says: slots worked out by hand, and each public call once.
+
+ghost use Rattle.std.specs.Prelude.{◌≡◌, ◌-◌, ◌≤◌, ◌++◌, length};
+ghost use Rattle.store_model.specs.Lists.{zeros};
+
+use super::*;
+use std::test::Fail;
+use store_base::{Key, Label, Lead, Slot, Value};
+
+/// The key that begins with these bytes and has zeros behind them.
+fn key(front: &[u8]) -> Key
+    requires { length front.now ≤ 124 }
+    ensures { result ≡ front.now ++ zeros (124 - length front.now) }
+{
+    let mut bytes = [0; 124];
+    bytes[..front.len()].copy_from_slice(front);
+    Key::new(bytes)
+}
+
+/// The slot with these bytes at their places and zeros elsewhere.
+fn slot_with(bytes: &[(usize, u8)]) -> Slot {
+    let mut slot = [0; 4096];
+    for (at, byte) in bytes {
+        if *at < 4096 {
+            slot[*at] = *byte;
+        }
+    }
+    slot
+}
+
+// The directory /a alone, in one slot: 01, 130 zeros, 01, 61 and 123 zeros, 00 01, 01, zeros.
+const ONE_DIRECTORY: [(usize, u8); 5] = [(0, 1), (131, 1), (132, 0x61), (257, 1), (258, 1)];
+
+#[test]
+fn slot_of_one_directory(rt: HostRuntime) -> Result<(), Fail> {
+    let wanted = slot_with(&ONE_DIRECTORY);
+    let label = Label {
+        level: 0,
+        lead: Lead::Start,
+        index: 0,
+    };
+    let page = Page::new(label, Cell::with_value(key(b"a"), Value::new(&[1])));
+    let mut slot = [7; 4096];
+    encode_page(&page, &mut slot);
+    assert!(rt; slot == wanted);
+    assert!(rt; *page.as_slot() == wanted);
+    assert_eq!(rt; page.len(), 1);
+
+    let found = decode_page(&wanted).ok_or("no page")?;
+    assert!(rt; found == page);
+    assert!(rt; found.label() == label);
+    assert!(rt; label_in(&wanted) == Some(label));
+    assert!(rt; label_in(&[0; 4096]).is_none());
+    Ok(())
+}
+
+// Slot 1 of the image of /Ua and /UU: page (1, start, 0) with the keys of /UU and /Ua.
+#[test]
+fn slot_of_two_keys(rt: HostRuntime) -> Result<(), Fail> {
+    let wanted = slot_with(&[(0, 1), (1, 1), (131, 2), (132, 0x55), (133, 0x55), (256, 0x55), (257, 0x61)]);
+    let label = Label {
+        level: 1,
+        lead: Lead::Start,
+        index: 0,
+    };
+    let mut page = Page::new(label, Cell::bare(key(b"UU")));
+    page.push(Cell::bare(key(b"Ua")));
+    assert!(rt; *page.as_slot() == wanted);
+
+    let found = decode_page(&wanted).ok_or("no page")?;
+    assert_eq!(rt; found.len(), 2);
+    assert!(rt; found.key(1) == key(b"Ua"));
+    let cell = found.cell(0);
+    assert!(rt; cell.key == key(b"UU"));
+    assert!(rt; cell.value.is_none());
+    Ok(())
+}
+
+// The slot of /a with one byte, or two, that make it no page's.
+#[test]
+fn slots_of_no_page(rt: HostRuntime) {
+    let wrong: [[(usize, u8); 2]; 11] = [
+        [(0, 0), (0, 0)],       // a free slot's first byte
+        [(0, 2), (0, 2)],       // no page's first byte
+        [(2, 2), (2, 2)],       // a label with neither start nor key
+        [(3, 1), (3, 1)],       // a start with a key's bytes
+        [(131, 0), (131, 0)],   // no cell
+        [(131, 11), (131, 11)], // more cells than there is room
+        [(131, 2), (131, 2)],   // a second cell of zeros, below the first
+        [(256, 1), (257, 1)],   // a value of 257 bytes
+        [(257, 0), (258, 0)],   // a value of no byte
+        [(259, 1), (259, 1)],   // filling behind the value
+        [(4095, 1), (514, 1)],  // bytes behind the last cell
+    ];
+    for [first, second] in wrong {
+        let mut slot = slot_with(&ONE_DIRECTORY);
+        for (at, byte) in [first, second] {
+            if at < 4096 {
+                slot[at] = byte;
+            }
+        }
+        assert!(rt; decode_page(&slot).is_none(), "at {}", first.0);
+    }
+}
+
+#[test]
+fn lists_and_groups(rt: HostRuntime) -> Result<(), Fail> {
+    let mut cells = Cells::new(rt.alloc());
+    assert!(rt; cells.is_empty());
+    let none = cut_group(rt.alloc(), 1, &Lead::Start, &Cells::new(rt.alloc()))?;
+    assert_eq!(rt; none.len(), 0);
+
+    cells.push(Cell::with_value(key(b"a"), Value::new(&[1])))?;
+    let pages = cut_group(rt.alloc(), 0, &Lead::Start, &cells)?;
+    assert_eq!(rt; pages.len(), 1);
+    assert!(rt; *pages.get(0).as_slot() == slot_with(&ONE_DIRECTORY));
+
+    let mut pairs = PairList::new(rt.alloc());
+    pairs.push((key(b"a"), Value::new(&[1, 2])))?;
+    assert_eq!(rt; pairs.as_slice().len(), 1);
+    assert_eq!(rt; pairs.get(0).1.as_slice().len(), 2);
+    Ok(())
+}
