@@ -113,3 +113,20 @@ fn a_file_is_a_disk(rt: HostRuntime) -> Result<(), Fail> {
     fs::remove_file(&rt, path)?;
     Ok(())
 }
+
+// Byte 0 is a gate, byte 1 a journal, byte 2 a value. With a sync between journal and gate a crash leaves the
+// old value, 5, or the new one, 9; without it, the gate open on what was never written.
+#[test]
+fn one_sync_too_few_shows(rt: HostRuntime) -> Result<(), Fail> {
+    let alloc = rt.alloc();
+    for (synced, image) in [(true, [1, 9, 5]), (false, [1, 1, 5])] {
+        let mut disk = MemDisk::new(alloc, &[0, 3, 5], 100)?;
+        disk.write_at(1, &[9])?;
+        if synced {
+            disk.sync()?;
+        }
+        disk.write_at(0, &[1])?;
+        assert_eq!(rt; disk.stopped(StopChoice::Fill(1)).bytes(), image.as_slice());
+    }
+    Ok(())
+}

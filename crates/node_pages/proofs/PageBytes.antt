@@ -11,7 +11,8 @@ use Rattle.store_model.specs.Labels.{Label, IsLabel, label_bytes}
 use Rattle.store_model.specs.Pages.{Cell, Page, page_room, IsCell, IsPage}
 use Rattle.store_model.specs.Images.{value_bytes, cell_bytes, page_bytes}
 use Rattle.store_model.proofs.ListsLemmas.{all_weaker, all_append, rising_nil, rising_cons, rising_head, rising_tail}
-use Rattle.store_base.proofs.LabelBytes.{length-label_bytes, label_bytes-same}
+use Rattle.store_model.proofs.ImagesLemmas.{length-label_bytes}
+use Rattle.store_model.proofs.TreesLemmasBytes.{labels_same}
 use borrow.Rule.Slice.PartMut.{put_mid}
 use Rattle.store_base.proofs.Orders.{IsBytes-take, IsBytes-drop}
 use Rattle.node_pages.specs.Cells.{appended, cell_size, cell_in, cells_in, page_in, SpellsCell, SpellsRising, SpellsCells, IsSlotOf}
@@ -219,7 +220,7 @@ pub page_bytes-same : (a b : Page) → IsPage a → IsPage b → page_bytes a �
 page_bytes-same a b a_is b_is same =
     let a_parts = parts_of_page a (page_bytes b) a_is.label same in
     let b_parts = parts_of_page b (page_bytes b) b_is.label refl in
-    let label : a.label ≡ b.label = label_bytes-same a.label b.label a_is.label b_is.label (sym (label_of_parts _ _ _ _ a_parts) ∙ label_of_parts _ _ _ _ b_parts) in
+    let label : a.label ≡ b.label = labels_same a.label b.label a_is.label b_is.label (sym (label_of_parts _ _ _ _ a_parts) ∙ label_of_parts _ _ _ _ b_parts) in
     sym (page_in-page_bytes a (page_bytes b) a_is.label a_is.cells same) ∙ ap (λ (l : Label). page_in l (page_bytes b)) label ∙ page_in-page_bytes b (page_bytes b) b_is.label b_is.cells refl
 
 -- what a slot that spells a page shows: byte 0, the label's bytes, its cells

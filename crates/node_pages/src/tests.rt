@@ -57,7 +57,15 @@ fn slot_of_one_directory(rt: HostRuntime) -> Result<(), Fail> {
 // Slot 1 of the image of /Ua and /UU: page (1, start, 0) with the keys of /UU and /Ua.
 #[test]
 fn slot_of_two_keys(rt: HostRuntime) -> Result<(), Fail> {
-    let wanted = slot_with(&[(0, 1), (1, 1), (131, 2), (132, 0x55), (133, 0x55), (256, 0x55), (257, 0x61)]);
+    let wanted = slot_with(&[
+        (0, 1),
+        (1, 1),
+        (131, 2),
+        (132, 0x55),
+        (133, 0x55),
+        (256, 0x55),
+        (257, 0x61),
+    ]);
     let label = Label {
         level: 1,
         lead: Lead::Start,
@@ -80,17 +88,17 @@ fn slot_of_two_keys(rt: HostRuntime) -> Result<(), Fail> {
 #[test]
 fn slots_of_no_page(rt: HostRuntime) {
     let wrong: [[(usize, u8); 2]; 11] = [
-        [(0, 0), (0, 0)],       // a free slot's first byte
-        [(0, 2), (0, 2)],       // no page's first byte
-        [(2, 2), (2, 2)],       // a label with neither start nor key
-        [(3, 1), (3, 1)],       // a start with a key's bytes
-        [(131, 0), (131, 0)],   // no cell
+        [(0, 0), (0, 0)], // a free slot's first byte
+        [(0, 2), (0, 2)], // no page's first byte
+        [(2, 2), (2, 2)], // a label with neither start nor key
+        [(3, 1), (3, 1)], // a start with a key's bytes
+        [(131, 0), (131, 0)], // no cell
         [(131, 11), (131, 11)], // more cells than there is room
-        [(131, 2), (131, 2)],   // a second cell of zeros, below the first
-        [(256, 1), (257, 1)],   // a value of 257 bytes
-        [(257, 0), (258, 0)],   // a value of no byte
-        [(259, 1), (259, 1)],   // filling behind the value
-        [(4095, 1), (514, 1)],  // bytes behind the last cell
+        [(131, 2), (131, 2)], // a second cell of zeros, below the first
+        [(256, 1), (257, 1)], // a value of 257 bytes
+        [(257, 0), (258, 0)], // a value of no byte
+        [(259, 1), (259, 1)], // filling behind the value
+        [(4095, 1), (514, 1)], // bytes behind the last cell
     ];
     for [first, second] in wrong {
         let mut slot = slot_with(&ONE_DIRECTORY);

@@ -1,9 +1,9 @@
 -- The header's bytes: their length, and that they say all that the parameters are.
-use Rattle.std.proofs.Common.{◌≡◌, ℕ, ◌-◌, ◌<◌, List, [], ◌∷◌, ◌++◌, length, take, drop, slice_index, refl, subst, ap, sym, ◌∙◌, arith, length-append}
+use Rattle.std.proofs.Common.{◌≡◌, ℕ, ◌-◌, ◌<◌, List, [], ◌∷◌, ◌++◌, length, take, drop, slice_index, refl, subst, ap, sym, ◌∙◌, arith}
 use Rattle.std.specs.Prelude.{codes, Result, Ok, Err, Some, IfOk}
 use Rattle.std.specs.Result.{result_ok}
 use Rattle.std.specs.Int.{w32, to_be_bytes, from_be_bytes}
-use Rattle.std.proofs.lemmas.List.{take_at, length-replicate}
+use Rattle.std.proofs.lemmas.List.{take_at}
 use Rattle.std.proofs.lemmas.Nat.{from_be_bytes-to_be_bytes_4}
 use Rattle.store_model.specs.declared.draw_kind.DrawKind.{DrawKind}
 use Rattle.store_model.specs.declared.draw_kind.DrawKind.TheVariants.{Ruler, Sha256}
@@ -21,13 +21,6 @@ unfolding header zero_filled
 header-front p valid =
     let rest : 4096 - length (header_front p) ≡ 4048 = omega (arith, valid.seed_length) in
     ap (λ (n : ℕ). header_front p ++ zeros n) rest
-
--- a header has 4,096 bytes
-pub length-header : (p : Parameters) → IsParameters p → length (header p) ≡ 4096
-length-header p valid =
-    let nil : ℕ = 0 in
-    let zeros_long : length (zeros 4048) ≡ 4048 = length-replicate 4048 nil in
-    ap length (header-front p valid) ∙ length-append (header_front p) (zeros 4048) ∙ omega (arith, valid.seed_length, zeros_long)
 
 kind_byte-below : (kind : DrawKind) → kind_byte kind < 256
 kind_byte-below Ruler = omega arith
@@ -83,14 +76,6 @@ header-read p block slots_bytes seed slots kind valid is_header slots_bytes_are 
     let height_same = ap (λ (b : List ℕ). slice_index b 12) (sym is_header) ∙ header-height p in
     let seed_same = seed_is ∙ ap (λ (b : List ℕ). take 32 (drop 16 b)) (sym is_header) ∙ header-seed p valid in
     λ i. record { slots = slots_same i; height = height_same i; kind = kind_is i; seed = seed_same i }
-
--- parameters are the same where their headers are
-pub header-same : (p q : Parameters) → IsParameters p → IsParameters q → header p ≡ header q → p ≡ q
-header-same p q p_valid q_valid same =
-    let kind = kind_byte-same p.kind q.kind (sym (header-kind p) ∙ ap (λ (b : List ℕ). slice_index b 13) same ∙ header-kind q) in
-    let read = header-read p (header q) (take 4 (drop 8 (header q))) (take 32 (drop 16 (header q))) (from_be_bytes w32 (take 4 (drop 8 (header q)))) p.kind p_valid same refl refl refl refl in
-    let written = header-read q (header q) (take 4 (drop 8 (header q))) (take 32 (drop 16 (header q))) (from_be_bytes w32 (take 4 (drop 8 (header q)))) p.kind q_valid refl refl refl (ap Some kind) refl in
-    sym read ∙ written
 
 -- what holds of an answer's value holds of it as an option's
 pub IfOk-result_ok : {T E : Type 0} (r : Result T E) (x : T) (P : T → Type 0) → Some x ≡ result_ok r → IfOk r P → P x

@@ -1,7 +1,7 @@
 -- The bytes of labels.
-use Rattle.std.proofs.Common.{◌≡◌, ℕ, ◌<◌, ◌≤◌, List, [], ◌∷◌, ◌++◌, length, take, drop, slice_index, refl, ap, sym, ◌∙◌, Bool, true, false, nat_eq, ◌&&◌, arith, length-append}
+use Rattle.std.proofs.Common.{◌≡◌, ℕ, ◌<◌, ◌≤◌, List, [], ◌∷◌, ◌++◌, length, take, drop, slice_index, refl, ap, sym, ◌∙◌, Bool, true, false, nat_eq, ◌&&◌, arith}
 use Rattle.store_model.proofs.ListsLemmas.{then_assoc, slice_cmp-append, be_bytes_order}
-use Rattle.store_base.proofs.Orders.{append-same, IsBytes-cons, IsBytes-append, IsBytes-zeros, IsBytes-take, IsBytes-drop, IsBytes-to_be_bytes, to_be_bytes-same, pointwise-append, pointwise-to_be_bytes}
+use Rattle.store_base.proofs.Orders.{IsBytes-cons, IsBytes-append, IsBytes-zeros, IsBytes-take, IsBytes-drop, IsBytes-to_be_bytes, pointwise-append, pointwise-to_be_bytes}
 use Rattle.std.proofs.lemmas.List.{take_at, take_all, length-take, length-drop, take-append-drop}
 use Rattle.std.proofs.lemmas.Nat.{be_bytes_4}
 use Rattle.std.proofs.Math.Bool.{and_comm}
@@ -15,28 +15,12 @@ use Rattle.std.specs.Int.{w32, to_be_bytes, from_be_bytes}
 use Rattle.std.specs.Ordering.{nat_cmp, ordering_then}
 use Rattle.std.specs.Cmp.Lexicographic.{slice_cmp, pointwise, bytes_decides}
 use Rattle.store_base.specs.Leads.{lead_of}
+use Rattle.store_model.proofs.ImagesLemmas.{length-lead_bytes}
 
 -- a lead that is no key is the start
 pub lead_of-no_key : (lead : DeclaredLead) → ((key : Key) → lead ≡ declared.Key key → ⊥) → lead_of lead ≡ Start
 lead_of-no_key declared.Start no_key = refl
 lead_of-no_key (declared.Key key) no_key = absurd (no_key key refl)
-
--- a lead has 125 bytes
-pub length-lead_bytes : (lead : Lead) → IsLead lead → length (lead_bytes lead) ≡ 125
-length-lead_bytes Start valid = refl
-length-lead_bytes (Leader key) valid = omega (arith, valid.0)
-
--- two leads are the same where their bytes are
-pub lead_bytes-same : (a b : Lead) → lead_bytes a ≡ lead_bytes b → a ≡ b
-lead_bytes-same Start Start same = refl
-lead_bytes-same Start (Leader key) same = cc
-lead_bytes-same (Leader key) Start same = cc
-lead_bytes-same (Leader key) (Leader other) same = cc
-
--- a label has 130 bytes
-pub length-label_bytes : (l : Label) → IsLabel l → length (label_bytes l) ≡ 130
-unfolding label_bytes
-length-label_bytes l valid = omega (arith, length-lead_bytes l.lead valid.lead, length-append (lead_bytes l.lead) (to_be_bytes w32 l.index))
 
 IsBytes-lead_bytes : (lead : Lead) → IsLead lead → IsBytes (lead_bytes lead)
 IsBytes-lead_bytes Start valid = IsBytes-zeros 125
@@ -48,17 +32,6 @@ unfolding label_bytes
 IsBytes-label_bytes l valid =
     IsBytes-cons l.level (lead_bytes l.lead ++ to_be_bytes w32 l.index) valid.level
     (IsBytes-append (lead_bytes l.lead) (to_be_bytes w32 l.index) (IsBytes-lead_bytes l.lead valid.lead) (IsBytes-to_be_bytes l.index))
-
--- two labels are the same where their bytes are
-pub label_bytes-same : (a b : Label) → IsLabel a → IsLabel b → label_bytes a ≡ label_bytes b → a ≡ b
-unfolding label_bytes
-label_bytes-same a b a_valid b_valid same =
-    let level : a.level ≡ b.level = cc in
-    let rest : lead_bytes a.lead ++ to_be_bytes w32 a.index ≡ lead_bytes b.lead ++ to_be_bytes w32 b.index = cc in
-    let parts = append-same (lead_bytes a.lead) (lead_bytes b.lead) (to_be_bytes w32 a.index) (to_be_bytes w32 b.index) (length-lead_bytes a.lead a_valid.lead ∙ sym (length-lead_bytes b.lead b_valid.lead)) rest in
-    let lead = lead_bytes-same a.lead b.lead parts.0 in
-    let index = to_be_bytes-same a.index b.index a_valid.index b_valid.index parts.1 in
-    λ i. record { level = level i; lead = lead i; index = index i }
 
 -- labels are ordered by level, then by lead, then by index
 pub label_cmp-parts : (a b : Label) → IsLabel a → IsLabel b → label_cmp a b ≡ ordering_then (ordering_then (nat_cmp a.level b.level) (slice_cmp nat_cmp (lead_bytes a.lead) (lead_bytes b.lead))) (nat_cmp a.index b.index)

@@ -1,19 +1,12 @@
 -- Byte strings one behind the other and numbers of four bytes: when they are equal, and their order.
 use Rattle.std.proofs.Common.{◌≡◌, ◌⊎◌, ℕ, ◌+◌, ◌/◌, ◌%◌, ◌^◌, ◌<◌, ◌≤◌, Bool, true, false, ◌&&◌, List, [], ◌∷◌, ◌++◌, length, take, drop, zero, suc, slice_index, nat_eq, refl, ap, sym, ◌∙◌, inl, inr, arith, rules, length-append}
-use Rattle.std.specs.Int.{w32, to_be_bytes, from_be_bytes}
+use Rattle.std.specs.Int.{w32, to_be_bytes}
 use Rattle.std.specs.Cmp.Lexicographic.{pointwise, unequal, bytes_decides}
 use Rattle.std.proofs.lemmas.List.{take_at, drop_at, drop_all, length-take, get_or-take, get_or-drop, get_or_past}
-use Rattle.std.proofs.lemmas.Nat.{from_be_bytes-to_be_bytes_4}
 use Rattle.std.proofs.lemmas.Bool.{cases_lt, eq-eqb, eqb-true}
 use borrow.Rule.Slice.PartMut.{put_mid}
 use Rattle.store_model.specs.Lists.{IsBytes, zeros}
-
--- equal strings whose fronts are as long have equal fronts and equal ends
-pub append-same : (xs ys us vs : List ℕ) → length xs ≡ length ys → xs ++ us ≡ ys ++ vs → (xs ≡ ys) × (us ≡ vs)
-append-same xs ys us vs long same = (
-  sym (take_at xs us (length xs) refl) ∙ ap (take (length xs)) same ∙ take_at ys vs (length xs) (sym long),
-  sym (drop_at xs us (length xs) refl) ∙ ap (drop (length xs)) same ∙ drop_at ys vs (length xs) (sym long),
-)
+use Rattle.store_model.proofs.TreesLemmasBytes.{four_bytes_same}
 
 -- a byte in front of bytes
 pub IsBytes-cons : (x : ℕ) (xs : List ℕ) → x < 256 → IsBytes xs → IsBytes (x ∷ xs)
@@ -59,10 +52,6 @@ put_mid-last front rest last n k front_is rest_is = rw (take_at front rest n fro
 pub drop-take : (n : ℕ) (xs : List ℕ) → drop n (take n xs) ≡ []
 drop-take n xs = drop_all n (take n xs) (omega (arith, length-take n xs))
 
--- numbers of four bytes are equal where their bytes are
-pub to_be_bytes-same : (m n : ℕ) → m < 2 ^ 32 → n < 2 ^ 32 → to_be_bytes w32 m ≡ to_be_bytes w32 n → m ≡ n
-to_be_bytes-same m n m_fits n_fits same = sym (from_be_bytes-to_be_bytes_4 m m_fits) ∙ ap (from_be_bytes w32) same ∙ from_be_bytes-to_be_bytes_4 n n_fits
-
 -- strings whose ends are as long are equal exactly where their fronts and their ends are
 pub pointwise-append : (xs ys us vs : List ℕ) → length us ≡ length vs → pointwise nat_eq (xs ++ us) (ys ++ vs) ≡ (pointwise nat_eq xs ys && pointwise nat_eq us vs)
 pointwise-append [] [] us vs long = refl
@@ -84,5 +73,5 @@ same_tests false false there back = refl
 pub pointwise-to_be_bytes : (m n : ℕ) → m < 2 ^ 32 → n < 2 ^ 32 → pointwise nat_eq (to_be_bytes w32 m) (to_be_bytes w32 n) ≡ nat_eq m n
 pointwise-to_be_bytes m n m_fits n_fits =
     same_tests (pointwise nat_eq (to_be_bytes w32 m) (to_be_bytes w32 n)) (nat_eq m n)
-    (λ same. eq-eqb m n (to_be_bytes-same m n m_fits n_fits ((bytes_decides (to_be_bytes w32 m) (to_be_bytes w32 n)).0 same)))
+    (λ same. eq-eqb m n (four_bytes_same m n m_fits n_fits ((bytes_decides (to_be_bytes w32 m) (to_be_bytes w32 n)).0 same)))
     (λ same. (bytes_decides (to_be_bytes w32 m) (to_be_bytes w32 n)).1 (ap (to_be_bytes w32) (eqb-true m n same)))

@@ -1,4 +1,5 @@
 pub mod Counts
+pub mod Entries
 pub mod Keys
 pub mod Leads
 pub mod Areas

@@ -1,9 +1,10 @@
 //! The types that every layer of the store shares: keys, labels, values, parameters and faults, the bytes
-//! that they have in an image, where its areas lie, and the slots that the table's calls work on. No call
-//! of this crate takes memory.
+//! that they have in an image, where its areas lie, and the slots that the table's calls work on. Only
+//! `Entries` takes memory.
 #![tactic(auto)]
 
 mod areas;
+mod entries;
 mod fault;
 mod header;
 mod key;
@@ -14,6 +15,7 @@ mod store_fault;
 mod value;
 
 pub use areas::{areas_fill_the_image, gate_at, image_len, mark_at, shadow_at, table_at};
+pub use entries::Entries;
 pub use fault::{DiskFault, NoMemory};
 pub use header::{read_header, write_header};
 pub use key::Key;

@@ -180,3 +180,16 @@ fn texts_of_faults(rt: HostRuntime) -> Result<(), Fail> {
     );
     Ok(())
 }
+
+#[test]
+fn children_of_a_directory(rt: HostRuntime) -> Result<(), Fail> {
+    let mut entries = Entries::new(rt.alloc());
+    assert!(rt; entries.is_empty());
+    entries.push(b"d", None)?;
+    entries.push(b"file", Some(7))?;
+    assert_eq!(rt; entries.len(), 2);
+    let (name, size) = entries.get(1);
+    assert_eq!(rt; name, b"file".as_slice());
+    assert_eq!(rt; size, Some(7));
+    Ok(())
+}

@@ -29,7 +29,7 @@ unfolding header
 length-header p is = length-zero_filled 4096 _ (omega (arith, is.seed_length))
 
 -- what leads a group takes 125 bytes of a label
-length-lead_bytes : (l : Lead) → IsLead l → length (lead_bytes l) ≡ 125
+pub length-lead_bytes : (l : Lead) → IsLead l → length (lead_bytes l) ≡ 125
 length-lead_bytes Start is = refl
 length-lead_bytes (Leader k) is = ap suc is.0
 

@@ -9,12 +9,12 @@ use Rattle.store_model.specs.declared.draw_kind.DrawKind.TheVariants.{Ruler, Sha
 use Rattle.store_model.specs.Lists.{zeros, zero_filled}
 use Rattle.store_model.specs.Parameters.{Parameters, IsParameters}
 use Rattle.store_model.specs.Pairs.{IsValue}
-use Rattle.store_model.specs.Labels.{Lead, Label, IsLead, IsLabel, lead_bytes, label_bytes}
+use Rattle.store_model.specs.Labels.{Lead, Label, IsLabel, lead_bytes, label_bytes}
 use Rattle.store_model.specs.Labels.Lead.{Start, Leader}
 use Rattle.store_model.specs.Pages.{Cell, Page, IsCellValue, IsCell, IsPage}
 use Rattle.store_model.specs.Placement.{Table}
 use Rattle.store_model.specs.Images.{kind_byte, header, value_bytes, cell_bytes, page_bytes, slot_bytes, table_bytes}
-use Rattle.store_model.proofs.ImagesLemmas.{length-label_bytes, IsSlot, length-slot_bytes}
+use Rattle.store_model.proofs.ImagesLemmas.{length-lead_bytes, length-label_bytes, IsSlot, length-slot_bytes}
 
 -- ---- lists that start alike
 
@@ -66,24 +66,19 @@ headers_same p q h g e =
 
 -- ---- labels
 
--- what leads a group takes 125 bytes
-length-lead : (l : Lead) → IsLead l → length (lead_bytes l) ≡ 125
-length-lead Start h = refl
-length-lead (Leader k) h = ap suc h.0
-
 -- and they tell it
-leads_same : (a b : Lead) → lead_bytes a ≡ lead_bytes b → a ≡ b
+pub leads_same : (a b : Lead) → lead_bytes a ≡ lead_bytes b → a ≡ b
 leads_same Start Start e = refl
 leads_same Start (Leader k) e = absurd (let first : 0 ≡ 1 = heads_same e in omega arith)
 leads_same (Leader k) Start e = absurd (let first : 1 ≡ 0 = heads_same e in omega arith)
 leads_same (Leader k) (Leader m) e = ap Leader (tails_same e)
 
 -- the bytes of a label tell it
-labels_same : (a b : Label) → IsLabel a → IsLabel b → label_bytes a ≡ label_bytes b → a ≡ b
+pub labels_same : (a b : Label) → IsLabel a → IsLabel b → label_bytes a ≡ label_bytes b → a ≡ b
 unfolding label_bytes
 labels_same a b h g e =
     let level : a.level ≡ b.level = heads_same e in
-    let rest = fronts_same (lead_bytes a.lead) (lead_bytes b.lead) (to_be_bytes w32 a.index) (to_be_bytes w32 b.index) (length-lead a.lead h.lead ∙ sym (length-lead b.lead g.lead)) (tails_same e) in
+    let rest = fronts_same (lead_bytes a.lead) (lead_bytes b.lead) (to_be_bytes w32 a.index) (to_be_bytes w32 b.index) (length-lead_bytes a.lead h.lead ∙ sym (length-lead_bytes b.lead g.lead)) (tails_same e) in
     let lead : a.lead ≡ b.lead = leads_same a.lead b.lead rest.0 in
     let index : a.index ≡ b.index = four_bytes_same a.index b.index h.index g.index rest.1 in
     λ i. record { level = level i; lead = lead i; index = index i }

@@ -1,0 +1,174 @@
+-- Lemmas on the path and the block number of a key.
+use Rattle.std.proofs.Common.{◌≡◌, ℕ, ◌+◌, ◌-◌, ◌<◌, ◌≤◌, ◌^◌, suc, zero, List, [], ◌∷◌, ◌++◌, length, take, drop, get_or, replicate, refl, sym, ap, ap₂, ◌∙◌, subst, arith, true, false, eqb, append_assoc, length-append, Some, ⊎_elim}
+use Rattle.std.specs.List.{list_all, slice_split}
+use Rattle.std.specs.Int.{w32, to_be_bytes, from_be_bytes}
+use Rattle.std.proofs.lemmas.List.{take_at, drop_at, take-append-drop, length-take-le, length-drop, get_or-drop, get_or_append_left, get_or-append_right, length-replicate}
+use Rattle.std.proofs.lemmas.Nat.{from_be_bytes-to_be_bytes_4}
+use Rattle.std.proofs.lemmas.Bool.{ne_eqb, eqb-true, cond_both, leb-true, cases_order}
+use Rattle.store_model.specs.Lists.{zeros, zero_filled}
+use Rattle.store_model.specs.Paths.{Path, is_name, is_path, is_root, name_bytes, field_len, field, key, parent, last_name}
+use Rattle.path_keys.specs.Fields.{names_in, IsField, with_zeros}
+use Rattle.path_keys.specs.Reading.{HasNoPath, IsOfField}
+use Rattle.path_keys.proofs.NameBytes.{IsWord, AreWords, words, names_in-name_bytes, names_in-append, names_in-split, first_true, second_true, is_field-split, root_test}
+use Rattle.path_keys.proofs.PathBytes.{bytes_split, last_word, field_split, len_split, front_is, word_above_zero}
+
+-- the field of a path, as such
+pub own_field : (p : Path) → is_path p ≡ true → IsField (field p) (field_len p) p
+own_field p h = record { path = h; bytes_are = refl; len_is = refl }
+
+pub field_of : (bytes : List ℕ) (p : Path) → is_path p ≡ true → bytes ≡ field p → IsField bytes (field_len p) p
+field_of bytes p h e = record { path = h; bytes_are = e; len_is = refl }
+
+get_or-zeros : (k i : ℕ) → get_or (zeros k) i 0 ≡ 0
+get_or-zeros zero i = refl
+get_or-zeros (suc k) zero = refl
+get_or-zeros (suc k) (suc i) = get_or-zeros k i
+
+-- the length without zeros at the end is that of the names and the bytes 0 between them
+pub used_is : (bytes : List ℕ) (used : ℕ) (p : Path) → is_path p ≡ true → is_root p ≡ false → bytes ≡ field p → length bytes ≡ 120
+    → (0 < used → get_or bytes (used - 1) 0 ≡ 0 → ⊥)
+    → ((i : ℕ) → used ≤ i → i < length bytes → get_or bytes i 0 ≡ 0)
+    → used + 1 ≡ field_len p
+used_is bytes used p h other e long front behind =
+    let f = field_of bytes p h e in
+    let a = name_bytes (parent p) in
+    let n = last_name p in
+    let len : field_len p ≡ length a + length n + 1 = len_split bytes (field_len p) p f other in
+    let fits : field_len p ≤ 120 = leb-true _ _ (second_true (list_all is_name p) _ h) in
+    let word : IsWord n = last_word p (words p h) other in
+    let some : 1 ≤ length n = word.some_byte in
+    let is : bytes ≡ a ++ (n ++ 0 ∷ zeros (120 - field_len p)) = field_split bytes (field_len p) p f other in
+    let filled : bytes ≡ (a ++ n) ++ zeros (suc (120 - field_len p)) = is ∙ sym (append_assoc a n (0 ∷ zeros (120 - field_len p))) in
+    let u = length a + length n in
+    let ul : length (a ++ n) ≡ u = length-append a n in
+    ⊎_elim (λ same. omega arith)
+    (λ o. ⊎_elim
+    (λ below. absurd (word_above_zero n (length n - 1) word (omega arith)
+    (sym (get_or-append_right a n (length a) (u - 1) 0 refl (omega arith) ∙ ap (λ i. get_or n i 0) (omega arith))
+    ∙ sym (get_or_append_left (a ++ n) (zeros (suc (120 - field_len p))) 0 (u - 1) (omega arith))
+    ∙ sym (ap (λ t. get_or t (u - 1) 0) filled) ∙ behind (u - 1) (omega arith) (omega arith))))
+    (λ above. absurd (front (omega arith)
+    (ap (λ t. get_or t (used - 1) 0) filled ∙ get_or-append_right (a ++ n) (zeros (suc (120 - field_len p))) u (used - 1) 0 ul (omega arith)
+    ∙ get_or-zeros (suc (120 - field_len p)) (used - 1 - u))))
+    o)
+    (cases_order used u)
+
+-- a field that is too full has no path
+pub full_has_none : (bytes : List ℕ) (used : ℕ) → length bytes ≡ 120
+    → (0 < used → get_or bytes (used - 1) 0 ≡ 0 → ⊥)
+    → ((i : ℕ) → used ≤ i → i < length bytes → get_or bytes i 0 ≡ 0)
+    → 120 ≤ used → HasNoPath bytes
+full_has_none bytes used long front behind full p h other e =
+    let fits : field_len p ≤ 120 = leb-true _ _ (second_true (list_all is_name p) _ h) in
+    let len : used + 1 ≡ field_len p = used_is bytes used p h other e long front behind in
+    omega arith
+
+-- the names of a field are those between its bytes 0
+pub names_between : (bytes : List ℕ) (used : ℕ) (p : Path) → IsField bytes (used + 1) p → is_root p ≡ false → slice_split (λ b. eqb b 0) (take used bytes) ≡ p
+names_between bytes used p h other =
+    let a = name_bytes (parent p) in
+    let n = last_name p in
+    let front : take used bytes ≡ a ++ n = ap (λ k. take k bytes) (omega arith) ∙ front_is bytes (used + 1) p h other in
+    ap (slice_split (λ b. eqb b 0)) front ∙ sym (names_in-split (a ++ n))
+    ∙ ap names_in (append_assoc a n (0 ∷ []) ∙ sym (bytes_split p other)) ∙ names_in-name_bytes p (words p h.path)
+
+pub other_has_none : (bytes : List ℕ) (used : ℕ) → length bytes ≡ 120
+    → (0 < used → get_or bytes (used - 1) 0 ≡ 0 → ⊥)
+    → ((i : ℕ) → used ≤ i → i < length bytes → get_or bytes i 0 ≡ 0)
+    → list_all is_name (slice_split (λ b. eqb b 0) (take used bytes)) ≡ false → HasNoPath bytes
+other_has_none bytes used long front behind bad p h other e =
+    let len : used + 1 ≡ field_len p = used_is bytes used p h other e long front behind in
+    let f : IsField bytes (used + 1) p = record { path = h; bytes_are = e; len_is = len } in
+    let names : list_all is_name (slice_split (λ b. eqb b 0) (take used bytes)) ≡ true = ap (list_all is_name) (names_between bytes used p f other) ∙ first_true _ _ h in
+    cc
+
+-- a list of zeros
+zeros_from_reads : (ys : List ℕ) → ((i : ℕ) → i < length ys → get_or ys i 0 ≡ 0) → ys ≡ zeros (length ys)
+zeros_from_reads [] h = refl
+zeros_from_reads (y ∷ ys) h = ap₂ ◌∷◌ (h 0 (omega arith)) (zeros_from_reads ys (λ i l. h (suc i) (omega arith)))
+
+with_zeros_for_zeros : (xs : List ℕ) → with_zeros 0 xs ≡ xs
+with_zeros_for_zeros [] = refl
+with_zeros_for_zeros (x ∷ xs) = ap₂ ◌∷◌ (cond_both (eqb x 0) 0 x (λ v. v ≡ x) (λ e. sym (eqb-true x 0 e)) (λ _. refl)) (with_zeros_for_zeros xs)
+
+-- a field whose parts between bytes 0 are names
+pub field_found : (bytes copy : List ℕ) (used : ℕ) → copy ≡ bytes → length bytes ≡ 120
+    → ((i : ℕ) → used ≤ i → i < length bytes → get_or bytes i 0 ≡ 0)
+    → used < 120 → list_all is_name (slice_split (λ b. eqb b 0) (take used bytes)) ≡ true
+    → IsField copy (used + 1) (slice_split (λ b. eqb b 0) (take used bytes))
+unfolding zero_filled
+field_found bytes copy used e long behind short names =
+    let xs = take used bytes in
+    let n : length xs ≡ used = length-take-le used bytes (omega arith) in
+    let rest : drop used bytes ≡ zeros (120 - used) =
+    zeros_from_reads (drop used bytes) (λ i l. get_or-drop used bytes i 0 ∙ behind (used + i) (omega arith) (omega (arith, l, length-drop used bytes)))
+    ∙ ap zeros (length-drop used bytes ∙ ap (λ k. k - used) long) in
+    let filled : copy ≡ zero_filled 120 (with_zeros 0 xs) =
+    e ∙ sym (take-append-drop used bytes) ∙ ap (λ t. xs ++ t) (rest ∙ ap (λ k. zeros (120 - k)) (sym n))
+    ∙ ap (λ t. t ++ zeros (120 - length t)) (sym (with_zeros_for_zeros xs)) in
+    subst (λ k. IsField copy (k + 1) (slice_split (λ b. eqb b 0) xs)) n (is_field-split copy 0 xs filled names (omega arith))
+
+pub path_found : (bytes copy : List ℕ) (used : ℕ) (p : Path) → copy ≡ bytes → IsField copy (used + 1) p → IsOfField bytes (Some p)
+path_found bytes copy used p e h =
+    (h.path, sym (root_test copy (used + 1) p h) ∙ ne_eqb (used + 1) 0 (λ z. omega (arith, z)), sym e ∙ h.bytes_are)
+
+-- a field is that of one path
+names_in-zeros : (k : ℕ) → names_in (zeros k) ≡ replicate k []
+unfolding names_in
+names_in-zeros zero = refl
+names_in-zeros (suc k) = ap (λ t. [] ∷ t) (names_in-zeros k)
+
+same_words : (p q : Path) (k j : ℕ) → AreWords p → AreWords q → p ++ replicate k [] ≡ q ++ replicate j [] → p ≡ q
+same_words [] [] k j hp hq e = refl
+same_words [] (m ∷ q) zero j hp hq e = cc
+same_words [] (m ∷ q) (suc k) j hp hq e = let same : [] ≡ m = cc in let some : 1 ≤ length m = (hq.0).some_byte in absurd (omega (arith, ap length same))
+same_words (n ∷ p) [] k zero hp hq e = cc
+same_words (n ∷ p) [] k (suc j) hp hq e = let same : n ≡ [] = cc in let some : 1 ≤ length n = (hp.0).some_byte in absurd (omega (arith, ap length same))
+same_words (n ∷ p) (m ∷ q) k j hp hq e =
+    let first : n ≡ m = cc in
+    let rest : p ++ replicate k [] ≡ q ++ replicate j [] = cc in
+    ap₂ ◌∷◌ first (same_words p q k j hp.1 hq.1 rest)
+
+pub field_names : (p : Path) → is_path p ≡ true → names_in (field p) ≡ p ++ replicate (120 - field_len p) []
+unfolding field zero_filled
+field_names p h = names_in-append p (zeros (120 - field_len p)) (words p h) ∙ ap (λ t. p ++ t) (names_in-zeros (120 - field_len p))
+
+pub same_path_from_field : (p q : Path) → is_path p ≡ true → is_path q ≡ true → field p ≡ field q → p ≡ q
+same_path_from_field p q hp hq e =
+    same_words p q (120 - field_len p) (120 - field_len q) (words p hp) (words q hq) (sym (field_names p hp) ∙ ap names_in e ∙ field_names q hq)
+
+pub length-field : (p : Path) → is_path p ≡ true → length (field p) ≡ 120
+unfolding field zero_filled
+length-field p h =
+    omega (arith, length-append (name_bytes p) (zeros (120 - field_len p)), length-replicate {A = ℕ} (120 - field_len p) 0, leb-true _ _ (second_true (list_all is_name p) _ h))
+
+pub take-key : (p : Path) (block : ℕ) → is_path p ≡ true → take 120 (key p block) ≡ field p
+unfolding key
+take-key p block h = take_at (field p) (to_be_bytes w32 block) 120 (length-field p h)
+
+pub drop-key : (p : Path) (block : ℕ) → is_path p ≡ true → drop 120 (key p block) ≡ to_be_bytes w32 block
+unfolding key
+drop-key p block h = drop_at (field p) (to_be_bytes w32 block) 120 (length-field p h)
+
+pub four_bytes : (bs : List ℕ) → length bs ≡ 4 → get_or bs 0 0 ∷ get_or bs 1 0 ∷ get_or bs 2 0 ∷ get_or bs 3 0 ∷ [] ≡ bs
+four_bytes (a ∷ b ∷ c ∷ d ∷ []) h = refl
+four_bytes [] h = absurd (omega arith)
+four_bytes (a ∷ []) h = absurd (omega arith)
+four_bytes (a ∷ b ∷ []) h = absurd (omega arith)
+four_bytes (a ∷ b ∷ c ∷ []) h = absurd (omega arith)
+four_bytes (a ∷ b ∷ c ∷ d ∷ e ∷ bs) h = absurd (omega arith)
+
+-- a key is spelled again by its path and its block number
+pub key_again : (bytes front back : List ℕ) (p : Path) (n : ℕ) → bytes ≡ front ++ back → front ≡ field p → to_be_bytes w32 n ≡ back → key p n ≡ bytes
+unfolding key
+key_again bytes front back p n e same read = ap₂ ◌++◌ (sym same) read ∙ sym e
+
+-- and by no other
+pub key_read : (bytes front back : List ℕ) (p q : Path) (n block : ℕ) → bytes ≡ front ++ back → length front ≡ 120 → front ≡ field p → to_be_bytes w32 n ≡ back
+    → is_path p ≡ true → is_path q ≡ true → n < 2 ^ 32 → block < 2 ^ 32 → bytes ≡ key q block → (p ≡ q) × (n ≡ block)
+key_read bytes front back p q n block parts long same read hp hq fits small e =
+    let ours : front ≡ field q = sym (ap (take 120) parts ∙ take_at front back 120 long) ∙ ap (take 120) e ∙ take-key q block hq in
+    let behind : back ≡ to_be_bytes w32 block = sym (ap (drop 120) parts ∙ drop_at front back 120 long) ∙ ap (drop 120) e ∙ drop-key q block hq in (
+      same_path_from_field p q hp hq (sym same ∙ ours),
+      sym (from_be_bytes-to_be_bytes_4 n fits) ∙ ap (from_be_bytes w32) (read ∙ behind) ∙ from_be_bytes-to_be_bytes_4 block small,
+    )

@@ -1,0 +1,19 @@
+-- The names in the bytes of a path's field.
+use Rattle.std.specs.Prelude.{◌≡◌, ℕ, List, [], ◌∷◌, ◌==◌, IsTrue, if◌then◌else◌, map}
+use Rattle.std.specs.List.{onto_first}
+use Rattle.store_model.specs.Paths.{Path, is_path, field, field_len}
+
+-- what each byte 0 ends, as a name
+unfoldable pub names_in : List ℕ → Path
+names_in [] = []
+names_in (c ∷ bytes) = if c == 0 then [] ∷ names_in bytes else onto_first c (names_in bytes)
+
+-- the bytes are the field of a path, and the number is its length without the zeros that fill it
+pub record IsField (bytes : List ℕ) (len : ℕ) (p : Path) : Type 0 where
+  pub path : IsTrue (is_path p)
+  pub bytes_are : bytes ≡ field p
+  pub len_is : len ≡ field_len p
+
+-- the bytes with a byte 0 for each separator
+abbrev pub with_zeros : ℕ → List ℕ → List ℕ
+with_zeros separator text = map (λ b. if b == separator then 0 else b) text

@@ -1,0 +1,286 @@
+//! Paths, held as the fields of keys.
+
+ghost use Rattle.std.specs.Prelude.{◌≡◌, ◌<◌, ◌-◌, ◌^◌, ◌↔◌, ℕ, [], length, take, drop, slice_set, false, nat_eq, Some, None, IfOk, IfSome, IfNone, IsErrOf, IsSome, IsNone, IsTrue};
+ghost use Rattle.std.specs.Cmp.{partial_equiv_from_equiv};
+ghost use Rattle.std.specs.Cmp.Lexicographic.{pointwise, lists_equiv, nat_list_eq_equiv};
+ghost use Rattle.std.specs.Int.{w32, to_be_bytes};
+ghost use Rattle.std.specs.declared.cmp.Ordering.TheVariants.{Less};
+ghost use Rattle.store_model.specs.Paths as model;
+ghost use Rattle.store_model.specs.Grammar.{path_of};
+ghost use Rattle.store_base.specs.Keys.{IsKey};
+
+use crate::names::{are_names, field_of_names, last_start, used_len};
+use byteorder::{BigEndian, ByteOrder};
+use std::marker::Model;
+use store_base::Key;
+use thiserror::Error;
+
+/// The bytes of a path's field in a key.
+const FIELD_LEN: usize = 120;
+
+/// Why bytes are no path that a key can hold.
+#[derive(Clone, Copy, Debug, PartialEq, Eq, Error)]
+pub enum PathFault {
+    /// They are no path of any length.
+    #[error("not a path")]
+    Syntax,
+    /// They are a path of more than 120 bytes.
+    #[error("the path has more than 120 bytes")]
+    TooLong,
+}
+
+/// A path that a key can hold: the root, or names one below the other.
+#[derive(Clone, Copy, Debug)]
+pub struct Path {
+    /// Each name with a byte 0 behind it, and zeros.
+    bytes: [u8; 120],
+    /// How many of the bytes are names and the zeros that end them.
+    len: u8,
+}
+
+impl Model for Path {
+    ghost use Rattle.std.specs.Prelude.{List, ℕ, take};
+    ghost use Rattle.store_model.specs.Paths.{field, field_len};
+    ghost use Rattle.path_keys.specs.Fields.{names_in, IsField};
+
+    ghost Value = { List (List ℕ) };
+
+    ghost view = { λ p. names_in (take p.len p.bytes) };
+
+    ghost invariant = { λ p. IsField p.bytes p.len (names_in (take p.len p.bytes)) };
+
+    ghost inverse = { λ names. record { bytes = field names; len = field_len names } };
+}
+
+impl Path {
+    ghost use Rattle.path_keys.specs.Reading.{IsOfNames, HasNoPath, IsOfField};
+
+    /// The root.
+    pub fn root() -> Self
+        ensures { result ≡ [] }
+    {
+        Path {
+            bytes: [0; 120],
+            len: 0,
+        }
+    }
+
+    /// Whether it is the root.
+    pub fn is_root(&self) -> bool
+        ensures value { result ≡ model.is_root self.now }
+        ensures valid { IsTrue (model.is_path self.now) }
+    {
+        self.len == 0
+    }
+
+    /// The path that a text spells: `/` for the root, and else `/` and a name once or more.
+    pub fn parse(text: &[u8]) -> Result<Path, PathFault>
+        ensures value { IfOk result (λ p. path_of text.now ≡ Some p) }
+        ensures valid { IfOk result (λ p. IsTrue (model.is_path p)) }
+        ensures syntax { IsErrOf result PathFault.Syntax ↔ (path_of text.now ≡ None) }
+        ensures too_long { IsErrOf result PathFault.TooLong ↔ (IsSome (path_of text.now) × (120 < length text.now)) }
+        ensures too_long_field { IsErrOf result PathFault.TooLong → IfSome (path_of text.now) (λ p. model.fits_field p ≡ false) }
+    {
+        let Some((first, names)) = text.split_first() else {
+            return Err(PathFault::Syntax);
+        };
+        if *first != b'/' {
+            return Err(PathFault::Syntax);
+        }
+        if names.is_empty() {
+            return Ok(Path::root());
+        }
+        Path::of_names(names)
+    }
+
+    /// The path of one or more names that are parted by `/`.
+    fn of_names(text: &[u8]) -> Result<Path, PathFault>
+        ensures { IsOfNames text.now result }
+    {
+        if !are_names(text, b'/') {
+            return Err(PathFault::Syntax);
+        }
+        if text.len() >= FIELD_LEN {
+            return Err(PathFault::TooLong);
+        }
+        Ok(Path {
+            bytes: field_of_names(text, b'/'),
+            len: text.len() as u8 + 1,
+        })
+    }
+
+    /// The key of a pair of this path.
+    pub fn key(&self, block: u32) -> Key
+        ensures value { result ≡ model.key self.now block }
+        ensures valid { IsKey result }
+        ensures path { IsTrue (model.is_path self.now) }
+    {
+        let mut bytes = [0; 124];
+        bytes[..FIELD_LEN].copy_from_slice(&self.bytes);
+        BigEndian::write_u32(&mut bytes[FIELD_LEN..], block);
+        Key::new(bytes)
+    }
+
+    /// The path and the block number of a key; nothing where its field is no path's, or the root's.
+    pub fn of_key(key: &Key) -> Option<(Path, u32)>
+        ensures some { IfSome result (λ found. model.key found.0 found.1 ≡ key.now) }
+        ensures valid { IfSome result (λ found. IsTrue (model.is_path found.0)) }
+        ensures below_root { IfSome result (λ found. model.is_root found.0 ≡ false) }
+        ensures none { IfNone result (HasNoPath (take 120 key.now)) }
+
+        // Each key of a path other than the root is read.
+        ensures only { (p : model.Path) (block : ℕ) → IsTrue (model.is_path p) → model.is_root p ≡ false
+            → block < 2 ^ 32 → key.now ≡ model.key p block → result ≡ Some (p, block) }
+    {
+        let (field, block) = key.as_bytes().split_at(FIELD_LEN);
+        let path = Path::of_field(field)?;
+        Some((path, block_of(block)))
+    }
+
+    /// The path other than the root that has this field.
+    fn of_field(field: &[u8]) -> Option<Path>
+        requires { length field.now ≡ 120 }
+        ensures { IsOfField field.now result }
+    {
+        let len = used_len(field);
+        if len >= FIELD_LEN || !are_names(&field[..len], 0) {
+            return None;
+        }
+        let mut bytes = [0; 120];
+        bytes.copy_from_slice(field);
+        Some(Path {
+            bytes,
+            len: len as u8 + 1,
+        })
+    }
+
+    /// The names, each with a byte 0 behind it.
+    fn names(&self) -> &[u8]
+        ensures value { result.now ≡ model.name_bytes self.now }
+        ensures valid { IsTrue (model.is_path self.now) }
+    {
+        &self.bytes[..self.len as usize]
+    }
+
+    /// The names behind those of the path at which or below which it lies.
+    fn names_below(&self, above: &Path) -> &[u8]
+        requires { IsTrue (model.is_at_or_inside self.now above.now) }
+        ensures value { result.now ≡ drop (model.field_len above.now) (model.name_bytes self.now) }
+        ensures valid { IsTrue (model.is_path self.now) }
+    {
+        let (_, below) = self.names().split_at(above.len as usize);
+        below
+    }
+
+    /// Where the last name begins in the field.
+    fn name_start(&self) -> usize
+        requires { model.is_root self.now ≡ false }
+        ensures value { result ≡ model.field_len (model.parent self.now) }
+        ensures within { result < model.field_len self.now }
+    {
+        last_start(&self.bytes[..self.len as usize - 1])
+    }
+
+    /// The last name.
+    pub fn name(&self) -> &[u8]
+        requires { model.is_root self.now ≡ false }
+        ensures { result.now ≡ model.last_name self.now }
+    {
+        &self.bytes[self.name_start()..self.len as usize - 1]
+    }
+
+    /// The path without its last name, and nothing for the root.
+    pub fn parent(&self) -> Option<Path>
+        ensures none { IsNone result ↔ IsTrue (model.is_root self.now) }
+        ensures value { IfSome result (λ q. q ≡ model.parent self.now) }
+        ensures valid { IfSome result (λ q. IsTrue (model.is_path q)) }
+    {
+        if self.is_root() {
+            return None;
+        }
+        let len = self.name_start();
+        let mut bytes = [0; 120];
+        bytes[..len].copy_from_slice(&self.bytes[..len]);
+        Some(Path {
+            bytes,
+            len: len as u8,
+        })
+    }
+
+    /// A key above those of this path and of all paths below it, and below those of each later path.
+    pub fn past(&self) -> Key
+        requires { model.is_root self.now ≡ false }
+        ensures value { result ≡ slice_set (model.key self.now 0) (model.field_len self.now - 1) 1 }
+        ensures valid { IsKey result }
+        ensures path { IsTrue (model.is_path self.now) }
+
+        // It stands behind the keys of the subtree.
+        ensures above { (q : model.Path) (block : ℕ) → IsTrue (model.is_path q) → IsTrue (model.is_at_or_inside q self.now)
+            → model.key_cmp (model.key q block) result ≡ Less }
+
+        // And it stands before the keys of each path behind this one that is not in the subtree.
+        ensures below { (q : model.Path) (block : ℕ) → IsTrue (model.is_path q) → model.is_at_or_inside q self.now ≡ false
+            → model.path_cmp self.now q ≡ Less → model.key_cmp result (model.key q block) ≡ Less }
+    {
+        let mut bytes = [0; 124];
+        bytes[..FIELD_LEN].copy_from_slice(&self.bytes);
+        bytes[self.len as usize - 1] = 1;
+        Key::new(bytes)
+    }
+
+    /// This path, which is the old one or lies below it, with the new one in the old one's place; nothing
+    /// where that has a field of more than 120 bytes.
+    pub fn replant(&self, old: &Path, new: &Path) -> Option<Path>
+        requires { IsTrue (model.is_at_or_inside self.now old.now) }
+        ensures value { IfSome result (λ p. p ≡ model.replanted old.now new.now self.now) }
+        ensures valid { IfSome result (λ p. IsTrue (model.is_path p)) }
+        ensures none { IsNone result ↔ (model.fits_field (model.replanted old.now new.now self.now) ≡ false) }
+    {
+        let below = self.names_below(old);
+        let start = new.len as usize;
+        let len = start + below.len();
+        if len > FIELD_LEN {
+            return None;
+        }
+        let mut bytes = new.bytes;
+        bytes[start..len].copy_from_slice(below);
+        Some(Path {
+            bytes,
+            len: len as u8,
+        })
+    }
+
+    /// Whether it lies strictly below the other path.
+    pub fn is_inside(&self, other: &Path) -> bool
+        ensures value { result ≡ model.is_inside self.now other.now }
+        ensures valid { IsTrue (model.is_path self.now) × IsTrue (model.is_path other.now) }
+    {
+        let len = other.len as usize;
+        other.len < self.len && self.bytes[..len] == other.bytes[..len]
+    }
+}
+
+impl PartialEq for Path {
+    ghost eq = { pointwise (pointwise nat_eq) };
+
+    ghost laws = { partial_equiv_from_equiv (lists_equiv nat_list_eq_equiv) };
+
+    fn eq(&self, other: &Self) -> bool
+        ensures value { result ≡ pointwise (pointwise nat_eq) self.now other.now }
+        ensures same { IsTrue result ↔ (self.now ≡ other.now) }
+    {
+        self.bytes == other.bytes
+    }
+}
+
+impl Eq for Path {
+    ghost laws = { lists_equiv nat_list_eq_equiv };
+}
+
+/// The block number that four bytes spell.
+fn block_of(bytes: &[u8]) -> u32
+    requires { length bytes.now ≡ 4 }
+    ensures { to_be_bytes w32 result ≡ bytes.now }
+{
+    u32::from_be_bytes([bytes[0], bytes[1], bytes[2], bytes[3]])
+}

@@ -1,0 +1,62 @@
+-- What is read from the fields of a line, and the program's commands seen as those of the definitions.
+use Rattle.std.specs.Prelude.{◌≡◌, ℕ, ◌<◌, ◌≤◌, true, false, List, [], ◌∷◌, length, Result, Ok, Err, Option, Some, None, ◌==◌}
+use Rattle.std.specs.List.{slice_split}
+use Rattle.store_model.specs.Paths.{Path, fits_field}
+use Rattle.store_model.specs.Grammar.{path_of, ◌>>=◌}
+use Rattle.store_model.specs.Commands as model
+use Rattle.store_model.specs.Commands.Command.{Make, Write, Cut, Rename, Remove, Prune, ListChildren, Read, Space, Digest}
+use Rattle.store_model.specs.declared.refusal.Refusal.{Refusal}
+use Rattle.store_model.specs.declared.refusal.Refusal.TheVariants as refusals
+use Rattle.script_lines.specs.declared.command.Command.{Command}
+use Rattle.script_lines.specs.declared.command.Command.TheVariants as declared
+use Rattle.script_lines.specs.declared.fields.Fields.{Fields}
+use Rattle.script_lines.specs.declared.fields.Fields.TheVariants as fields
+
+-- the program's command, as the definitions have it
+abbrev pub command_of : Command → model.Command
+command_of (declared.Make p) = Make p
+command_of (declared.Write p at bytes) = Write p at bytes
+command_of (declared.Cut p len) = Cut p len
+command_of (declared.Rename p q) = Rename p q
+command_of (declared.Remove p) = Remove p
+command_of (declared.Prune p) = Prune p
+command_of (declared.List p) = ListChildren p
+command_of (declared.Read p at len) = Read p at len
+command_of declared.Space = Space
+command_of declared.Digest = Digest
+
+-- what the program read, as the definitions have it
+abbrev pub reading_of : Result Command Refusal → Result model.Command Refusal
+reading_of (Ok c) = Ok (command_of c)
+reading_of (Err refusal) = Err refusal
+
+-- the parts of a line between its spaces
+abbrev pub parts_of : List ℕ → List (List ℕ)
+parts_of text = slice_split (λ c. c == 0x20) text
+
+-- the fields are all the parts, or the parts are more than four
+abbrev pub AreFields : Fields → List (List ℕ) → Type 0
+AreFields (fields.One w) parts = parts ≡ w.now ∷ []
+AreFields (fields.Two w a) parts = parts ≡ w.now ∷ a.now ∷ []
+AreFields (fields.Three w a b) parts = parts ≡ w.now ∷ a.now ∷ b.now ∷ []
+AreFields (fields.Four w a b c) parts = parts ≡ w.now ∷ a.now ∷ b.now ∷ c.now ∷ []
+AreFields fields.More parts = 4 < length parts
+
+-- what a field says of a path: the path, or the refusal `syntax` or `path`
+abbrev pub ReadsPath : List ℕ → Result Path Refusal → Type 0
+ReadsPath text (Ok p) = (path_of text ≡ Some p) × (fits_field p ≡ true)
+ReadsPath text (Err refusals.Syntax) = path_of text ≡ None
+ReadsPath text (Err refusals.Path) = (p : Path) × (path_of text ≡ Some p) × (fits_field p ≡ false)
+ReadsPath text (Err _) = ⊥
+
+-- no field is longer than the line
+abbrev pub FitFields : ℕ → Fields → Type 0
+FitFields size (fields.One w) = length w.now ≤ size
+FitFields size (fields.Two w a) = length a.now ≤ size
+FitFields size (fields.Three w a b) = length b.now ≤ size
+FitFields size (fields.Four w a b c) = length c.now ≤ size
+FitFields size fields.More = Unit {0}
+
+-- the command that renames one path to another
+abbrev pub rename_of : List ℕ → List ℕ → Option model.Command
+rename_of from to = path_of from >>= λ p. path_of to >>= λ q. Some (Rename p q)

@@ -1,0 +1,38 @@
+-- The program's replies seen as those of the definitions, and what the parts of a listing do to a sink.
+use Rattle.std.specs.Prelude.{◌≡◌, ℕ, ◌^◌, ◌<◌, ◌≤◌, List, ◌++◌, Result, Ok, Err}
+use Rattle.store_base.specs.Counts.{Rose}
+use Rattle.store_model.specs.Commands as model
+use Rattle.store_model.specs.Commands.Reply.{Acknowledged, Content, Listing, PagesUsed, ImageDigest, Refused}
+use Rattle.script_lines.specs.declared.reply.Reply.{Reply}
+use Rattle.script_lines.specs.declared.reply.Reply.TheVariants as declared
+use Rattle.script_lines.specs.SinkState.{SinkState, IsObservable, AppendsPrefix}
+
+-- the program's reply, as the definitions have it
+abbrev pub reply_of : Reply → model.Reply
+reply_of declared.Ok = Acknowledged
+reply_of (declared.Bytes bytes) = Content bytes
+reply_of (declared.Listing entries) = Listing entries
+reply_of (declared.Space used slots) = PagesUsed used slots
+reply_of (declared.Digest digest) = ImageDigest digest
+reply_of (declared.No refusal) = Refused refusal
+
+-- A part of the text was put out, from its front on.
+pub record PutsPart (old new : SinkState) (before after : List ℕ) : Type 0 where
+  pub part : List ℕ
+  pub text : before ≡ part ++ after
+  pub observable : new.is_observable ≡ old.is_observable
+  pub faults : old.faults ≤ new.faults
+  pub written : IsObservable old → new.written ≡ old.written ++ part
+
+-- The text could not be put out, or a prefix of it alone.
+pub record FailsPart (old new : SinkState) (text : List ℕ) : Type 0 where
+  pub observable : new.is_observable ≡ old.is_observable
+  pub faults : old.faults ≤ new.faults
+  pub last_fault : new.faults < 2 ^ 64
+  pub cause : Rose old.faults new.faults
+  pub written : IsObservable old → AppendsPrefix old.written new.written text
+
+-- what putting out the front of a text, to make room, does
+abbrev pub MakesRoom : {T E : Type 0} → SinkState → SinkState → List ℕ → List ℕ → Result T E → Type 0
+MakesRoom old new before after (Ok _) = PutsPart old new before after
+MakesRoom old new before after (Err _) = FailsPart old new before

@@ -1,0 +1,150 @@
+//! The fields of a line, and what a field says: a path, a number, bytes.
+
+ghost use Rattle.std.specs.Prelude.{◌≡◌, ◌≤◌, ◌/◌, ◌∷◌, [], true, length, ◌==◌, nat_le, if◌then◌else◌, None, Some, IfSome, MatchOption};
+ghost use Rattle.std.specs.List.{list_all, position};
+ghost use Rattle.store_model.specs.Grammar.{number_of, content_of, ok_value, is_numeral, is_digit, digits_value, number_limit};
+ghost use Rattle.hex.specs.Hex.{decode_of};
+ghost use Rattle.script_lines.specs.Parsing.{parts_of, AreFields, FitFields, ReadsPath};
+
+use crate::lines::MAX_LINE;
+use path_keys::{Path, PathFault};
+use store_base::{Bytes, Refusal};
+
+/// The fields of a line, which exactly one space parts: the word, and up to three more.
+#[derive(Clone, Copy, Debug)]
+pub enum Fields<'a> {
+    /// The word alone.
+    One(&'a [u8]),
+    /// The word and one field.
+    Two(&'a [u8], &'a [u8]),
+    /// The word and two fields.
+    Three(&'a [u8], &'a [u8], &'a [u8]),
+    /// The word and three fields.
+    Four(&'a [u8], &'a [u8], &'a [u8], &'a [u8]),
+    /// More fields than a command has.
+    More,
+}
+
+/// Where the first space stands.
+fn find_space(text: &[u8]) -> Option<usize>
+    ensures { result ≡ position (λ c. c == 0x20) text.now }
+{
+    text.iter().position(|c| *c == b' ')
+}
+
+/// The first field, and what stands behind the space that ends it, if one does.
+fn cut_field(text: &[u8]) -> (&[u8], Option<&[u8]>)
+    ensures parts { MatchOption result.1 (parts_of text.now ≡ result.0.now ∷ []) (λ rest. parts_of text.now ≡ result.0.now ∷ parts_of rest.now) }
+    ensures word { length result.0.now ≤ length text.now }
+    ensures rest { IfSome result.1 (λ rest. length rest.now ≤ length text.now) }
+{
+    match find_space(text) {
+        Some(place) => (&text[..place], Some(&text[place + 1..])),
+        None => (text, None),
+    }
+}
+
+/// The fields of a line.
+pub fn split_fields(text: &[u8]) -> Fields<'_>
+    ensures value { AreFields result (parts_of text.now) }
+    ensures fits { FitFields (length text.now) result }
+{
+    let (word, rest) = cut_field(text);
+    let Some(rest) = rest else {
+        return Fields::One(word);
+    };
+    let (first, rest) = cut_field(rest);
+    let Some(rest) = rest else {
+        return Fields::Two(word, first);
+    };
+    let (second, rest) = cut_field(rest);
+    let Some(rest) = rest else {
+        return Fields::Three(word, first, second);
+    };
+    let (third, rest) = cut_field(rest);
+    if rest.is_some() {
+        return Fields::More;
+    }
+    Fields::Four(word, first, second, third)
+}
+
+/// The path that a field spells.
+pub fn read_path(text: &[u8]) -> Result<Path, Refusal>
+    ensures { ReadsPath text.now result }
+{
+    match Path::parse(text) {
+        Ok(path) => Ok(path),
+        Err(PathFault::Syntax) => Err(Refusal::Syntax),
+        Err(PathFault::TooLong) => Err(Refusal::Path),
+    }
+}
+
+/// Whether a field is digits, with no leading zero but `0` itself.
+fn is_numeral(text: &[u8]) -> bool
+    ensures { result ≡ is_numeral text.now }
+{
+    match text {
+        [] => false,
+        [digit] => digit.is_ascii_digit(),
+        [first, ..] => *first != b'0' && are_digits(text),
+    }
+}
+
+/// Whether each byte is a digit.
+fn are_digits(text: &[u8]) -> bool
+    ensures { result ≡ list_all is_digit text.now }
+{
+    text.iter().all(|c| c.is_ascii_digit())
+}
+
+/// The number that a field spells, where it is at most 4,294,967,295.
+#[tactic(auto, unfolding(store_model::specs::Grammar::number_of))]
+pub fn read_number(text: &[u8]) -> Option<u32>
+    ensures { result ≡ number_of text.now }
+{
+    if !is_numeral(text) {
+        return None;
+    }
+    digits_value(text)
+}
+
+/// The number that digits spell, where it is at most 4,294,967,295.
+fn digits_value(digits: &[u8]) -> Option<u32>
+    requires { list_all is_digit digits.now ≡ true }
+    ensures { result ≡ (if nat_le (digits_value digits.now) number_limit then Some (digits_value digits.now) else None) }
+{
+    let mut value = 0u32;
+    for digit in digits {
+        let tens = value.checked_mul(10)?;
+        value = tens.checked_add(u32::from(*digit - b'0'))?;
+    }
+    Some(value)
+}
+
+/// The bytes that a field spells: `-` for none, or pairs of hexadecimal digits of either case.
+pub fn read_bytes(text: &[u8]) -> Option<Bytes>
+    requires { length text.now ≤ MAX_LINE }
+    ensures { result ≡ content_of text.now }
+{
+    if text == b"-".as_slice() {
+        return Some(Bytes::new(&[]));
+    }
+    if text.is_empty() {
+        return None;
+    }
+    let mut room = [0; 4096];
+    let bytes = &mut room[..text.len() / 2];
+    if decode_pairs(text, bytes) {
+        Some(Bytes::new(bytes))
+    } else {
+        None
+    }
+}
+
+/// Decodes pairs of hexadecimal digits, and says whether the text is that.
+fn decode_pairs(text: &[u8], bytes: &mut [u8]) -> bool
+    requires { length bytes.old ≡ length text.now / 2 }
+    ensures { ok_value (decode_of text.now) ≡ (if result then Some bytes.new else None) }
+{
+    hex::decode_to_slice(text, bytes).is_ok()
+}

@@ -1,0 +1,23 @@
+//! What stands between a script and the store: sources and sinks of bytes, the lines of a script, the
+//! commands that they spell, and the text of replies.
+#![tactic(auto)]
+
+mod command;
+mod fault;
+mod fields;
+mod lines;
+mod memory;
+mod reply;
+mod sink;
+mod source;
+mod std_io;
+mod text;
+
+pub use command::{Command, parse_command};
+pub use fault::{SinkFault, SourceFault};
+pub use lines::{Line, LineFault, LineReader, MAX_LINE, MAX_SCRIPT};
+pub use memory::{MemSink, MemSource};
+pub use reply::{Reply, write_reply};
+pub use sink::Sink;
+pub use source::Source;
+pub use std_io::{StdSink, StdSource};

@@ -1,0 +1,196 @@
+//! Replies, and the text that they have.
+
+ghost use Rattle.std.specs.Prelude.{◌≡◌, ◌≤◌, ◌+◌, ◌<◌, ◌++◌, length, OnOk, codes};
+ghost use Rattle.std.specs.Fmt.{decimal};
+ghost use Rattle.store_model.specs.Commands.{reply_text, child_line, refusal_text};
+ghost use Rattle.store_model.specs.Commands.Reply.{Content, Listing, PagesUsed, ImageDigest, Refused};
+ghost use Rattle.script_lines.specs.SinkState.{IsPut};
+ghost use Rattle.script_lines.specs.Replies.{reply_of, MakesRoom};
+
+use crate::fault::SinkFault;
+use crate::sink::Sink;
+use crate::text::Text;
+use store_base::{Bytes, Entries, Refusal};
+
+/// The most bytes that the line of a child has.
+const MAX_CHILD: usize = 134;
+
+/// What a command answers.
+#[derive(Debug, Drop)]
+pub enum Reply {
+    /// It was carried out.
+    Ok,
+    /// The bytes that were read.
+    Bytes(Bytes),
+    /// The children of a directory, in the order of their names.
+    Listing(Entries),
+    /// How many slots are used, and how many there are.
+    Space {
+        /// The slots that are used.
+        used: u32,
+        /// The slots that there are.
+        slots: u32,
+    },
+    /// SHA-256 of the image.
+    Digest([u8; 32]),
+    /// It was refused, and nothing changed.
+    No(Refusal),
+}
+
+/// Writes the text of a reply: each of its lines, ended by LF. One put does, but for a long listing.
+/// `SinkFault`: a put failed. A prefix of the text may have been written, and nothing else.
+#[tactic(auto, unfolding(store_model::specs::Commands::reply_text))]
+pub fn write_reply<W: Sink>(sink: &mut W, reply: &Reply) -> Result<(), SinkFault>
+    ensures { IsPut (W.state sink.old) (W.state sink.new) (reply_text (reply_of reply.now)) result }
+{
+    match reply {
+        Reply::Ok => sink.put(b"ok\n"),
+        Reply::Bytes(bytes) => sink.put(content_line(bytes).as_slice()),
+        Reply::Listing(entries) => write_listing(sink, entries),
+        Reply::Space { used, slots } => sink.put(usage_line(*used, *slots).as_slice()),
+        Reply::Digest(digest) => sink.put(digest_line(digest).as_slice()),
+        Reply::No(refusal) => sink.put(refusal_line(*refusal).as_slice()),
+    }
+}
+
+/// The line of bytes that were read.
+#[tactic(auto, unfolding(store_model::specs::Commands::reply_text, store_model::specs::Commands::content_text, store_model::specs::Commands::child_line, store_model::specs::Commands::refusal_text))]
+fn content_line(bytes: &Bytes) -> Text
+    ensures { result ≡ reply_text (Content bytes.now) }
+{
+    let bytes = bytes.as_slice();
+    let mut text = Text::new();
+    text.push(b"ok ");
+    if bytes.is_empty() {
+        text.push(b"-\n");
+        return text;
+    }
+    text.push_hex(bytes);
+    text.push(b"\n");
+    text
+}
+
+/// The line of the slots that are used and that there are.
+#[tactic(auto, unfolding(store_model::specs::Commands::reply_text, store_model::specs::Commands::content_text, store_model::specs::Commands::child_line, store_model::specs::Commands::refusal_text))]
+fn usage_line(used: u32, slots: u32) -> Text
+    ensures { result ≡ reply_text (PagesUsed used slots) }
+{
+    let mut text = Text::new();
+    text.push(b"space ");
+    text.push_number(used);
+    text.push(b" ");
+    text.push_number(slots);
+    text.push(b"\n");
+    text
+}
+
+/// The line of a digest.
+#[tactic(auto, unfolding(store_model::specs::Commands::reply_text, store_model::specs::Commands::content_text, store_model::specs::Commands::child_line, store_model::specs::Commands::refusal_text))]
+fn digest_line(digest: &[u8; 32]) -> Text
+    ensures { result ≡ reply_text (ImageDigest digest.now) }
+{
+    let mut text = Text::new();
+    text.push(b"digest ");
+    text.push_hex(digest);
+    text.push(b"\n");
+    text
+}
+
+/// The line of a refusal.
+#[tactic(auto, unfolding(store_model::specs::Commands::reply_text, store_model::specs::Commands::content_text, store_model::specs::Commands::child_line, store_model::specs::Commands::refusal_text))]
+fn refusal_line(refusal: Refusal) -> Text
+    ensures { result ≡ reply_text (Refused refusal) }
+{
+    let mut text = Text::new();
+    text.push(b"no ");
+    push_refusal(&mut text, refusal);
+    text.push(b"\n");
+    text
+}
+
+/// Adds the word of a refusal, and the two numbers of `full`.
+#[tactic(auto, unfolding(store_model::specs::Commands::reply_text, store_model::specs::Commands::content_text, store_model::specs::Commands::child_line, store_model::specs::Commands::refusal_text))]
+fn push_refusal(text: &mut Text, refusal: Refusal)
+    requires { length text.old ≤ 64 }
+    ensures value { text.new ≡ text.old ++ refusal_text refusal }
+    ensures fits { length text.new ≤ length text.old + 64 }
+{
+    match refusal {
+        Refusal::Long => text.push(b"long"),
+        Refusal::Syntax => text.push(b"syntax"),
+        Refusal::Path => text.push(b"path"),
+        Refusal::Root => text.push(b"root"),
+        Refusal::Parent => text.push(b"parent"),
+        Refusal::Exists => text.push(b"exists"),
+        Refusal::Missing => text.push(b"missing"),
+        Refusal::Inside => text.push(b"inside"),
+        Refusal::Kind => text.push(b"kind"),
+        Refusal::Gap => text.push(b"gap"),
+        Refusal::Big => text.push(b"big"),
+        Refusal::NotEmpty => text.push(b"notempty"),
+        Refusal::Full { need, slots } => push_full(text, need, slots),
+    }
+}
+
+/// Adds the word `full` and its two numbers.
+#[tactic(auto, unfolding(store_model::specs::Commands::reply_text, store_model::specs::Commands::content_text, store_model::specs::Commands::child_line, store_model::specs::Commands::refusal_text))]
+fn push_full(text: &mut Text, need: u32, slots: u32)
+    requires { length text.old ≤ 64 }
+    ensures value { text.new ≡ text.old ++ (codes "full " ++ decimal need ++ codes " " ++ decimal slots) }
+    ensures fits { length text.new ≤ length text.old + 64 }
+{
+    text.push(b"full ");
+    text.push_number(need);
+    text.push(b" ");
+    text.push_number(slots);
+}
+
+/// Writes a listing: the line of each child, and `end`.
+fn write_listing<W: Sink>(sink: &mut W, entries: &Entries) -> Result<(), SinkFault>
+    ensures { IsPut (W.state sink.old) (W.state sink.new) (reply_text (Listing entries.now)) result }
+{
+    let mut text = Text::new();
+    for index in 0..entries.len() {
+        let (name, size) = entries.get(index);
+        make_room(sink, &mut text)?;
+        push_child(&mut text, name, size);
+    }
+    make_room(sink, &mut text)?;
+    text.push(b"end\n");
+    sink.put(text.as_slice())
+}
+
+/// Puts the text out where a child's line might not fit behind it.
+fn make_room<W: Sink>(sink: &mut W, text: &mut Text) -> Result<(), SinkFault>
+    ensures puts { MakesRoom (W.state sink.old) (W.state sink.new) text.old text.new result }
+    ensures room { OnOk result (length text.new + MAX_CHILD ≤ Text.MAX_LEN) }
+{
+    if text.len() > Text::MAX_LEN - MAX_CHILD {
+        sink.put(text.as_slice())?;
+        text.clear();
+    }
+    Ok(())
+}
+
+/// Adds the line of a child.
+#[tactic(auto, unfolding(store_model::specs::Commands::reply_text, store_model::specs::Commands::content_text, store_model::specs::Commands::child_line, store_model::specs::Commands::refusal_text))]
+fn push_child(text: &mut Text, name: &[u8], size: Option<u32>)
+    requires room { length text.old + MAX_CHILD ≤ Text.MAX_LEN }
+    requires name { length name.now ≤ Entries.MAX_NAME }
+    ensures { text.new ≡ text.old ++ child_line (name.now, size) }
+{
+    match size {
+        None => {
+            text.push(b"d ");
+            text.push(name);
+            text.push(b"\n");
+        }
+        Some(size) => {
+            text.push(b"f ");
+            text.push(name);
+            text.push(b" ");
+            text.push_number(size);
+            text.push(b"\n");
+        }
+    }
+}

@@ -1,0 +1,96 @@
+//! A text of bounded length, held in place.
+
+ghost use Rattle.std.specs.Prelude.{◌≡◌, ◌≤◌, ◌+◌, ◌*◌, ◌++◌, ◌∷◌, [], length};
+ghost use Rattle.std.specs.Fmt.{decimal};
+ghost use Rattle.hex.specs.Hex.{encode_lower};
+
+use arrayvec::ArrayVec;
+use itoa::Buffer;
+use std::marker::Model;
+
+/// A text of at most 8,448 bytes. It takes no memory.
+#[derive(Drop)]
+pub(crate) struct Text {
+    bytes: ArrayVec<u8, 8448>,
+}
+
+impl Model for Text {
+    ghost use Rattle.std.specs.Prelude.{List, ℕ};
+
+    ghost Value = { List ℕ };
+
+    ghost view = { λ t. t.bytes.items };
+}
+
+impl Text {
+    /// The most bytes that a text has.
+    pub(crate) const MAX_LEN: usize = 8448;
+
+    /// The most bytes that `push_hex` adds the digits of.
+    pub(crate) const MAX_HEX: usize = 4096;
+
+    /// No text.
+    pub(crate) fn new() -> Self
+        ensures { result ≡ [] }
+    {
+        Text {
+            bytes: ArrayVec::new(),
+        }
+    }
+
+    /// Its bytes.
+    pub(crate) fn as_slice(&self) -> &[u8]
+        ensures { result.now ≡ self.now }
+    {
+        self.bytes.as_slice()
+    }
+
+    /// How many bytes it has.
+    pub(crate) fn len(&self) -> usize
+        ensures { result ≡ length self.now }
+    {
+        self.bytes.len()
+    }
+
+    /// Leaves no text.
+    pub(crate) fn clear(&mut self)
+        ensures { self.new ≡ [] }
+    {
+        self.bytes.clear();
+    }
+
+    /// Adds bytes.
+    pub(crate) fn push(&mut self, bytes: &[u8])
+        requires { length self.old + length bytes.now ≤ Self.MAX_LEN }
+        ensures { self.new ≡ self.old ++ bytes.now }
+    {
+        let Ok(()) = self.bytes.try_extend_from_slice(bytes) else {
+            unreachable!()
+        };
+    }
+
+    /// Adds a number in decimal digits, 10 at most.
+    pub(crate) fn push_number(&mut self, number: u32)
+        requires { length self.old + 10 ≤ Self.MAX_LEN }
+        ensures value { self.new ≡ self.old ++ decimal number }
+        ensures fits { length self.new ≤ length self.old + 10 }
+    {
+        let mut digits = Buffer::new();
+        self.push(digits.format(number).as_bytes());
+    }
+
+    /// Adds two lower-case hexadecimal digits for each byte.
+    pub(crate) fn push_hex(&mut self, bytes: &[u8])
+        requires few { length bytes.now ≤ Self.MAX_HEX }
+        requires fits { length self.old + 2 * length bytes.now ≤ Self.MAX_LEN }
+        ensures value { self.new ≡ self.old ++ encode_lower bytes.now }
+        ensures size { length self.new ≡ length self.old + 2 * length bytes.now }
+    {
+        let mut room = [0; 8192];
+        let digits = &mut room[..2 * bytes.len()];
+        let Ok(()) = hex::encode_to_slice(bytes, digits) else {
+            unreachable!()
+        };
+        self.push(digits);
+    }
+}
