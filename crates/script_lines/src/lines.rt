@@ -53,6 +53,7 @@ fn find_end(bytes: &[u8]) -> Option<usize>
 
 /// Reads the lines of a script one after another. A script is cut at each LF, bytes after the last LF are
 /// a line, and empty lines are passed over. All of its room is taken as it is made.
+#[derive(Drop)]
 pub struct LineReader<R: Source> {
     source: R,
     buffer: Vec<u8>,
