@@ -6,7 +6,7 @@ use Rattle.std.proofs.lemmas.Bool.{cases_lt, cases_eq, lt-ltb, le-ltb, eq-eqb, n
 use Rattle.store_model.specs.Scripts.{line_limit}
 use Rattle.script_lines.specs.Lines.{HasNoEnd, ended_lines, EndsAt}
 use Rattle.script_lines.specs.SourceState.{SourceState, IsObservable}
-use Rattle.script_lines.specs.LineState.{LineState, left, to_come, Answers, NextLine, KeepsSource, Adds, Fills}
+use Rattle.script_lines.specs.LineState.{LineState, left, to_come, Answers, NextLine, KeepsSource, Adds, Fills, unread}
 use Rattle.script_lines.specs.declared.lines.Line.{Line}
 use Rattle.script_lines.specs.declared.lines.Line.TheVariants as answers
 use Rattle.script_lines.specs.declared.lines.LineFault.{LineFault}
@@ -32,6 +32,7 @@ module _ {R : Type 0} (state : R → SourceState) where
     pub in_limit : b.taken ≤ b.limit
     pub observable : (state b.source).is_observable ≡ (state a.source).is_observable
     pub faults : (state a.source).faults ≤ (state b.source).faults
+    pub shrinks : unread b ≤ unread a
 
   -- a line is looked for, and no LF stands among the bytes held that were scanned
   pub record Searches (a b : LineState R) (scanned : ℕ) : Type 0 where
@@ -49,6 +50,7 @@ module _ {R : Type 0} (state : R → SourceState) where
     pub plain : HasNoEnd (passed ++ b.held)
     pub long : line_limit < length (passed ++ b.held)
     pub moves : IsObservable (state a.source) → Moves state a b passed
+    pub shorter : unread b + length passed ≤ unread a
 
   -- a source tells its bytes as long as it did before
   pub still_observable : (a b : LineState R) → (state b.source).is_observable ≡ (state a.source).is_observable → IsObservable (state a.source) → IsObservable (state b.source)
@@ -59,6 +61,7 @@ module _ {R : Type 0} (state : R → SourceState) where
   GoesOn-adds a b c count goes keeps adds =
       let taken : c.taken ≡ b.taken + count = ap (λ (r : LineState R). r.taken) adds.same in
       let limit : c.limit ≡ b.limit = ap (λ (r : LineState R). r.limit) adds.same in
+      let held : c.held ≡ b.held ++ adds.piece = ap (λ (r : LineState R). r.held) adds.same in
       record {
         live = ap (λ (r : LineState R). r.is_live) adds.same ∙ goes.live;
         going = ap (λ (r : LineState R). r.is_ended) adds.same ∙ goes.going;
@@ -68,6 +71,7 @@ module _ {R : Type 0} (state : R → SourceState) where
         in_limit = omega (arith, adds.in_limit);
         observable = keeps.observable ∙ goes.observable;
         faults = omega (arith, keeps.faults, goes.faults);
+        shrinks = omega (arith, ap length held, length-append b.held adds.piece, adds.count_is, adds.in_limit, goes.shrinks);
       }
 
   -- all bytes held are passed
@@ -80,7 +84,7 @@ module _ {R : Type 0} (state : R → SourceState) where
   pub GoesOn-all : (a b c : LineState R) → GoesOn a b → c ≡ record b { held = drop (length b.held) b.held } → GoesOn a c
   GoesOn-all a b c goes same =
       subst (λ (r : LineState R). GoesOn a r) (sym same)
-      (record { live = goes.live; going = goes.going; text = goes.text; limit = goes.limit; taken = goes.taken; in_limit = goes.in_limit; observable = goes.observable; faults = goes.faults })
+      (record { live = goes.live; going = goes.going; text = goes.text; limit = goes.limit; taken = goes.taken; in_limit = goes.in_limit; observable = goes.observable; faults = goes.faults; shrinks = omega (arith, length-drop (length b.held) b.held, goes.shrinks) })
 
   -- nothing is held then
   pub none_held : (b c : LineState R) → c ≡ record b { held = drop (length b.held) b.held } → c.held ≡ []
@@ -103,6 +107,21 @@ module _ {R : Type 0} (state : R → SourceState) where
     pub moves_taken : (count : ℕ) → Adds state c d count → IsObservable (state a.source) → Moves state a d (passes.passed ++ b.held)
     moves_taken count adds observable = Moves-adds state a c d (passes.passed ++ b.held) count (moves_passed observable) (observable_passed observable) adds
 
+    -- what is passed is no longer to come
+    pub shorter_taken : (count : ℕ) → Adds state c d count → unread d + (length passes.passed + length b.held) ≤ unread a
+    shorter_taken count adds =
+        let none : c.held ≡ [] = none_held b c same in
+        let taken : d.taken ≡ c.taken + count = ap (λ (r : LineState R). r.taken) adds.same in
+        let limit : d.limit ≡ c.limit = ap (λ (r : LineState R). r.limit) adds.same in
+        let held : d.held ≡ c.held ++ adds.piece = ap (λ (r : LineState R). r.held) adds.same in
+        let same_taken : c.taken ≡ b.taken = ap (λ (r : LineState R). r.taken) same in
+        let same_limit : c.limit ≡ b.limit = ap (λ (r : LineState R). r.limit) same in
+        omega (arith, ap length held, ap length none, length-append c.held adds.piece, adds.count_is, adds.in_limit, passes.shorter)
+
+    -- so less is to come once the long line is answered
+    pub long_falls : (count : ℕ) (e : LineState R) → Adds state c d count → unread e ≤ unread d → unread e < unread a
+    long_falls count e adds less = omega (arith, less, shorter_taken count adds, length-append passes.passed b.held, passes.long)
+
     -- bytes are taken, and no LF stands among them
     pub PassesLong-adds : (count : ℕ) → KeepsSource {T = ℕ} (state c.source) (state d.source) (Ok count) → Adds state c d count → HasNoEnd d.held → PassesLong a d
     PassesLong-adds count keeps adds plain = record {
@@ -111,6 +130,7 @@ module _ {R : Type 0} (state : R → SourceState) where
       plain = HasNoEnd-append (passes.passed ++ b.held) d.held passes.plain plain;
       long = omega (arith, passes.long, length-append (passes.passed ++ b.held) d.held);
       moves = moves_taken count adds;
+      shorter = omega (arith, shorter_taken count adds, length-append passes.passed b.held);
     }
 
     -- an LF ends the long line
@@ -174,7 +194,7 @@ module _ {R : Type 0} (state : R → SourceState) where
   Searches-blank a b c searches ends same =
       let goes = searches.goes in
       subst (λ (r : LineState R). Searches state a r 0) (sym same) (record {
-        goes = record { live = goes.live; going = goes.going; text = goes.text; limit = goes.limit; taken = goes.taken; in_limit = goes.in_limit; observable = goes.observable; faults = goes.faults };
+        goes = record { live = goes.live; going = goes.going; text = goes.text; limit = goes.limit; taken = goes.taken; in_limit = goes.in_limit; observable = goes.observable; faults = goes.faults; shrinks = omega (arith, length-drop 1 b.held, goes.shrinks) };
         within = omega arith;
         plain = λ k d h. absurd (omega arith);
         whole = λ some. let before = searches.whole some in (before.0, sym (ended_lines-blank (drop 1 b.held)) ∙ sym (ap ended_lines ends.parts) ∙ before.1);

@@ -71,6 +71,23 @@ module _ {R : Type 0} (state : R → SourceState) where
         ap (ended_within state a) sum ∙ ab.ended bc.before_end (b.limit - b.taken) ∙ bc.none;
   }
 
+  -- the lines answered before a fault are those that were ended by the bytes taken
+  pub answered_at_fault : (a b c : LineState R) (texts : List (List ℕ)) → Answers state a b texts → FailsBetween state b c → ended_within state a (c.taken - a.taken) ≡ texts
+  answered_at_fault a b c texts ab bc =
+      let sum : c.taken - a.taken ≡ (b.taken - a.taken) + (c.taken - b.taken) = omega (arith, ab.takes.taken, bc.takes.taken) in
+      ap (ended_within state a) sum ∙ ab.ended bc.before_end (c.taken - b.taken) ∙ ap (λ (ts : List (List ℕ)). texts ++ ts) bc.none ∙ append-nil texts
+
+  -- the lines answered before the limit are those that were ended by as many bytes as may be taken
+  pub answered_at_limit : (a b c : LineState R) (texts : List (List ℕ)) → Answers state a b texts → PassesLimit state b c → ended_within state a (a.limit - a.taken) ≡ texts
+  answered_at_limit a b c texts ab bc =
+      let sum : a.limit - a.taken ≡ (b.taken - a.taken) + (b.limit - b.taken) = omega (arith, ab.takes.taken, ab.takes.limit, bc.within) in
+      ap (ended_within state a) sum ∙ ab.ended bc.before_end (b.limit - b.taken) ∙ ap (λ (ts : List (List ℕ)). texts ++ ts) bc.none ∙ append-nil texts
+
+  -- the lines answered before the end are all
+  pub answered_at_end : (a b c : LineState R) (texts : List (List ℕ)) → Answers state a b texts → Answers state b c [] → to_come state c ≡ [] → lines (to_come state a) ≡ texts
+  answered_at_end a b c texts ab bc none =
+      ab.lines ∙ ap (λ (ts : List (List ℕ)). texts ++ ts) (bc.lines ∙ ap lines none ∙ lines-none) ∙ append-nil texts
+
   -- Bytes that were held or taken are passed: so many are held in the end.
   pub record Moves (a b : LineState R) (passed : List ℕ) : Type 0 where
     pub takes : Takes state a b

@@ -32,6 +32,17 @@ pub record KeepsSource {T : Type 0} (old new : SourceState) (result : Result T L
   pub faults : old.faults ≤ new.faults
   pub cause : result ≡ Err causes.Source → Rose old.faults new.faults
 
+-- How many bytes may still come: those that are held, and those that may be taken.
+abbrev pub unread : {R : Type 0} → LineState R → ℕ
+unread reader = length reader.held + (reader.limit - reader.taken)
+
+-- it falls where a line is answered
+abbrev pub Falls : {R : Type 0} → LineState R → LineState R → Result Line LineFault → Type 0
+Falls old new (Ok answers.Text) = unread new < unread old
+Falls old new (Ok answers.Long) = unread new < unread old
+Falls old new (Ok answers.End) = Unit {0}
+Falls old new (Err fault) = Unit {0}
+
 -- What a call does to any reader: it is live where the call did not fail, ended where the answer is the end, and never
 -- takes more than it may.
 pub record EndsCall {R : Type 0} (old new : LineState R) (result : Result Line LineFault) : Type 0 where
@@ -41,6 +52,7 @@ pub record EndsCall {R : Type 0} (old new : LineState R) (result : Result Line L
   pub in_limit : new.taken ≤ new.limit
   pub ended : result ≡ Ok answers.End → new.is_ended ≡ true
   pub too_long : result ≡ Err causes.TooLong → new.taken ≡ new.limit
+  pub falls : Falls old new result
 
 -- what the last answer shows
 abbrev pub IsShown : Result Line LineFault → List ℕ → Type 0

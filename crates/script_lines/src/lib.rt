@@ -11,6 +11,8 @@ mod reply;
 mod sink;
 mod source;
 mod std_io;
+#[cfg(test)]
+mod tests;
 mod text;
 
 pub use command::{Command, parse_command};

@@ -53,6 +53,7 @@ fn find_end(bytes: &[u8]) -> Option<usize>
 
 /// Reads the lines of a script one after another. A script is cut at each LF, bytes after the last LF are
 /// a line, and empty lines are passed over. All of its room is taken as it is made.
+#[derive(Drop)]
 pub struct LineReader<R: Source> {
     source: R,
     buffer: Vec<u8>,
@@ -229,7 +230,7 @@ impl<R: Source> LineReader<R> {
         }
     }
 
-    /// Passes over a line that is longer than the limit, of which the bytes held are the beginning.
+    /// Passes over a line of more bytes than a line may have, of which the bytes held are the beginning.
     fn pass_long(&mut self) -> Result<Line, LineFault>
         requires live { self.old.is_live ≡ true }
         requires going { self.old.is_ended ≡ false }

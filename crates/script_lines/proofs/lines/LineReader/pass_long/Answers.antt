@@ -8,11 +8,12 @@ use Rattle.script_lines.proofs.lines.LineReader.pass_long.Goals as goal
 
 pub loop-self-init : goal.loop-self-init
 loop-self-init g c = record {
-  goes = record { live = c.requires.live; going = c.requires.going; text = c.requires.text; limit = refl; taken = omega arith; in_limit = c.requires.in_limit; observable = refl; faults = omega arith };
+  goes = record { live = c.requires.live; going = c.requires.going; text = c.requires.text; limit = refl; taken = omega arith; in_limit = c.requires.in_limit; observable = refl; faults = omega arith; shrinks = omega arith };
   passed = [];
   plain = c.requires.plain;
   long = c.requires.long;
   moves = λ observable. Moves-refl g.R.Source.state c.args.self.now;
+  shorter = omega arith;
 }
 
 pub returns-in_err-fill-clause-answer : goal.returns-in_err-fill-clause-answer

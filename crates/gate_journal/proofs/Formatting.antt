@@ -1,0 +1,170 @@
+-- The images on the way of a format.
+use Rattle.std.proofs.Common.{◌≡◌, ℕ, zero, suc, ◌+◌, ◌-◌, ◌*◌, ◌<◌, ◌≤◌, List, [], ◌∷◌, ◌++◌, length, take, drop, replicate, slice_index, Option, None, refl, sym, ap, ◌∙◌, inl, inr, arith, length-append, length-take, length-drop, append_assoc, get_or-take, get_or-drop, Result, Ok, OnOk, IsErr}
+use Rattle.std.specs.List.{flat_map}
+use Rattle.std.proofs.lemmas.Bool.{cases_eq, cases_lt}
+use Rattle.std.proofs.lemmas.List.{ext_get_or, get_or_append_left, get_or-append_right, get_or-replicate, length-replicate, replicate-append-replicate}
+use Rattle.store_model.specs.Lists.{zeros, zero_filled, numbers_from, cut_before, in_order}
+use Rattle.store_model.specs.Parameters.{Parameters, IsParameters, image_len}
+use Rattle.store_model.specs.Trees.{empty_tree}
+use Rattle.store_model.specs.Pairs.{pairs}
+use Rattle.store_model.specs.Draws.{Draw, draw_of}
+use Rattle.store_model.specs.Pages.{Page, level_list, groups, level_pages, pages_of_pairs, pages}
+use Rattle.store_model.specs.Placement.{place, put_all}
+use Rattle.store_model.specs.Images.{header, slot_bytes, table_bytes, layout, journal_len}
+use Rattle.disk_model.specs.DiskState.{DiskState, IsDurable, IsSound}
+use Rattle.disk_model.specs.DiskCalls.{LeavesOnly, overwrite}
+use Rattle.disk_model.proofs.Crashes.{LeavesOnly-trans, LeavesOnly-weaken}
+use Rattle.disk_model.proofs.Images.{slice_index-overwrite}
+use Rattle.store_model.proofs.ImagesLemmas.{length-header}
+use Rattle.gate_journal.specs.Places.{IsApart, SameAt, Keeps, Reaches, ReadsOnly}
+use Rattle.gate_journal.specs.Formats.{IsNoImage, IsEmptyOrNone, HasEmptyRest, Formats}
+use Rattle.gate_journal.proofs.Areas.{journal_end, marks_end, shadow_end, table_end}
+use Rattle.gate_journal.proofs.Places.{Keeps-durable}
+use Rattle.gate_journal.proofs.Stages.{no_claim, on_ok_map, phase_leaves, reads_after}
+
+-- The image of the empty tree: its table is empty.
+no_level : (d : Draw) (level : ℕ) → level_pages d [] level ≡ []
+unfolding level_pages groups level_list cut_before
+no_level d level = refl
+
+no_levels : (d : Draw) (first count : ℕ) → flat_map (level_pages d []) (numbers_from first count) ≡ []
+unfolding numbers_from
+no_levels d first zero = refl
+no_levels d first (suc count) = ap (λ (l : List Page). l ++ flat_map (level_pages d []) (numbers_from (suc first) count)) (no_level d first) ∙ no_levels d (suc first) count
+
+no_pages : (p : Parameters) → pages empty_tree p ≡ []
+unfolding pages pairs pages_of_pairs
+no_pages p = no_levels (draw_of p) 0 (draw_of p).height
+
+empty_slots : (n : ℕ) → table_bytes (replicate n None) ≡ zeros (4096 * n)
+unfolding table_bytes slot_bytes
+empty_slots zero = let none : 0 ≡ 4096 * 0 = omega arith in ap zeros none
+empty_slots (suc n) =
+    let more : 4096 + 4096 * n ≡ 4096 * suc n = omega arith in
+    ap (λ (l : List ℕ). zeros 4096 ++ l) (empty_slots n) ∙ replicate-append-replicate 4096 (4096 * n) 0 ∙ ap zeros more
+
+draw_slots : (p : Parameters) → (draw_of p).slots ≡ p.slots
+unfolding draw_of
+draw_slots p = refl
+
+empty_place : (p : Parameters) → place (draw_of p) [] ≡ replicate (draw_of p).slots None
+unfolding place put_all in_order
+empty_place p = refl
+
+pub layout_empty : (p : Parameters) → layout empty_tree p ≡ header p ++ zeros (image_len p.slots - 4096)
+unfolding layout
+layout_empty p =
+    let n = journal_len p.slots in
+    let rest : n + 4096 * p.slots ≡ image_len p.slots - 4096 = omega (arith, journal_end p.slots, table_end p.slots) in
+    ap (λ (l : List Page). header p ++ zeros n ++ table_bytes (place (draw_of p) l)) (no_pages p)
+    ∙ ap (λ (t : List (Option Page)). header p ++ zeros n ++ table_bytes t) (empty_place p)
+    ∙ ap (λ (m : ℕ). header p ++ zeros n ++ table_bytes (replicate m None)) (draw_slots p)
+    ∙ ap (λ (l : List ℕ). header p ++ zeros n ++ l) (empty_slots p.slots)
+    ∙ append_assoc (header p) (zeros n) (zeros (4096 * p.slots)) ∙ ap (λ (l : List ℕ). header p ++ l) (replicate-append-replicate n (4096 * p.slots) 0) ∙ ap (λ (m : ℕ). header p ++ zeros m) rest
+
+pub first_of_header : (p : Parameters) → slice_index (header p) 0 ≡ 72
+unfolding header zero_filled
+first_of_header p = refl
+
+pub no_image : (image : List ℕ) → (slice_index image 0 ≡ 72 → ⊥) → IsNoImage image
+no_image image differs p names =
+    differs (sym (get_or-take 4096 image 0 0 (let low : 0 < 4096 = omega arith in low)) ∙ ap (λ (l : List ℕ). slice_index l 0) names.header_is ∙ first_of_header p)
+
+pub header_written : (block old : List ℕ) → length block ≡ 4096 → 4096 ≤ length old → (place : ℕ) → 1 ≤ place → place < 4096 → slice_index (overwrite old 1 (take 4095 (drop 1 block))) place ≡ slice_index block place
+header_written block old long within place low high =
+    let part = take 4095 (drop 1 block) in
+    let part_long : length part ≡ 4095 = omega (arith, length-take 4095 (drop 1 block), length-drop 1 block, long) in
+    let few : place - 1 < 4095 = omega arith in
+    let there : 1 + (place - 1) ≡ place = omega arith in
+    slice_index-overwrite old 1 part place (omega (arith, part_long)) low (omega (arith, part_long)) ∙ get_or-take 4095 (drop 1 block) (place - 1) 0 few ∙ get_or-drop 1 block (place - 1) 0 ∙ ap (slice_index block) there
+
+module _ (p : Parameters) (valid : IsParameters p) where
+  -- every byte is that of the image of the empty tree
+  pub whole_empty : (image : List ℕ) → length image ≡ image_len p.slots → slice_index image 0 ≡ 72 → HasEmptyRest p image → image ≡ layout empty_tree p
+  whole_empty image long first rest =
+      let n = image_len p.slots - 4096 in
+      let head = length-header p valid in
+      let size : 4096 + n ≡ image_len p.slots = omega (arith, table_end p.slots, shadow_end p.slots, marks_end p.slots) in
+      let lengths : length image ≡ length (header p ++ zeros n) = omega (arith, length-append (header p) (zeros n), head, length-replicate {A = ℕ} n 0, size, long) in
+      ext_get_or 0 image (header p ++ zeros n) lengths (λ i low. elim (cases_lt i 4096) [
+        | inl in_header ↦
+            (elim (cases_eq i 0) [
+              | inl start ↦ ap (slice_index image) start ∙ first ∙ sym (first_of_header p) ∙ ap (slice_index (header p)) (sym start)
+              | inr later ↦ rest.header_is i (omega arith) in_header
+            ])
+            ∙ sym (get_or_append_left (header p) (zeros n) 0 i (omega (arith, head)))
+        | inr behind ↦
+            rest.rest_is i behind (omega (arith, size, long)) ∙ sym (get_or-replicate n (i - 4096) 0 0 (omega (arith, size, long)))
+            ∙ sym (get_or-append_right (header p) (zeros n) 4096 i 0 head behind)
+      ])
+      ∙ sym (layout_empty p)
+
+  -- while the first byte is written
+  pub while_first : (before image : List ℕ) → length before ≡ image_len p.slots → HasEmptyRest p before → SameAt (IsApart 0 1) before image → IsEmptyOrNone p image
+  while_first before image long rest same = elim (cases_eq (slice_index image 0) 72) [
+    | inl first ↦
+        inr
+        (whole_empty image (same.same_length ∙ long) first (record {
+          header_is = λ place low high. same.same place (inr (omega arith)) ∙ rest.header_is place low high;
+          rest_is = λ place low high. same.same place (inr (omega arith)) ∙ rest.rest_is place low high;
+        }))
+    | inr differs ↦ inl (no_image image differs)
+  ]
+
+-- while all the rest is written
+pub while_rest : (p : Parameters) (before image : List ℕ) (n : ℕ) → (slice_index before 0 ≡ 72 → ⊥) → SameAt (IsApart 1 n) before image → IsEmptyOrNone p image
+while_rest p before image n differs same = inl (no_image image (λ first. differs (sym (same.same 0 (inl (let low : 0 < 1 = omega arith in low))) ∙ first)))
+
+-- The states of the disk between the two phases.
+module _ (p : Parameters) (valid : IsParameters p) (old : DiskState) (durable : IsDurable old) (differs : slice_index old.bytes 0 ≡ 72 → ⊥) where
+  pub leaves_rest : (mid : DiskState) → Keeps (IsApart 1 (image_len p.slots - 1)) old mid → LeavesOnly old mid (IsEmptyOrNone p)
+  leaves_rest mid keeps =
+      LeavesOnly-weaken old mid (SameAt (IsApart 1 (image_len p.slots - 1)) old.bytes) (IsEmptyOrNone p) (λ image same. while_rest p old.bytes image (image_len p.slots - 1) differs same)
+      (Keeps-durable (IsApart 1 (image_len p.slots - 1)) old mid durable keeps)
+
+  pub formats_fault : {T E : Type 0} (new : DiskState) (result : Result T E) → IsErr result → IsSound new → Keeps (IsApart 1 (image_len p.slots - 1)) old new → Formats p old new result
+  formats_fault new result fails sound keeps = record {
+    crash = leaves_rest new keeps;
+    reads = reads_after old new (IsEmptyOrNone p) sound (leaves_rest new keeps);
+    durable = no_claim result (IsDurable new) fails;
+    done = no_claim result (new.bytes ≡ layout empty_tree p) fails;
+  }
+
+  pub formats : {T E U F : Type 0} (mid new : DiskState) (value : U) (result : Result T E) → length mid.bytes ≡ image_len p.slots → IsSound new → Reaches {E = F} (IsApart 1 (image_len p.slots - 1)) (HasEmptyRest p) old mid (Ok value) → IsDurable mid
+      → Reaches (IsApart 0 1) (λ image. image ≡ overwrite mid.bytes 0 (72 ∷ [])) mid new result → OnOk result (IsDurable new) → Formats p old new result
+  formats mid new value result long sound rest mid_durable first new_durable =
+      let within : 0 + 1 ≤ length mid.bytes = omega (arith, long, table_end p.slots, shadow_end p.slots, marks_end p.slots) in
+      let leaves = phase_leaves (IsApart 0 1) (IsEmptyOrNone p) old mid new (leaves_rest mid rest.keeps) mid_durable first.keeps (λ image same. while_first p valid mid.bytes image long rest.done same) in
+      record {
+        crash = leaves;
+        reads = reads_after old new (IsEmptyOrNone p) sound leaves;
+        durable = new_durable;
+        done = on_ok_map result (new.bytes ≡ overwrite mid.bytes 0 (72 ∷ [])) (new.bytes ≡ layout empty_tree p)
+            (λ is.
+            whole_empty p valid new.bytes (first.keeps.reads.same_length ∙ long) (ap (λ (l : List ℕ). slice_index l 0) is ∙ slice_index-overwrite mid.bytes 0 (72 ∷ []) 0 within (omega arith) (omega arith)) (record {
+              header_is = λ place low high. first.keeps.reads.same place (inr (omega arith)) ∙ rest.done.header_is place low high;
+              rest_is = λ place low high. first.keeps.reads.same place (inr (omega arith)) ∙ rest.done.rest_is place low high;
+            }))
+            first.done;
+      }
+
+-- a disk that was only read so far
+pub leaves_no_image : (p : Parameters) (old mid : DiskState) → IsDurable old → (slice_index old.bytes 0 ≡ 72 → ⊥) → ReadsOnly old mid → LeavesOnly old mid (IsEmptyOrNone p)
+leaves_no_image p old mid durable differs reads =
+    LeavesOnly-weaken old mid old.crash_images (IsEmptyOrNone p) (λ image left. inl (no_image image (λ first. differs (sym (ap (λ (l : List ℕ). slice_index l 0) (durable image left)) ∙ first)))) reads.leaves
+
+pub formats_unread : {T E : Type 0} (p : Parameters) (old mid : DiskState) (result : Result T E) → IsErr result → IsDurable old → (slice_index old.bytes 0 ≡ 72 → ⊥) → ReadsOnly old mid → Formats p old mid result
+formats_unread p old mid result fails durable differs reads = record {
+  crash = leaves_no_image p old mid durable differs reads;
+  reads = inl (no_image mid.bytes (λ first. differs (sym (ap (λ (l : List ℕ). slice_index l 0) reads.bytes) ∙ first)));
+  durable = no_claim result (IsDurable mid) fails;
+  done = no_claim result (mid.bytes ≡ layout empty_tree p) fails;
+}
+
+pub formats_read : {T E U F : Type 0} (p : Parameters) (old mid new : DiskState) (value : U) (answer : T) → IsDurable old → (slice_index old.bytes 0 ≡ 72 → ⊥) → ReadsOnly old mid → Formats {E = F} p mid new (Ok value) → Formats {E = E} p old new (Ok answer)
+formats_read p old mid new value answer durable differs reads formats = record {
+  crash = LeavesOnly-trans old mid new (IsEmptyOrNone p) (leaves_no_image p old mid durable differs reads) formats.crash;
+  reads = formats.reads;
+  durable = formats.durable;
+  done = formats.done;
+}

@@ -1,0 +1,14 @@
+pub mod Areas
+pub mod Places
+pub mod Calls
+pub mod Entries
+pub mod Loops
+pub mod Slots
+pub mod Phases
+pub mod Committing
+pub mod Stages
+pub mod Reading
+pub mod Redoing
+pub mod Recovering
+pub mod Recoveries
+pub mod Formatting

@@ -1,0 +1,16 @@
+use Rattle.std.proofs.Common.{◌+◌, min, Ok}
+use Rattle.store_base.specs.declared.fault.DiskFault.{DiskFault}
+use Rattle.disk_model.specs.DiskState.{IsObservable}
+use Rattle.gate_journal.specs.Places.{AreCalls, Keeps}
+use Rattle.gate_journal.specs.Recovery.{OutsideMarked, AreRedone}
+use Rattle.gate_journal.proofs.recover.redo_block.Given as goal
+
+abbrev pub invariant-loop-slot : goal.invariant-loop-slot
+invariant-loop-slot g l =
+    let old = g.D.Disk.state l.fn.disk in
+    let new = g.D.Disk.state l.disk in
+    record {
+      calls : AreCalls {T = Unit {0}} {E = DiskFault} old new (Ok tt);
+      keeps : IsObservable old → Keeps (OutsideMarked l.slots l.first (min l.slots (l.first + 4096)) old.bytes) old new;
+      redone : IsObservable old → AreRedone l.slots l.first l.slot old.bytes new.bytes;
+    }

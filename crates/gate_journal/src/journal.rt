@@ -1,0 +1,124 @@
+//! The calls of the journal.
+ghost use Rattle.std.specs.Prelude.{◌≡◌, ◌≢◌, ◌↔◌, ◌⊎◌, ◌+◌, ◌*◌, ◌<◌, slice_index, IsOk, OnOk, OnErr};
+ghost use Rattle.store_model.specs.Parameters.{image_len};
+ghost use Rattle.store_model.specs.Images.{recovered_slot};
+ghost use Rattle.disk_model.specs.DiskState.{IsObservable, IsDurable};
+ghost use Rattle.disk_model.specs.DiskCalls.{Rose};
+ghost use Rattle.gate_journal.specs.Places.{AreCalls, Makes, ReadsOnly};
+ghost use Rattle.gate_journal.specs.Phases.{HasEmptyJournal};
+ghost use Rattle.gate_journal.specs.Changes.{AreChanges, Commits};
+ghost use Rattle.gate_journal.specs.Recovery.{Recovers};
+ghost use Rattle.gate_journal.specs.Formats.{Formats};
+
+use crate::changes::SlotChanges;
+use crate::commit::commit_changes;
+use crate::fault::JournalFault;
+use crate::format::{format_durable, is_image};
+use crate::recover::recover_durable;
+use crate::view::read_slot;
+use disk_model::Disk;
+use store_base::{DiskFault, Params, Slot, image_len as len_of};
+
+/// The redo journal of an image. Its calls take no memory.
+pub struct Journal;
+
+impl Journal {
+    /// Changes these slots of the table together.
+    ///
+    /// Each image that a crash at any moment of the call may leave recovers to the old image or to the one with the
+    /// slots changed, and so does what the disk reads after `DiskFault`; recover it before it is used again. After Ok the
+    /// disk is durable and reads the image with the slots changed. For no change nothing is called.
+    pub fn commit<D: Disk, S: SlotChanges>(
+        disk: &mut D,
+        params: &Params,
+        changes: &S,
+    ) -> Result<(), DiskFault>
+        requires size { (D.state disk.old).size ≡ image_len params.now.slots }
+        requires changes { AreChanges params.now.slots (S.changes changes.now) }
+        requires durable { IsObservable (D.state disk.old) → IsDurable (D.state disk.old) }
+        requires empty { IsObservable (D.state disk.old) → HasEmptyJournal params.now.slots (D.state disk.old).bytes }
+        ensures calls { AreCalls (D.state disk.old) (D.state disk.new) result }
+        ensures commits { IsObservable (D.state disk.old) → Commits params.now.slots (S.changes changes.now) (D.state disk.old) (D.state disk.new) result }
+
+        // with no change nothing is called, and otherwise so many writes and syncs are made
+        ensures none { (S.changes changes.now).count ≡ 0 → disk.new ≡ disk.old }
+        ensures none_fails { (S.changes changes.now).count ≡ 0 → IsOk result }
+        ensures makes { IsObservable (D.state disk.old) → 0 < (S.changes changes.now).count → Makes (5 * (S.changes changes.now).count + 2) 5 (D.state disk.old) (D.state disk.new) result }
+
+        // a fault comes at a write or behind one
+        ensures wrote { IsObservable (D.state disk.old) → OnErr result (Rose (D.state disk.old).writes (D.state disk.new).writes) }
+    {
+        if changes.count() == 0 {
+            return Ok(());
+        }
+        commit_changes(disk, params.slots(), changes)
+    }
+
+    /// Makes the image that a crash left what it recovers to.
+    ///
+    /// It serves any disk of the length of the parameters, whether or not writes are pending. Each image that a crash at
+    /// any moment of the call may leave is one that a crash before it might have left, or recovers to the same; what the
+    /// disk reads recovers to the same, after `DiskFault` too, and then it is recovered again before it is used. After
+    /// Ok the disk is durable and reads what it recovers to.
+    pub fn recover<D: Disk>(disk: &mut D, params: &Params) -> Result<(), DiskFault>
+        requires { (D.state disk.old).size ≡ image_len params.now.slots }
+        ensures calls { AreCalls (D.state disk.old) (D.state disk.new) result }
+        ensures recovers { IsObservable (D.state disk.old) → Recovers params.now.slots (D.state disk.old) (D.state disk.new) result }
+
+        // with an empty journal nothing is written
+        ensures quiet { IsObservable (D.state disk.old) → HasEmptyJournal params.now.slots (D.state disk.old).bytes → (D.state disk.new).writes ≡ (D.state disk.old).writes }
+    {
+        disk.sync()?;
+        recover_durable(disk, params.slots())
+    }
+
+    /// Writes the image of the empty tree to a disk of its length that is no image.
+    ///
+    /// `WrongLength` comes exactly where the disk's length is not that of an image of these parameters, and
+    /// `AlreadyImage` exactly where the length is right and the first byte is that of an image, and then nothing was
+    /// written. `Disk` comes only where the disk failed. From there on, each image that a crash at any moment of the call
+    /// may leave is no image, or that of the empty tree, and so is what the disk reads after `Disk`. After Ok the disk is
+    /// durable and reads the image of the empty tree.
+    pub fn format<D: Disk>(disk: &mut D, params: &Params) -> Result<(), JournalFault>
+        requires { IsObservable (D.state disk.old) → IsDurable (D.state disk.old) }
+        ensures size { (D.state disk.new).size ≡ (D.state disk.old).size }
+        ensures observable { (D.state disk.new).is_observable ≡ (D.state disk.old).is_observable }
+
+        ensures wrong_length { (result ≡ Err JournalFault.WrongLength) ↔ ((D.state disk.old).size ≢ image_len params.now.slots) }
+        ensures wrong_length_keeps { result ≡ Err JournalFault.WrongLength → disk.new ≡ disk.old }
+
+        ensures already_image { IsObservable (D.state disk.old) → result ≡ Err JournalFault.AlreadyImage → slice_index (D.state disk.old).bytes 0 ≡ 0x48 }
+        ensures already_image_keeps { IsObservable (D.state disk.old) → result ≡ Err JournalFault.AlreadyImage → ReadsOnly (D.state disk.old) (D.state disk.new) }
+        ensures image_is_found { IsObservable (D.state disk.old) → (D.state disk.old).size ≡ image_len params.now.slots → slice_index (D.state disk.old).bytes 0 ≡ 0x48
+            → (result ≡ Err JournalFault.AlreadyImage) ⊎ (result ≡ Err JournalFault.Disk) }
+
+        ensures disk_failed { result ≡ Err JournalFault.Disk → Rose (D.state disk.old).faults (D.state disk.new).faults }
+        ensures formats { IsObservable (D.state disk.old) → (D.state disk.old).size ≡ image_len params.now.slots → slice_index (D.state disk.old).bytes 0 ≢ 0x48
+            → Formats params.now (D.state disk.old) (D.state disk.new) result }
+    {
+        if disk.len() != len_of(params.slots()) {
+            return Err(JournalFault::WrongLength);
+        }
+        if is_image(disk)? {
+            return Err(JournalFault::AlreadyImage);
+        }
+        Ok(format_durable(disk, params)?)
+    }
+
+    /// Reads what recovery would leave in slot `at`, and writes nothing.
+    /// After `DiskFault` the buffer may hold anything, and the disk is as it was.
+    pub fn view_slot<D: Disk>(
+        disk: &mut D,
+        params: &Params,
+        at: u32,
+        into: &mut Slot,
+    ) -> Result<(), DiskFault>
+        requires below { at < params.now.slots }
+        requires size { (D.state disk.old).size ≡ image_len params.now.slots }
+        ensures calls { AreCalls (D.state disk.old) (D.state disk.new) result }
+        ensures reads { IsObservable (D.state disk.old) → ReadsOnly (D.state disk.old) (D.state disk.new) }
+        ensures slot { IsObservable (D.state disk.old) → OnOk result (into.new ≡ recovered_slot params.now.slots (D.state disk.old).bytes at) }
+    {
+        read_slot(disk, params.slots(), at, into)
+    }
+}

@@ -1,0 +1,114 @@
+//! The slots of the image that a disk recovers to, read without recovering it.
+ghost use Rattle.std.specs.Prelude.{◌≡◌, ◌+◌, ◌<◌, ◌≤◌, not, ◌==◌, ◌&&◌, slice_index, OnOk, IfOk};
+ghost use Rattle.store_model.specs.Parameters.{IsParameters, image_len};
+ghost use Rattle.store_model.specs.Images.{bytes_at, is_flag_set, is_marked, recovered_slot};
+ghost use Rattle.disk_model.specs.DiskState.{DiskState, IsObservable};
+ghost use Rattle.gate_journal.specs.Places.{AreCalls, ReadsOnly};
+ghost use Rattle.gate_journal.specs.ViewState.{viewed, viewed_count};
+
+use crate::recover::{is_byte_set, is_flag_set};
+use disk_model::Disk;
+use store_base::{DiskFault, Fault, Params, ReadSlots, Slot, mark_at, shadow_at, table_at};
+
+// Whether recovery redoes this slot: the commit flag is set, and the slot is marked.
+fn is_redone<D: Disk>(disk: &mut D, slots: u32, slot: u32) -> Result<bool, DiskFault>
+    requires in_range { slots ≤ 16384 }
+    requires below { slot < slots }
+    requires size { (D.state disk.old).size ≡ image_len slots }
+    ensures calls { AreCalls (D.state disk.old) (D.state disk.new) result }
+    ensures reads { IsObservable (D.state disk.old) → ReadsOnly (D.state disk.old) (D.state disk.new) }
+    ensures value { IsObservable (D.state disk.old) → IfOk result (λ redone. redone ≡ (is_flag_set (D.state disk.old).bytes && is_marked (D.state disk.old).bytes slot)) }
+{
+    if !is_flag_set(disk)? {
+        return Ok(false);
+    }
+    is_byte_set(disk, mark_at(slot))
+}
+
+// Where the bytes lie that recovery leaves in this slot.
+fn place_of<D: Disk>(disk: &mut D, slots: u32, slot: u32) -> Result<u64, DiskFault>
+    requires in_range { slots ≤ 16384 }
+    requires below { slot < slots }
+    requires size { (D.state disk.old).size ≡ image_len slots }
+    ensures calls { AreCalls (D.state disk.old) (D.state disk.new) result }
+    ensures reads { IsObservable (D.state disk.old) → ReadsOnly (D.state disk.old) (D.state disk.new) }
+    ensures within { IfOk result (λ place. place + 4096 ≤ image_len slots) }
+    ensures value { IsObservable (D.state disk.old) → IfOk result (λ place. bytes_at (D.state disk.old).bytes place 4096 ≡ recovered_slot slots (D.state disk.old).bytes slot) }
+{
+    if is_redone(disk, slots, slot)? {
+        Ok(shadow_at(slots, slot))
+    } else {
+        Ok(table_at(slots, slot))
+    }
+}
+
+// Reads what recovery leaves in this slot.
+pub fn read_slot<D: Disk>(
+    disk: &mut D,
+    slots: u32,
+    slot: u32,
+    into: &mut Slot,
+) -> Result<(), DiskFault>
+    requires in_range { slots ≤ 16384 }
+    requires below { slot < slots }
+    requires size { (D.state disk.old).size ≡ image_len slots }
+    ensures calls { AreCalls (D.state disk.old) (D.state disk.new) result }
+    ensures reads { IsObservable (D.state disk.old) → ReadsOnly (D.state disk.old) (D.state disk.new) }
+    ensures slot { IsObservable (D.state disk.old) → OnOk result (into.new ≡ recovered_slot slots (D.state disk.old).bytes slot) }
+{
+    let place = place_of(disk, slots, slot)?;
+    disk.read_at(place, into)
+}
+
+/// The slots of the image that a disk recovers to, read through the journal; the disk is not written.
+///
+/// Its calls take no memory, and its faults are the disk's.
+#[derive(Drop)]
+pub struct View<D: Disk> {
+    disk: D,
+    params: Params,
+    ghost sized: { (D.state disk).size ≡ image_len params.slots },
+}
+
+impl<D: Disk> View<D> {
+    ghost use Rattle.gate_journal.specs.View.{disk_of, params_of};
+
+    /// The view on a disk of the length of these parameters.
+    pub fn new(disk: D, params: &Params) -> View<D>
+        requires { (D.state disk).size ≡ image_len params.now.slots }
+        ensures disk { disk_of result ≡ disk }
+        ensures params { params_of result ≡ params.now }
+    {
+        View {
+            disk,
+            params: *params,
+        }
+    }
+
+    /// The disk below.
+    pub fn disk(&self) -> &D
+        ensures { result.now ≡ disk_of self.now }
+    {
+        &self.disk
+    }
+
+    /// Hands the disk back.
+    pub fn into_disk(self) -> D
+        ensures { result ≡ disk_of self }
+    {
+        let View { disk, .. } = self;
+        disk
+    }
+}
+
+impl<D: Disk> ReadSlots for View<D> {
+    ghost use Rattle.gate_journal.specs.View.{disk_of, params_of};
+
+    ghost state = { λ view. viewed (params_of view).slots (D.state (disk_of view)) };
+
+    ghost counted = { λ view observable. viewed_count (params_of view).slots (D.state (disk_of view)) };
+
+    fn get(&mut self, at: u32, into: &mut Slot) -> Result<(), Fault> {
+        Ok(read_slot(&mut self.disk, self.params.slots(), at, into)?)
+    }
+}

@@ -1,0 +1,3 @@
+pub mod AnyDrawn
+pub mod Drawn
+pub mod Lawful

@@ -1,0 +1,32 @@
+//! What every draw offers.
+
+ghost use Rattle.std.specs.Prelude.{◌≡◌};
+ghost use Rattle.store_model.specs.Draws as draws;
+
+use store_base::{Key, Label};
+
+/// A draw: two functions with bounds. The same label always has the same start, and the same key the same
+/// level.
+pub trait Draw {
+    /// The draw of the definitions that this is.
+    ghost drawn: { Self → draws.Draw };
+
+    /// The number of slots of the table, at least 1.
+    fn slots(&self) -> u32
+        ensures { result ≡ (drawn self.now).slots };
+
+    /// The number of levels of the lists, at least 1.
+    fn height(&self) -> u8
+        ensures { result ≡ (drawn self.now).height };
+
+    /// The slot at which the probe sequence of the label starts, below `slots`.
+    fn start(&self, label: &Label) -> u32
+        ensures { result ≡ (drawn self.now).start label.now };
+
+    /// The highest level on which the key stands, below `height`.
+    fn level(&self, key: &Key) -> u8
+        ensures { result ≡ (drawn self.now).level key.now };
+
+    /// Starts lie in the table, and levels below the height.
+    ghost lawful: { (d : Self) → draws.IsLawful (drawn d) };
+}

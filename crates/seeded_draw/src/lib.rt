@@ -1,0 +1,16 @@
+//! The draws of the store: where the probe sequence of a page's label starts, and on how many levels of
+//! the lists a key stands. Everything above is proved for any type with the trait `Draw`.
+#![tactic(auto)]
+
+mod any;
+mod draw;
+mod ruler;
+mod sha;
+
+pub use any::AnyDraw;
+pub use draw::Draw;
+pub use ruler::RulerDraw;
+pub use sha::{ShaDraw, level_of_digest, start_of_digest};
+
+#[cfg(test)]
+mod tests;

@@ -1,0 +1,78 @@
+//! The draw `ruler`, by sums and counts of bytes.
+
+ghost use Rattle.std.specs.Prelude.{◌≡◌, ◌≤◌, length};
+ghost use Rattle.std.specs.List.{sum};
+ghost use Rattle.store_model.specs.Draws.{key_block};
+ghost use Rattle.seeded_draw.specs.Drawn.{ruler_draw};
+ghost use Rattle.seeded_draw.specs.Lawful.{ruler_is_lawful};
+
+use crate::draw::Draw;
+use store_base::{Key, Label};
+
+/// The draw `ruler`: the start of a label is the sum of its bytes, and the level of a key the number of
+/// letters `U` in its path. Small images can be worked out by hand with it.
+#[derive(Clone, Copy, Debug)]
+pub struct RulerDraw {
+    slots: u32,
+    height: u8,
+    pub ghost some_slot: { 1 ≤ slots },
+    pub ghost some_level: { 1 ≤ height },
+}
+
+impl RulerDraw {
+    /// The draw of a table with this number of slots and lists of this height, both at least 1.
+    pub fn new(slots: u32, height: u8) -> Self
+        requires some_slot { 1 ≤ slots }
+        requires some_level { 1 ≤ height }
+        ensures slots { result.slots ≡ slots }
+        ensures height { result.height ≡ height }
+    {
+        RulerDraw { slots, height }
+    }
+}
+
+/// The sum of the bytes of a label.
+fn byte_sum(bytes: &[u8]) -> u32
+    requires { length bytes.now ≤ 130 }
+    ensures { result ≡ sum bytes.now }
+{
+    bytes.iter().map(|byte| u32::from(*byte)).sum()
+}
+
+/// The block number of a key with these bytes.
+fn block_number(bytes: &[u8; 124]) -> u32
+    ensures { result ≡ key_block bytes.now }
+{
+    let mut number = [0; 4];
+    number.copy_from_slice(&bytes[120..]);
+    u32::from_be_bytes(number)
+}
+
+impl Draw for RulerDraw {
+    ghost drawn = { λ d. ruler_draw d.slots d.height };
+
+    ghost lawful = { λ d. ruler_is_lawful d.slots d.height d.some_slot d.some_level };
+
+    fn slots(&self) -> u32 {
+        self.slots
+    }
+
+    fn height(&self) -> u8 {
+        self.height
+    }
+
+    #[tactic(auto, unfolding(store_model::specs::Draws::ruler_start))]
+    fn start(&self, label: &Label) -> u32 {
+        byte_sum(&label.to_bytes()) % self.slots
+    }
+
+    #[tactic(auto, unfolding(store_model::specs::Draws::ruler_level))]
+    fn level(&self, key: &Key) -> u8 {
+        let bytes = key.as_bytes();
+        if block_number(bytes) != 0 {
+            return 0;
+        }
+        let letters = bytes[..120].iter().filter(|byte| **byte == b'U').count();
+        letters.min(usize::from(self.height - 1)) as u8
+    }
+}

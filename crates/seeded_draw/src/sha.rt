@@ -1,0 +1,113 @@
+//! The draw `sha256`, by digests of the seed and the label or key.
+
+ghost use Rattle.std.specs.Prelude.{◌≡◌, ◌≤◌, ◌==◌, ◌∷◌, ◌++◌, length};
+ghost use Rattle.std.specs.List.{prefix_len};
+ghost use Rattle.sha2.specs.Sha256.{sha256};
+ghost use Rattle.seeded_draw.specs.Drawn.{sha256_draw};
+ghost use Rattle.seeded_draw.specs.Lawful.{sha256_is_lawful};
+ghost use Rattle.store_model.specs.Draws.{start_of_digest, level_of_digest, hex_digits};
+
+use crate::draw::Draw;
+use sha2::{Digest, Sha256};
+use store_base::{Key, Label};
+
+/// The slot that a digest draws, below `slots`: the number in its first eight bytes, high byte first,
+/// modulo `slots`, which is at least 1.
+#[tactic(auto, unfolding(store_model::specs::Draws::start_of_digest))]
+pub fn start_of_digest(digest: &[u8; 32], slots: u32) -> u32
+    requires { 1 ≤ slots }
+    ensures { result ≡ start_of_digest digest.now slots }
+{
+    let mut front = [0; 8];
+    front.copy_from_slice(&digest[..8]);
+    (u64::from_be_bytes(front) % u64::from(slots)) as u32
+}
+
+/// The level that a digest draws, below `height`: the number of its leading zero hexadecimal digits, at
+/// most `height - 1`. The height is at least 1.
+#[tactic(auto, unfolding(store_model::specs::Draws::level_of_digest))]
+pub fn level_of_digest(digest: &[u8; 32], height: u8) -> u8
+    requires { 1 ≤ height }
+    ensures { result ≡ level_of_digest digest.now height }
+{
+    let zeros = leading_zero_digits(digest);
+    zeros.min(usize::from(height - 1)) as u8
+}
+
+/// The number of zero hexadecimal digits that the bytes begin with.
+fn leading_zero_digits(bytes: &[u8]) -> usize
+    requires { length bytes.now ≤ 32 }
+    ensures { result ≡ prefix_len (λ d. d == 0) (hex_digits bytes.now) }
+{
+    let mut digits = 0;
+    for byte in bytes {
+        if *byte != 0 {
+            return if *byte < 16 { digits + 1 } else { digits };
+        }
+        digits += 2;
+    }
+    digits
+}
+
+/// The draw `sha256`: start and level come from the digest of the seed, a byte that tells the two apart,
+/// and the label or key (FIPS 180-4).
+#[derive(Clone, Copy, Debug)]
+pub struct ShaDraw {
+    seed: [u8; 32],
+    slots: u32,
+    height: u8,
+    pub ghost some_slot: { 1 ≤ slots },
+    pub ghost some_level: { 1 ≤ height },
+}
+
+impl ShaDraw {
+    /// The draw of a seed, a table with this number of slots and lists of this height, both at least 1.
+    pub fn new(seed: [u8; 32], slots: u32, height: u8) -> Self
+        requires some_slot { 1 ≤ slots }
+        requires some_level { 1 ≤ height }
+        ensures seed { result.seed ≡ seed }
+        ensures slots { result.slots ≡ slots }
+        ensures height { result.height ≡ height }
+    {
+        ShaDraw {
+            seed,
+            slots,
+            height,
+        }
+    }
+
+    /// SHA-256 of the seed, a byte and more bytes.
+    fn digest(&self, byte: u8, bytes: &[u8]) -> [u8; 32]
+        ensures { result ≡ sha256 (self.now.seed ++ byte ∷ bytes.now) }
+    {
+        let mut hasher = Sha256::new();
+        hasher.update(self.seed.as_slice());
+        hasher.update([byte].as_slice());
+        hasher.update(bytes);
+        hasher.finalize()
+    }
+}
+
+impl Draw for ShaDraw {
+    ghost drawn = { λ d. sha256_draw d.seed d.slots d.height };
+
+    ghost lawful = { λ d. sha256_is_lawful d.seed d.slots d.height d.some_slot d.some_level };
+
+    fn slots(&self) -> u32 {
+        self.slots
+    }
+
+    fn height(&self) -> u8 {
+        self.height
+    }
+
+    #[tactic(auto, unfolding(store_model::specs::Draws::sha256_start))]
+    fn start(&self, label: &Label) -> u32 {
+        start_of_digest(&self.digest(0x53, &label.to_bytes()), self.slots)
+    }
+
+    #[tactic(auto, unfolding(store_model::specs::Draws::sha256_level))]
+    fn level(&self, key: &Key) -> u8 {
+        level_of_digest(&self.digest(0x4c, key.as_bytes()), self.height)
+    }
+}
