@@ -1,0 +1,115 @@
+//! The program `hstore IMAGE WORDS..`: opens the image's file and carries out the words on it, with standard
+//! input as the script and standard output for the replies. It prints nothing else.
+//!
+//! That a file, standard input and standard output do what is asked of them is assumed here. All else is
+//! the library's.
+#![tactic(auto)]
+
+use disk_model::FileDisk;
+use script_lines::{StdSink, StdSource};
+use std::alloc::Global;
+use std::env;
+use std::fs::File;
+use std::io;
+use std::io::ErrorKind;
+use std::process::ExitCode;
+use store_base::NoMemory;
+use store_top::{Outcome, Status, Wanted, Words, top, wanted_len};
+
+/// The status where the file cannot be opened or made.
+const NO_FILE: u8 = 12;
+
+/// The image's path and the words behind it.
+struct CommandLine {
+    image: String,
+    words: Words,
+}
+
+/// Why there is no command line.
+enum BadCommandLine {
+    /// There is no image word, or a word is not UTF-8 or cannot be read.
+    Usage,
+    /// Memory ran out.
+    NoMemory,
+}
+
+impl From<NoMemory> for BadCommandLine {
+    fn from(_: NoMemory) -> Self {
+        BadCommandLine::NoMemory
+    }
+}
+
+impl From<io::Error> for BadCommandLine {
+    fn from(error: io::Error) -> Self {
+        match error.kind() {
+            ErrorKind::OutOfMemory => BadCommandLine::NoMemory,
+            _ => BadCommandLine::Usage,
+        }
+    }
+}
+
+/// Reads the command line.
+fn command_line(rt: &HostRuntime) -> Result<CommandLine, BadCommandLine> {
+    let mut args = env::args(rt)?;
+    let (_, Some(image)) = (args.next(), args.next()) else {
+        return Err(BadCommandLine::Usage);
+    };
+    let mut words = Words::new(rt.alloc());
+    for word in args {
+        words.push(word.as_str())?;
+    }
+    Ok(CommandLine { image, words })
+}
+
+/// Opens a file for reading and writing.
+fn open(rt: &HostRuntime, path: &str) -> io::Result<File> {
+    File::options().read(true).write(true).open(rt, path)
+}
+
+/// Opens a file; where there is none, makes one of so many zeros.
+fn open_or_make(rt: &HostRuntime, path: &str, len: u64) -> io::Result<File> {
+    match open(rt, path) {
+        Err(error) if error.kind() == ErrorKind::NotFound => {
+            let file = File::options().read(true).write(true).create_new(true).open(rt, path)?;
+            file.set_len(len)?;
+            Ok(file)
+        }
+        opened => opened,
+    }
+}
+
+/// The file as a disk of its length.
+fn disk_of(file: File) -> io::Result<FileDisk> {
+    let len = file.metadata()?.len();
+    Ok(FileDisk::new(file, len))
+}
+
+/// Carries out the words on the disk.
+fn carry_out(rt: &HostRuntime, words: &Words, disk: FileDisk) -> Status {
+    let (source, sink) = (StdSource::new(rt.stdin()), StdSink::new(rt.stdout()));
+    let Outcome { status, .. } = top(rt.alloc(), words, disk, source, sink);
+    status
+}
+
+/// The status that the program ends with.
+fn run(rt: &HostRuntime) -> u8 {
+    let CommandLine { image, words } = match command_line(rt) {
+        Ok(line) => line,
+        Err(BadCommandLine::Usage) => return Status::Usage.code(),
+        Err(BadCommandLine::NoMemory) => return Status::NoMemory.code(),
+    };
+    let opened = match wanted_len(&words) {
+        Err(NoMemory) => return Status::NoMemory.code(),
+        Ok(Wanted::Usage) => return Status::Usage.code(),
+        Ok(Wanted::Existing) => open(rt, image.as_str()),
+        Ok(Wanted::Fresh(len)) => open_or_make(rt, image.as_str(), len),
+    };
+    match opened.and_then(disk_of) {
+        Ok(disk) => carry_out(rt, &words, disk).code(),
+        Err(_) => NO_FILE,
+    }
+}
+
+fn main(rt: HostRuntime) -> ExitCode {
+    ExitCode::from(run(&rt))
+}

@@ -1,0 +1,48 @@
+-- Lemmas on what lines ask for today.
+use Rattle.std.proofs.Common.{◌≡◌, ℕ, ◌<◌, ◌≤◌, List, length, true, false, cond, Result, Ok, Err, refl, sym, ap, ◌∙◌}
+use Rattle.std.proofs.lemmas.Bool.{lt-ltb, le-ltb}
+use Rattle.store_model.specs.declared.refusal.Refusal.{Refusal}
+use Rattle.store_model.specs.declared.refusal.Refusal.TheVariants as refusals
+use Rattle.store_model.specs.Parameters.{Parameters}
+use Rattle.store_model.specs.Trees.{Tree}
+use Rattle.store_model.specs.Commands.{Command}
+use Rattle.store_model.specs.Commands.Reply.{Refused}
+use Rattle.store_model.specs.Steps.{Step, step}
+use Rattle.store_model.specs.Grammar.{parse}
+use Rattle.store_model.specs.Scripts.{line_limit, answer_by}
+use Rattle.script_lines.specs.declared.lines.Line.{Line}
+use Rattle.script_lines.specs.declared.lines.Line.TheVariants as lines
+use Rattle.store_top.specs.TodayLines.{reading_today, served_reading, is_served, answer_today}
+use Rattle.store_top.specs.Runs.{IsLine}
+
+pub reading_short : (text : List ℕ) → length text ≤ line_limit → reading_today text ≡ served_reading (parse text)
+unfolding reading_today
+reading_short text h = ap (λ b. cond b (Err refusals.Syntax) (served_reading (parse text))) (le-ltb line_limit (length text) h)
+
+pub reading_long : (text : List ℕ) → line_limit < length text → reading_today text ≡ Err refusals.Syntax
+unfolding reading_today
+reading_long text h = ap (λ b. cond b (Err refusals.Syntax) (served_reading (parse text))) (lt-ltb line_limit (length text) h)
+
+pub reading_served : (c : Command) (m : Result Command Refusal) → m ≡ Ok c → is_served c ≡ true → served_reading m ≡ Ok c
+reading_served c m e h = ap served_reading e ∙ ap (λ b. cond b (Ok c) (Err refusals.Syntax)) h
+
+pub reading_other : (c : Command) (m : Result Command Refusal) → m ≡ Ok c → is_served c ≡ false → served_reading m ≡ Err refusals.Syntax
+reading_other c m e h = ap served_reading e ∙ ap (λ b. cond b (Ok c) (Err refusals.Syntax)) h
+
+pub reading_refused : (r : Refusal) (m : Result Command Refusal) → m ≡ Err r → served_reading m ≡ Err refusals.Syntax
+reading_refused r m e = ap served_reading e
+
+-- a line that is no text was too long
+pub not_text : (line : Line) → (line ≡ lines.Text → ⊥) → (shown text : List ℕ) → IsLine line shown text → Err refusals.Syntax ≡ reading_today text
+not_text lines.Text other shown text is = absurd (other refl)
+not_text lines.Long other shown text is = sym (reading_long text is)
+not_text lines.End other shown text is = absurd is
+
+-- the answer to a line whose command, or refusal, is known
+pub answer_ok : (t : Tree) (text : List ℕ) (p : Parameters) (c : Command) → Ok c ≡ reading_today text → answer_today t text p ≡ step t c p
+unfolding answer_today
+answer_ok t text p c e = ap (λ r. answer_by t r p) (sym e)
+
+pub answer_err : (t : Tree) (text : List ℕ) (p : Parameters) (r : Refusal) → Err r ≡ reading_today text → answer_today t text p ≡ record { reply = Refused r; tree = t }
+unfolding answer_today
+answer_err t text p r e = ap (λ x. answer_by t x p) (sym e)

@@ -1,0 +1,32 @@
+use Rattle.std.proofs.Common.{◌≡◌, sym, ap, ◌∙◌, IfOk, OnOk}
+use Rattle.std.proofs.lemmas.Result.{IfOk-weaker, on_ok_weaker}
+use Rattle.store_model.specs.Steps.{Step, step}
+use Rattle.script_lines.specs.Parsing.{command_of}
+use Rattle.script_lines.specs.Replies.{reply_of}
+use Rattle.store_top.specs.OneSlot.{tree_of}
+use Rattle.store_top.specs.TodayLines.{answer_today}
+use Rattle.store_top.proofs.LineAnswers.{answer_ok, answer_err}
+use Rattle.store_top.proofs.run.answer_line.Goals as goal
+
+pub returns-in-Ok-clause-reply : goal.returns-in-Ok-clause-reply
+returns-in-Ok-clause-reply g c text is =
+    let t = tree_of c.args.store.now.paths.items in
+    let p = c.args.store.now.params in
+    let same = answer_ok t text p (command_of c.in-Ok.command) (c.in-Ok.ensures.reading text is) in
+    IfOk-weaker c.apply.result (λ reply. reply_of reply ≡ (step t (command_of c.in-Ok.command) p).reply) (λ reply. reply_of reply ≡ (answer_today t text p).reply)
+    (λ reply e. e ∙ ap (λ (s : Step). s.reply) (sym same)) c.apply.ensures.reply
+
+pub returns-in-Ok-clause-tree : goal.returns-in-Ok-clause-tree
+returns-in-Ok-clause-tree g c text is =
+    let t = tree_of c.args.store.now.paths.items in
+    let p = c.args.store.now.params in
+    let same = answer_ok t text p (command_of c.in-Ok.command) (c.in-Ok.ensures.reading text is) in
+    on_ok_weaker c.apply.result (λ e. e ∙ ap (λ (s : Step). s.tree) (sym same)) c.apply.ensures.tree
+
+pub returns-in-Err-clause-reply : goal.returns-in-Err-clause-reply
+returns-in-Err-clause-reply g c text is =
+    sym (ap (λ (s : Step). s.reply) (answer_err (tree_of c.args.store.now.paths.items) text c.args.store.now.params c.in-Err.refusal (c.in-Err.ensures.reading text is)))
+
+pub returns-in-Err-clause-tree : goal.returns-in-Err-clause-tree
+returns-in-Err-clause-tree g c text is =
+    sym (ap (λ (s : Step). s.tree) (answer_err (tree_of c.args.store.now.paths.items) text c.args.store.now.params c.in-Err.refusal (c.in-Err.ensures.reading text is)))

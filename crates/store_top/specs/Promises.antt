@@ -1,0 +1,86 @@
+-- What a run promises: the replies that were written, the image, and what a crash leaves.
+--
+-- Each is said over the status and the count `done` that a call answered, over the trees t_0, t_1, .. of the run
+-- (a function of the number of lines carried out) and the list of all its replies, so that a call with other lines and
+-- other replies can promise the same.
+use Rattle.std.specs.Prelude.{◌≡◌, ℕ, ◌+◌, ◌-◌, ◌≤◌, ◌⊎◌, List, [], ◌++◌, length, take, drop}
+use Rattle.store_model.specs.Parameters.{Parameters}
+use Rattle.store_model.specs.Trees.{Tree}
+use Rattle.store_model.specs.Commands.{Reply}
+use Rattle.store_model.specs.Images.{Represents}
+use Rattle.store_model.specs.Scripts.{replies_text, script_limit}
+use Rattle.disk_model.specs.DiskState.{DiskState, MayLeaveOnly, IsDurable}
+use Rattle.disk_model.specs.DiskCalls.{LeavesOnly}
+use Rattle.script_lines.specs.Lines.{ended_lines}
+use Rattle.store_top.specs.declared.status.Status.{Status}
+use Rattle.store_top.specs.declared.status.Status.TheVariants as statuses
+use Rattle.store_top.specs.Disks.{Stands, IsUntouched}
+
+-- the call ended before the script did, and not because of the sink: by the source, the disk, the script's length or
+-- want of memory
+abbrev pub IsCutShort : Status → Type 0
+IsCutShort statuses.SourceFault = Unit {0}
+IsCutShort statuses.DiskFault = Unit {0}
+IsCutShort statuses.TooLong = Unit {0}
+IsCutShort statuses.NoMemory = Unit {0}
+IsCutShort _ = ⊥
+
+-- the call ended between two lines or after the last, with its disk whole
+abbrev pub IsBetweenLines : Status → Type 0
+IsBetweenLines statuses.Done = Unit {0}
+IsBetweenLines statuses.SourceFault = Unit {0}
+IsBetweenLines statuses.SinkFault = Unit {0}
+IsBetweenLines statuses.TooLong = Unit {0}
+IsBetweenLines _ = ⊥
+
+-- some bytes of a text, from its front on
+pub record IsFrontOf (part text : List ℕ) : Type 0 where
+  pub rest : List ℕ
+  pub whole : text ≡ part ++ rest
+
+-- the replies of all lines but the last that was carried out, and of that one a part
+pub record WroteInPart (done : ℕ) (replies : List Reply) (written : List ℕ) : Type 0 where
+  pub part : List ℕ
+  pub front : IsFrontOf part (replies_text (take 1 (drop (done - 1) replies)))
+  pub written_is : written ≡ replies_text (take (done - 1) replies) ++ part
+
+-- The replies that were written. `written` is what was appended to the sink, `taken` what was taken from the source and
+-- `left` what is left there.
+pub record PromisesReplies (status : Status) (done : ℕ) (replies : List Reply) (written taken left : List ℕ) : Type 0 where
+  -- the source is at its end, and each line was answered
+  pub all : status ≡ statuses.Done → (left ≡ []) × (done ≡ length replies) × (written ≡ replies_text replies)
+  -- the lines that were carried out were answered
+  pub answered : IsCutShort status → written ≡ replies_text (take done replies)
+  -- so they were but for the last of them, and of its reply there is a part
+  pub in_part : status ≡ statuses.SinkFault → WroteInPart done replies written
+  -- each line that was ended among the bytes taken was carried out; of a script that is too long, among as many as it
+  -- may have
+  pub ended : status ≡ statuses.SourceFault → done ≡ length (ended_lines taken)
+  pub ended_in_limit : status ≡ statuses.TooLong → done ≡ length (ended_lines (take script_limit taken))
+  -- the image is one
+  pub is_image : status ≡ statuses.NotImage → ⊥
+  pub is_whole : status ≡ statuses.Damaged → ⊥
+
+-- The image, on a disk that was in one state before the call and is in another after it.
+pub record PromisesImage (status : Status) (done : ℕ) (trees : ℕ → Tree) (old new : DiskState) (p : Parameters) : Type 0 where
+  -- between two lines it is the layout of the tree after the lines carried out, and durable
+  pub between : IsBetweenLines status → Stands new (trees done) p
+  -- for want of memory it is so too, or nothing was done
+  pub no_memory : status ≡ statuses.NoMemory → Stands new (trees done) p ⊎ ((done ≡ 0) × IsUntouched old new)
+  -- where the disk failed the image represents the tree before or after the line in progress
+  pub fault : status ≡ statuses.DiskFault → Represents new.bytes (trees done) p ⊎ Represents new.bytes (trees (done + 1)) p
+
+-- the image represents one of the trees up to a number
+abbrev pub RepresentsOneOf : (ℕ → Tree) → ℕ → Parameters → List ℕ → Type 0
+RepresentsOneOf trees last p image = (k : ℕ) × (k ≤ last) × Represents image (trees k) p
+
+-- What a crash at a moment of the call leaves, or at its return.
+pub record PromisesCrashes (status : Status) (done : ℕ) (trees : ℕ → Tree) (old new : DiskState) (p : Parameters) : Type 0 where
+  -- the image represents a tree after some of the lines carried out; where the disk failed, the line in progress may
+  -- be among them
+  pub during : (status ≡ statuses.DiskFault → ⊥) → LeavesOnly old new (RepresentsOneOf trees done p)
+  pub during_fault : status ≡ statuses.DiskFault → LeavesOnly old new (RepresentsOneOf trees (done + 1) p)
+  -- at the return it is the very layout that a read gives, where that is promised
+  pub between : IsBetweenLines status → IsDurable new
+  pub fault : status ≡ statuses.DiskFault → MayLeaveOnly new (λ image. Represents image (trees done) p ⊎ Represents image (trees (done + 1)) p)
+  pub no_memory : status ≡ statuses.NoMemory → Stands new (trees done) p ⊎ MayLeaveOnly new (λ image. Represents image (trees 0) p)

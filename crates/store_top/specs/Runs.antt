@@ -1,0 +1,61 @@
+-- What answering a script does: the replies and trees of its lines, and what calls keep of the outside.
+use Rattle.std.specs.Prelude.{◌≡◌, ℕ, ◌<◌, ◌≤◌, List, ◌++◌, length, take}
+use Rattle.store_model.specs.Parameters.{Parameters}
+use Rattle.store_model.specs.Trees.{Tree}
+use Rattle.store_model.specs.Commands.{Reply}
+use Rattle.store_model.specs.Scripts.{lines, line_limit, replies_by, tree_by, script_limit}
+use Rattle.script_lines.specs.SourceState.{SourceState}
+use Rattle.script_lines.specs.SinkState.{SinkState}
+use Rattle.script_lines.specs.declared.lines.Line.{Line}
+use Rattle.script_lines.specs.declared.lines.Line.TheVariants as answers
+use Rattle.store_top.specs.declared.status.Status.{Status}
+use Rattle.store_top.specs.declared.status.Status.TheVariants as statuses
+use Rattle.store_top.specs.TodayLines.{answer_today}
+use Rattle.store_top.specs.Promises.{PromisesReplies}
+
+-- the replies to the lines of a script
+abbrev pub run_replies : Tree → List ℕ → Parameters → List Reply
+run_replies t script p = replies_by (λ u text. answer_today u text p) t (lines script)
+
+-- the tree after so many of its lines; after the last of them it stays
+abbrev pub run_trees : Tree → List ℕ → Parameters → ℕ → Tree
+run_trees t script p k = tree_by (λ u text. answer_today u text p) t (take k (lines script))
+
+-- the line that a reader answered, of which it shows this text
+abbrev pub IsLine : Line → List ℕ → List ℕ → Type 0
+IsLine answers.Text shown text = shown ≡ text
+IsLine answers.Long shown text = line_limit < length text
+IsLine answers.End shown text = ⊥
+
+-- how answering a script can end
+abbrev pub IsEndOfRun : Status → Type 0
+IsEndOfRun statuses.Done = Unit {0}
+IsEndOfRun statuses.SourceFault = Unit {0}
+IsEndOfRun statuses.SinkFault = Unit {0}
+IsEndOfRun statuses.DiskFault = Unit {0}
+IsEndOfRun statuses.TooLong = Unit {0}
+IsEndOfRun statuses.NoMemory = Unit {0}
+IsEndOfRun _ = ⊥
+
+-- what calls keep of every source: whether it tells its bytes, and that its count of faults never falls
+pub record KeepsSource (old new : SourceState) : Type 0 where
+  pub observable : new.is_observable ≡ old.is_observable
+  pub faults : old.faults ≤ new.faults
+
+-- the same of every sink
+pub record KeepsSink (old new : SinkState) : Type 0 where
+  pub observable : new.is_observable ≡ old.is_observable
+  pub faults : old.faults ≤ new.faults
+
+-- a call that ended so took these bytes from the source and wrote these to the sink, as is promised of the replies
+pub record RepliesKept (status : Status) (done : ℕ) (replies : List Reply) (source_old source_new : SourceState) (sink_old sink_new : SinkState) : Type 0 where
+  pub taken : List ℕ
+  pub written : List ℕ
+  pub taken_is : source_old.left ≡ taken ++ source_new.left
+  pub written_is : sink_new.written ≡ sink_old.written ++ written
+  pub promised : PromisesReplies status done replies written taken source_new.left
+
+-- the script is too long where the call says so, and not where it was read to its end
+pub record KeepsLimit (status : Status) (source : SourceState) : Type 0 where
+  pub too_long : status ≡ statuses.TooLong → script_limit < length source.left
+  pub whole : status ≡ statuses.Done → length source.left ≤ script_limit

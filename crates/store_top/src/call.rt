@@ -1,0 +1,131 @@
+//! The whole program as one call.
+
+ghost use Rattle.std.specs.Prelude.{◌≡◌, ◌≢◌, ◌↔◌, ◌⊎◌, [], Some, None, slice_index};
+ghost use Rattle.store_base.specs.Counts.{Rose};
+ghost use Rattle.store_model.specs.Parameters as model;
+ghost use Rattle.store_model.specs.Parameters.{Parameters};
+ghost use Rattle.store_model.specs.Trees.{Tree};
+ghost use Rattle.store_model.specs.Words.Request.{Format, Run};
+ghost use Rattle.disk_model.specs.DiskState as disks;
+ghost use Rattle.script_lines.specs.SourceState as sources;
+ghost use Rattle.script_lines.specs.SinkState as sinks;
+ghost use Rattle.store_top.specs.Disks.{KeepsDisk, IsUntouched, Stands};
+ghost use Rattle.store_top.specs.OneSlot.{IsToday, NamesToday, IsTopLayout};
+ghost use Rattle.store_top.specs.Outcomes.{format_status, done_of, IsFormatStatus, IsRunStatus, IsPastHeader, IsRefusedImage, IsRefusedDisk};
+ghost use Rattle.store_top.specs.Promises.{PromisesImage};
+ghost use Rattle.store_top.specs.Runs.{RepliesKept, KeepsLimit, run_replies, run_trees};
+ghost use Rattle.store_top.specs.TodayWords.{request_today};
+
+use crate::format::{FormatFault, format};
+use crate::outcome::Outcome;
+use crate::run::run;
+use crate::status::Status;
+use crate::words::{Request, Words};
+use disk_model::Disk;
+use script_lines::{Sink, Source};
+use std::alloc::Global;
+use store_base::Params;
+
+/// How a call of `format` ended.
+fn status_of(outcome: Result<(), FormatFault>) -> Status
+    ensures { result ≡ format_status outcome }
+{
+    match outcome {
+        Ok(()) => Status::Done,
+        Err(FormatFault::Disk) => Status::DiskFault,
+        Err(FormatFault::AlreadyImage) => Status::AlreadyImage,
+        Err(FormatFault::WrongLength) => Status::WrongLength,
+    }
+}
+
+/// Formats the disk.
+fn format_disk<D: Disk, R: Source, W: Sink>(params: &Params, disk: D, source: R, sink: W) -> Outcome<D, R, W>
+    requires { IsToday params.now }
+    ensures end { IsFormatStatus result.status }
+    ensures done { result.done ≡ done_of result.status }
+    ensures others { (result.source ≡ source) × (result.sink ≡ sink) }
+    ensures disk_cause { result.status ≡ Status.DiskFault → Rose (D.state disk).faults (D.state result.disk).faults }
+    ensures wrong_length { (result.status ≡ Status.WrongLength) ↔ ((D.state disk).size ≢ model.image_len params.now.slots) }
+    ensures right_length { result.status ≡ Status.AlreadyImage → (D.state disk).size ≡ model.image_len params.now.slots }
+    ensures already_image { disks.IsObservable (D.state disk) → result.status ≡ Status.AlreadyImage → slice_index (D.state disk).bytes 0 ≡ 72 }
+    ensures other_byte { disks.IsObservable (D.state disk) → result.status ≡ Status.Done → slice_index (D.state disk).bytes 0 ≢ 72 }
+    ensures refused { disks.IsObservable (D.state disk) → IsRefusedDisk result.status → IsUntouched (D.state disk) (D.state result.disk) }
+    ensures formatted { disks.IsObservable (D.state disk) → result.status ≡ Status.Done → Stands (D.state result.disk) [] params.now }
+{
+    let mut disk = disk;
+    let status = status_of(format(&mut disk, params));
+    let done = match status {
+        Status::Done => 1,
+        _ => 0,
+    };
+    Outcome {
+        status,
+        done,
+        disk,
+        source,
+        sink,
+    }
+}
+
+/// Carries out the words on a disk: `format` makes the image of the empty tree, `run` answers the script
+/// that the source has, and writes each reply to the sink before it takes more of the script.
+///
+/// Words that are not served end with `Usage`. With `run`, `NotImage` comes exactly where the header names
+/// no parameters that are served or the length is not theirs, and `Damaged` only where the image is no
+/// layout of directories right below the root. With `format`, `WrongLength` comes exactly where the length
+/// is not the image's, and else `AlreadyImage` exactly where the disk begins as an image does. After each of
+/// these nothing was written, and the source and the sink are as they were.
+pub fn top<D: Disk, R: Source, W: Sink>(alloc: Global, words: &Words, disk: D, source: R, sink: W) -> Outcome<D, R, W>
+    // The words.
+    ensures usage { (result.status ≡ Status.Usage) ↔ (request_today words.now ≡ None) }
+    ensures unserved { request_today words.now ≡ None → (result.done ≡ 0) × (result.disk ≡ disk) × (result.source ≡ source) × (result.sink ≡ sink) }
+    ensures format_end { (p : Parameters) → request_today words.now ≡ Some (Format p) → IsFormatStatus result.status }
+    ensures run_end { request_today words.now ≡ Some Run → IsRunStatus result.status }
+
+    // Faults come only where the count of the object rose.
+    ensures source_cause { result.status ≡ Status.SourceFault → Rose (R.state source).faults (R.state result.source).faults }
+    ensures sink_cause { result.status ≡ Status.SinkFault → Rose (W.state sink).faults (W.state result.sink).faults }
+    ensures disk_cause { result.status ≡ Status.DiskFault → Rose (D.state disk).faults (D.state result.disk).faults }
+
+    // `format`.
+    ensures format_done { (p : Parameters) → request_today words.now ≡ Some (Format p) → result.done ≡ done_of result.status }
+    ensures format_others { (p : Parameters) → request_today words.now ≡ Some (Format p) → (result.source ≡ source) × (result.sink ≡ sink) }
+    ensures wrong_length { (p : Parameters) → request_today words.now ≡ Some (Format p) → (result.status ≡ Status.WrongLength) ↔ ((D.state disk).size ≢ model.image_len p.slots) }
+    ensures right_length { (p : Parameters) → request_today words.now ≡ Some (Format p) → result.status ≡ Status.AlreadyImage → (D.state disk).size ≡ model.image_len p.slots }
+    ensures already_image { (p : Parameters) → request_today words.now ≡ Some (Format p) → disks.IsObservable (D.state disk) → result.status ≡ Status.AlreadyImage → slice_index (D.state disk).bytes 0 ≡ 72 }
+    ensures other_byte { (p : Parameters) → request_today words.now ≡ Some (Format p) → disks.IsObservable (D.state disk) → result.status ≡ Status.Done → slice_index (D.state disk).bytes 0 ≢ 72 }
+    ensures format_refused { (p : Parameters) → request_today words.now ≡ Some (Format p) → disks.IsObservable (D.state disk) → IsRefusedDisk result.status → IsUntouched (D.state disk) (D.state result.disk) }
+    ensures formatted { (p : Parameters) → request_today words.now ≡ Some (Format p) → disks.IsObservable (D.state disk) → result.status ≡ Status.Done → Stands (D.state result.disk) [] p }
+
+    // `run`: the image that it is given.
+    ensures not_image { request_today words.now ≡ Some Run → disks.IsObservable (D.state disk) → result.status ≡ Status.NotImage → (p : Parameters) → NamesToday (D.state disk).bytes p → ⊥ }
+    ensures image { request_today words.now ≡ Some Run → disks.IsObservable (D.state disk) → IsPastHeader result.status → (p : Parameters) × NamesToday (D.state disk).bytes p }
+    ensures damaged { request_today words.now ≡ Some Run → disks.IsObservable (D.state disk) → result.status ≡ Status.Damaged → (t : Tree) (p : Parameters) → IsTopLayout (D.state disk).bytes t p → ⊥ }
+    ensures run_refused { request_today words.now ≡ Some Run → IsRefusedImage result.status → (result.done ≡ 0) × (result.source ≡ source) × (result.sink ≡ sink) }
+    ensures run_untouched { request_today words.now ≡ Some Run → disks.IsObservable (D.state disk) → IsRefusedImage result.status → IsUntouched (D.state disk) (D.state result.disk) }
+
+    // `run`: the script.
+    ensures limit { request_today words.now ≡ Some Run → sources.IsObservable (R.state source) → KeepsLimit result.status (R.state source) }
+    ensures replies { request_today words.now ≡ Some Run
+        → disks.IsObservable (D.state disk) → sources.IsObservable (R.state source) → sinks.IsObservable (W.state sink)
+        → (t : Tree) (p : Parameters) → IsTopLayout (D.state disk).bytes t p
+        → RepliesKept result.status result.done (run_replies t (R.state source).left p) (R.state source) (R.state result.source) (W.state sink) (W.state result.sink) }
+    ensures kept_image { request_today words.now ≡ Some Run
+        → disks.IsObservable (D.state disk) → sources.IsObservable (R.state source)
+        → (t : Tree) (p : Parameters) → IsTopLayout (D.state disk).bytes t p → disks.IsDurable (D.state disk) → (result.status ≡ Status.DiskFault → ⊥)
+        → PromisesImage result.status result.done (run_trees t (R.state source).left p) (D.state disk) (D.state result.disk) p }
+{
+    let Some(request) = words.request() else {
+        return Outcome {
+            status: Status::Usage,
+            done: 0,
+            disk,
+            source,
+            sink,
+        };
+    };
+    match request {
+        Request::Run => run(alloc, disk, source, sink),
+        Request::Format(params) => format_disk(&params, disk, source, sink),
+    }
+}

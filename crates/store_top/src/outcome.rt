@@ -1,0 +1,19 @@
+//! What a call of `top` answers.
+
+use crate::status::Status;
+
+/// What a call of `top` answers, with the disk, the source and the sink that it was given.
+#[derive(Drop)]
+pub struct Outcome<D, R, W> {
+    /// How it ended.
+    pub status: Status,
+    /// For `run` the number of lines that are not empty and were carried out, refusals included; for other
+    /// words 1 where they were carried out, and else 0.
+    pub done: u64,
+    /// The disk.
+    pub disk: D,
+    /// The source.
+    pub source: R,
+    /// The sink.
+    pub sink: W,
+}

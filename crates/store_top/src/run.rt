@@ -1,0 +1,237 @@
+//! The words `run`: answers a script, line after line.
+
+ghost use Rattle.std.specs.Prelude.{◌≡◌, ℕ, List, [], true, false, length, IfOk, OnOk, OnErr, IsErrOf, Ok, Err, ◌≤◌, Bool};
+ghost use Rattle.store_base.specs.Counts.{Rose};
+ghost use Rattle.store_model.specs.Scripts.{line_limit};
+ghost use Rattle.disk_model.specs.DiskState as disks;
+ghost use Rattle.script_lines.specs.SourceState as sources;
+ghost use Rattle.script_lines.specs.SinkState as sinks;
+ghost use Rattle.script_lines.specs.Parsing.{command_of, reading_of};
+ghost use Rattle.script_lines.specs.Replies.{reply_of};
+ghost use Rattle.store_top.specs.Disks.{KeepsDisk, IsUntouched, Stands};
+ghost use Rattle.store_model.specs.Parameters.{Parameters};
+ghost use Rattle.store_model.specs.Trees.{Tree};
+ghost use Rattle.store_top.specs.OneSlot.{tree_of, NamesToday, IsTopLayout};
+ghost use Rattle.store_top.specs.Outcomes.{IsRunStatus, IsPastHeader, IsRefusedImage};
+ghost use Rattle.store_top.specs.Steps.{fault_status, attach_status};
+ghost use Rattle.store_top.specs.TodayLines as today;
+ghost use Rattle.store_top.specs.TodayLines.{reading_today, answer_today};
+ghost use Rattle.store_top.specs.Promises.{PromisesImage};
+ghost use Rattle.store_top.specs.Runs.{IsLine, IsEndOfRun, KeepsSource, KeepsSink, RepliesKept, KeepsLimit, run_replies, run_trees};
+
+use crate::one_slot::{AttachFault, OneSlot};
+use crate::outcome::Outcome;
+use crate::slot::is_top;
+use crate::status::Status;
+use disk_model::Disk;
+use script_lines::{
+    Command, Line, LineFault, LineReader, MAX_SCRIPT, Reply, Sink, Source, parse_command, write_reply,
+};
+use std::alloc::Global;
+use store_base::{Fault, Refusal};
+
+/// How the lines of a script were answered.
+#[derive(Clone, Copy)]
+pub struct Answered {
+    /// How it ended.
+    pub status: Status,
+    /// How many lines were carried out.
+    pub done: u64,
+}
+
+/// Whether a command is served.
+fn is_served(command: &Command) -> bool
+    ensures { result ≡ today.is_served (command_of command.now) }
+{
+    match command {
+        Command::Make(path) => is_top(path),
+        Command::List(path) => path.is_root(),
+        _ => false,
+    }
+}
+
+/// What a text asks for; `Syntax` where it spells no command that is served.
+fn read_text(text: &[u8]) -> Result<Command, Refusal>
+    requires { length text.now ≤ line_limit }
+    ensures reading { reading_of result ≡ reading_today text.now }
+    ensures served { IfOk result (λ command. today.is_served (command_of command) ≡ true) }
+{
+    match parse_command(text) {
+        Ok(command) => {
+            if is_served(&command) {
+                Ok(command)
+            } else {
+                Err(Refusal::Syntax)
+            }
+        }
+        Err(_) => Err(Refusal::Syntax),
+    }
+}
+
+/// What a line asks for.
+fn read_line(line: Line, shown: &[u8]) -> Result<Command, Refusal>
+    requires { length shown.now ≤ line_limit }
+    ensures reading { (text : List ℕ) → IsLine line shown.now text → reading_of result ≡ reading_today text }
+    ensures served { IfOk result (λ command. today.is_served (command_of command) ≡ true) }
+{
+    match line {
+        Line::Text => read_text(shown),
+        _ => Err(Refusal::Syntax),
+    }
+}
+
+/// Carries out a line. A fault leaves the tree as it was.
+fn answer_line<D: Disk>(store: &mut OneSlot<D>, line: Line, shown: &[u8]) -> Result<Reply, Fault>
+    requires { length shown.now ≤ line_limit }
+    ensures keeps { KeepsDisk (D.state store.old.disk) (D.state store.new.disk) }
+    ensures cause { IsErrOf result Fault.Disk → Rose (D.state store.old.disk).faults (D.state store.new.disk).faults }
+    ensures params { store.new.params ≡ store.old.params }
+    ensures reply { (text : List ℕ) → IsLine line shown.now text → IfOk result (λ reply. reply_of reply ≡ (answer_today (tree_of store.old.paths.items) text store.old.params).reply) }
+    ensures tree { (text : List ℕ) → IsLine line shown.now text → OnOk result (tree_of store.new.paths.items ≡ (answer_today (tree_of store.old.paths.items) text store.old.params).tree) }
+    ensures fault { OnErr result (store.new.paths.items ≡ store.old.paths.items) }
+    ensures no_memory { IsErrOf result Fault.NoMemory → store.new.disk ≡ store.old.disk }
+    ensures stands { disks.IsObservable (D.state store.old.disk) → Stands (D.state store.old.disk) (tree_of store.old.paths.items) store.old.params
+        → OnOk result (Stands (D.state store.new.disk) (tree_of store.new.paths.items) store.new.params) }
+{
+    match read_line(line, shown) {
+        Ok(command) => store.apply(&command),
+        Err(refusal) => Ok(Reply::No(refusal)),
+    }
+}
+
+/// How a call ends for which a fault came in a line.
+fn status_of(fault: Fault) -> Status
+    ensures { result ≡ fault_status fault }
+{
+    match fault {
+        Fault::Disk => Status::DiskFault,
+        Fault::NoMemory => Status::NoMemory,
+    }
+}
+
+/// Answers the lines that are to come. Each reply is written before more of the script is taken.
+fn answer_lines<D: Disk, R: Source, W: Sink>(
+    reader: &mut LineReader<R>,
+    store: &mut OneSlot<D>,
+    sink: &mut W,
+) -> Answered
+    requires { reader.old ≡ record { source = reader.old.source; held = []; taken = 0; limit = MAX_SCRIPT; is_ended = false; is_live = true; text = [] } }
+    ensures end { IsEndOfRun result.status }
+    ensures params { store.new.params ≡ store.old.params }
+    ensures disk { KeepsDisk (D.state store.old.disk) (D.state store.new.disk) }
+    ensures source { KeepsSource (R.state reader.old.source) (R.state reader.new.source) }
+    ensures sink { KeepsSink (W.state sink.old) (W.state sink.new) }
+    ensures disk_cause { result.status ≡ Status.DiskFault → Rose (D.state store.old.disk).faults (D.state store.new.disk).faults }
+    ensures source_cause { result.status ≡ Status.SourceFault → Rose (R.state reader.old.source).faults (R.state reader.new.source).faults }
+    ensures sink_cause { result.status ≡ Status.SinkFault → Rose (W.state sink.old).faults (W.state sink.new).faults }
+    ensures limit { sources.IsObservable (R.state reader.old.source) → KeepsLimit result.status (R.state reader.old.source) }
+    ensures replies { sources.IsObservable (R.state reader.old.source) → sinks.IsObservable (W.state sink.old)
+        → RepliesKept result.status result.done (run_replies (tree_of store.old.paths.items) (R.state reader.old.source).left store.old.params)
+            (R.state reader.old.source) (R.state reader.new.source) (W.state sink.old) (W.state sink.new) }
+    ensures image { sources.IsObservable (R.state reader.old.source) → disks.IsObservable (D.state store.old.disk)
+        → Stands (D.state store.old.disk) (tree_of store.old.paths.items) store.old.params
+        → (result.status ≡ Status.DiskFault → ⊥)
+        → Stands (D.state store.new.disk) (run_trees (tree_of store.old.paths.items) (R.state reader.old.source).left store.old.params result.done) store.old.params }
+{
+    let mut done = 0;
+    while done < u64::MAX {
+        let line = match reader.next_line() {
+            Ok(line) => line,
+            Err(LineFault::Source) => {
+                return Answered {
+                    status: Status::SourceFault,
+                    done,
+                };
+            }
+            Err(LineFault::TooLong) => {
+                return Answered {
+                    status: Status::TooLong,
+                    done,
+                };
+            }
+        };
+        if let Line::End = line {
+            return Answered {
+                status: Status::Done,
+                done,
+            };
+        }
+        let reply = match answer_line(store, line, reader.text()) {
+            Ok(reply) => reply,
+            Err(fault) => return Answered { status: status_of(fault), done },
+        };
+        done += 1;
+        if write_reply(sink, &reply).is_err() {
+            return Answered { status: Status::SinkFault, done };
+        }
+    }
+    // There is no room to count another line. No script of a length that is allowed has so many.
+    Answered { status: Status::NoMemory, done }
+}
+
+/// How a call ends that could not have its store.
+fn refusal_of(fault: AttachFault) -> Status
+    ensures { result ≡ attach_status fault }
+{
+    match fault {
+        AttachFault::Disk => Status::DiskFault,
+        AttachFault::NoMemory => Status::NoMemory,
+        AttachFault::NotImage => Status::NotImage,
+        AttachFault::Damaged => Status::Damaged,
+    }
+}
+
+/// Answers the script that the source has: takes the room of the reader of lines, attaches the image, and
+/// answers each line.
+pub fn run<D: Disk, R: Source, W: Sink>(alloc: Global, disk: D, source: R, sink: W) -> Outcome<D, R, W>
+    ensures end { IsRunStatus result.status }
+    ensures disk_cause { result.status ≡ Status.DiskFault → Rose (D.state disk).faults (D.state result.disk).faults }
+    ensures source_cause { result.status ≡ Status.SourceFault → Rose (R.state source).faults (R.state result.source).faults }
+    ensures sink_cause { result.status ≡ Status.SinkFault → Rose (W.state sink).faults (W.state result.sink).faults }
+    ensures not_image { disks.IsObservable (D.state disk) → result.status ≡ Status.NotImage → (p : Parameters) → NamesToday (D.state disk).bytes p → ⊥ }
+    ensures image { disks.IsObservable (D.state disk) → IsPastHeader result.status → (p : Parameters) × NamesToday (D.state disk).bytes p }
+    ensures damaged { disks.IsObservable (D.state disk) → result.status ≡ Status.Damaged → (t : Tree) (p : Parameters) → IsTopLayout (D.state disk).bytes t p → ⊥ }
+    ensures refused { IsRefusedImage result.status → (result.done ≡ 0) × (result.source ≡ source) × (result.sink ≡ sink) }
+    ensures untouched { disks.IsObservable (D.state disk) → IsRefusedImage result.status → IsUntouched (D.state disk) (D.state result.disk) }
+    ensures limit { sources.IsObservable (R.state source) → KeepsLimit result.status (R.state source) }
+    ensures replies { disks.IsObservable (D.state disk) → sources.IsObservable (R.state source) → sinks.IsObservable (W.state sink)
+        → (t : Tree) (p : Parameters) → IsTopLayout (D.state disk).bytes t p
+        → RepliesKept result.status result.done (run_replies t (R.state source).left p) (R.state source) (R.state result.source) (W.state sink) (W.state result.sink) }
+    ensures kept_image { disks.IsObservable (D.state disk) → sources.IsObservable (R.state source)
+        → (t : Tree) (p : Parameters) → IsTopLayout (D.state disk).bytes t p → disks.IsDurable (D.state disk) → (result.status ≡ Status.DiskFault → ⊥)
+        → PromisesImage result.status result.done (run_trees t (R.state source).left p) (D.state disk) (D.state result.disk) p }
+{
+    let mut reader = match LineReader::new(alloc, source) {
+        Ok(reader) => reader,
+        Err((_, source)) => {
+            return Outcome {
+                status: Status::NoMemory,
+                done: 0,
+                disk,
+                source,
+                sink,
+            };
+        }
+    };
+    let mut store = match OneSlot::attach(alloc, disk) {
+        Ok(store) => store,
+        Err((fault, disk)) => {
+            return Outcome {
+                status: refusal_of(fault),
+                done: 0,
+                disk,
+                source: reader.into_source(),
+                sink,
+            };
+        }
+    };
+    let mut sink = sink;
+    let Answered { status, done } = answer_lines(&mut reader, &mut store, &mut sink);
+    Outcome {
+        status,
+        done,
+        disk: store.into_disk(),
+        source: reader.into_source(),
+        sink,
+    }
+}
