@@ -8,11 +8,10 @@
 use disk_model::FileDisk;
 use script_lines::{StdSink, StdSource};
 use std::alloc::Global;
-use std::env;
 use std::fs::File;
-use std::io;
 use std::io::ErrorKind;
 use std::process::ExitCode;
+use std::{env, io};
 use store_base::NoMemory;
 use store_top::{Outcome, Status, Wanted, Words, top, wanted_len};
 
@@ -70,7 +69,11 @@ fn open(rt: &HostRuntime, path: &str) -> io::Result<File> {
 fn open_or_make(rt: &HostRuntime, path: &str, len: u64) -> io::Result<File> {
     match open(rt, path) {
         Err(error) if error.kind() == ErrorKind::NotFound => {
-            let file = File::options().read(true).write(true).create_new(true).open(rt, path)?;
+            let file = File::options()
+                .read(true)
+                .write(true)
+                .create_new(true)
+                .open(rt, path)?;
             file.set_len(len)?;
             Ok(file)
         }

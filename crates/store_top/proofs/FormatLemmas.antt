@@ -25,7 +25,7 @@ written_empty a b c d h z size header_size rest_size eb ec ed =
     let rest_b : drop (4096 + length z) b ≡ [] = drop_all (4096 + length z) b (omega arith) in
     let c_is : c ≡ (take 1 a ++ drop 1 h) ++ z = ec ∙ ap (λ xs. (xs ++ z) ++ drop (4096 + length z) b) front_b ∙ ap (λ xs. ((take 1 a ++ drop 1 h) ++ z) ++ xs) rest_b ∙ append-nil ((take 1 a ++ drop 1 h) ++ z) in
     let rest_c : drop (length (take 1 h)) c ≡ drop 1 h ++ z =
-        ap (λ n. drop n c) head ∙ ap (drop 1) (c_is ∙ append_assoc (take 1 a) (drop 1 h) z) ∙ drop_at (take 1 a) (drop 1 h ++ z) 1 first in
+    ap (λ n. drop n c) head ∙ ap (drop 1) (c_is ∙ append_assoc (take 1 a) (drop 1 h) z) ∙ drop_at (take 1 a) (drop 1 h ++ z) 1 first in
     let d_is : d ≡ take 1 h ++ (drop 1 h ++ z) = ed ∙ ap (λ n. take 1 h ++ drop n c) (zero-add (length (take 1 h))) ∙ ap (λ xs. take 1 h ++ xs) rest_c in
     d_is ∙ sym (append_assoc (take 1 h) (drop 1 h) z) ∙ ap (λ xs. xs ++ z) (take-append-drop 1 h)
 

@@ -93,10 +93,10 @@ module _ {R : Type 0} (state : R → SourceState) where
   halfway_more first now next sink_first sink_now sink_next t_first t_now t_next p done text h answers tree written =
       let step = answer_today t_now text p in
       let tree_after : tree_on t_first (h.texts ++ text ∷ []) p ≡ (answer_today t_now text p).tree =
-          tree_by-append (λ u x. answer_today u x p) t_first h.texts (text ∷ []) ∙ ap (λ u. tree_on u (text ∷ []) p) (sym h.tree) ∙ one_tree t_now text p in
+      tree_by-append (λ u x. answer_today u x p) t_first h.texts (text ∷ []) ∙ ap (λ u. tree_on u (text ∷ []) p) (sym h.tree) ∙ one_tree t_now text p in
       let replies_after : replies_on t_first (h.texts ++ text ∷ []) p ≡ replies_on t_first h.texts p ++ (answer_today t_now text p).reply ∷ [] =
-          replies_by-append (λ u x. answer_today u x p) t_first h.texts (text ∷ [])
-          ∙ ap (λ u. replies_on t_first h.texts p ++ replies_on u (text ∷ []) p) (sym h.tree) ∙ ap (λ rs. replies_on t_first h.texts p ++ rs) (one_reply t_now text p) in
+      replies_by-append (λ u x. answer_today u x p) t_first h.texts (text ∷ [])
+      ∙ ap (λ u. replies_on t_first h.texts p ++ replies_on u (text ∷ []) p) (sym h.tree) ∙ ap (λ rs. replies_on t_first h.texts p ++ rs) (one_reply t_now text p) in
       record {
         texts = h.texts ++ text ∷ [];
         answers = Answers-trans state first now next h.texts (text ∷ []) h.answers answers;
@@ -106,9 +106,9 @@ module _ {R : Type 0} (state : R → SourceState) where
             written o ∙ ap (λ xs. xs ++ reply_text (answer_today t_now text p).reply) (h.written o)
             ∙ append_assoc sink_first.written (replies_text (replies_on t_first h.texts p)) (reply_text (answer_today t_now text p).reply)
             ∙ ap (λ xs. sink_first.written ++ xs) (
-                ap (λ xs. replies_text (replies_on t_first h.texts p) ++ xs) (sym (replies_text-one (answer_today t_now text p).reply))
-                ∙ sym (replies_text-append (replies_on t_first h.texts p) ((answer_today t_now text p).reply ∷ []))
-                ∙ ap replies_text (sym replies_after));
+            ap (λ xs. replies_text (replies_on t_first h.texts p) ++ xs) (sym (replies_text-one (answer_today t_now text p).reply))
+            ∙ sym (replies_text-append (replies_on t_first h.texts p) ((answer_today t_now text p).reply ∷ []))
+            ∙ ap replies_text (sym replies_after));
       }
 
   -- what is said at an end of the whole script
@@ -212,8 +212,8 @@ module _ {R : Type 0} (state : R → SourceState) where
     at_source_fault now next sink_first sink_now t_first t_now p done h fails o =
         let size : (now.taken - first.taken) + (next.taken - now.taken) ≡ next.taken - first.taken = omega (arith, h.answers.takes.taken, fails.takes.taken) in
         let ended_are : ended_lines (take (next.taken - first.taken) (left state first)) ≡ h.texts =
-            ap (λ n. ended_lines (take n (left state first))) (sym size) ∙ ap (λ xs. ended_lines (xs ++ take ((now.taken - first.taken) + (next.taken - now.taken)) (left state first))) (sym held)
-            ∙ h.answers.ended fails.before_end (next.taken - now.taken) ∙ ap (λ xs. h.texts ++ xs) fails.none ∙ append-nil h.texts in
+        ap (λ n. ended_lines (take n (left state first))) (sym size) ∙ ap (λ xs. ended_lines (xs ++ take ((now.taken - first.taken) + (next.taken - now.taken)) (left state first))) (sym held)
+        ∙ h.answers.ended fails.before_end (next.taken - now.taken) ∙ ap (λ xs. h.texts ++ xs) fails.none ∙ append-nil h.texts in
         record {
           taken = take (next.taken - first.taken) (left state first);
           written = replies_text (replies_on t_first h.texts p);
@@ -240,12 +240,12 @@ module _ {R : Type 0} (state : R → SourceState) where
         let before : done + 1 - 1 ≡ done = omega arith in
         let size : length (replies_on t_first h.texts p) ≡ done = length-replies_on t_first h.texts p ∙ sym h.count in
         let last : take 1 (drop (done + 1 - 1) (run_replies t_first (left state first) p)) ≡ (answer_today t_now text p).reply ∷ [] =
-            ap (λ n. take 1 (drop n (run_replies t_first (left state first) p))) before ∙ ap (λ rs. take 1 (drop done rs)) all
-            ∙ ap (take 1) (drop_at (replies_on t_first h.texts p) (replies_on (tree_on t_first h.texts p) (lines (to_come state now)) p) done size)
-            ∙ ap (λ u. take 1 (replies_on u (lines (to_come state now)) p)) (sym h.tree)
-            ∙ ap (λ xs. take 1 (replies_on t_now xs p)) answers.lines
-            ∙ ap (take 1) (replies_by-append (λ u x. answer_today u x p) t_now (text ∷ []) (lines (to_come state next)))
-            ∙ ap (λ rs. take 1 (rs ++ replies_on (tree_on t_now (text ∷ []) p) (lines (to_come state next)) p)) (one_reply t_now text p) in
+        ap (λ n. take 1 (drop n (run_replies t_first (left state first) p))) before ∙ ap (λ rs. take 1 (drop done rs)) all
+        ∙ ap (take 1) (drop_at (replies_on t_first h.texts p) (replies_on (tree_on t_first h.texts p) (lines (to_come state now)) p) done size)
+        ∙ ap (λ u. take 1 (replies_on u (lines (to_come state now)) p)) (sym h.tree)
+        ∙ ap (λ xs. take 1 (replies_on t_now xs p)) answers.lines
+        ∙ ap (take 1) (replies_by-append (λ u x. answer_today u x p) t_now (text ∷ []) (lines (to_come state next)))
+        ∙ ap (λ rs. take 1 (rs ++ replies_on (tree_on t_now (text ∷ []) p) (lines (to_come state next)) p)) (one_reply t_now text p) in
         record {
           taken = take (next.taken - first.taken) (left state first);
           written = replies_text (replies_on t_first h.texts p) ++ appends.part;
@@ -276,11 +276,11 @@ module _ {R : Type 0} (state : R → SourceState) where
         let size : (now.taken - first.taken) + (now.limit - now.taken) ≡ script_limit = omega (arith, none_taken, limit_now, within) in
         let more : (now.taken - first.taken) + ((now.limit - now.taken) + 1) ≡ script_limit + 1 = omega (arith, none_taken, limit_now, within) in
         let left_is : left state next ≡ drop (script_limit + 1) (left state first) =
-            passes.left ∙ ap (drop ((now.limit - now.taken) + 1)) h.answers.takes.left
-            ∙ drop-drop ((now.limit - now.taken) + 1) (now.taken - first.taken) (left state first) ∙ ap (λ n. drop n (left state first)) more in
+        passes.left ∙ ap (drop ((now.limit - now.taken) + 1)) h.answers.takes.left
+        ∙ drop-drop ((now.limit - now.taken) + 1) (now.taken - first.taken) (left state first) ∙ ap (λ n. drop n (left state first)) more in
         let ended_are : ended_lines (take script_limit (left state first)) ≡ h.texts =
-            ap (λ n. ended_lines (take n (left state first))) (sym size) ∙ ap (λ xs. ended_lines (xs ++ take ((now.taken - first.taken) + (now.limit - now.taken)) (left state first))) (sym held)
-            ∙ h.answers.ended passes.before_end (now.limit - now.taken) ∙ ap (λ xs. h.texts ++ xs) passes.none ∙ append-nil h.texts in
+        ap (λ n. ended_lines (take n (left state first))) (sym size) ∙ ap (λ xs. ended_lines (xs ++ take ((now.taken - first.taken) + (now.limit - now.taken)) (left state first))) (sym held)
+        ∙ h.answers.ended passes.before_end (now.limit - now.taken) ∙ ap (λ xs. h.texts ++ xs) passes.none ∙ append-nil h.texts in
         record {
           taken = take (script_limit + 1) (left state first);
           written = replies_text (replies_on t_first h.texts p);

@@ -50,14 +50,14 @@ top_is_below_root (n ∷ p) e = refl
 pub entries_of : (t : Tree) (paths : List Path) → AllByRecursion IsTopPath paths → AllByRecursion (IsEntry t) (tree_of paths)
 entries_of t [] all = tt
 entries_of t (path ∷ paths) all = (
-    record {
-      path = all.0.valid;
-      below_root = top_is_below_root path all.0.one_name;
-      parent_directory = subst (λ q. is_directory t q ≡ true) (sym (parent_of_top path all.0.one_name)) refl;
-      node = tt;
-    },
-    entries_of t paths all.1,
-  )
+  record {
+    path = all.0.valid;
+    below_root = top_is_below_root path all.0.one_name;
+    parent_directory = subst (λ q. is_directory t q ≡ true) (sym (parent_of_top path all.0.one_name)) refl;
+    node = tt;
+  },
+  entries_of t paths all.1,
+)
 
 pub IsTree-tree_of : (paths : List Path) → ArePaths paths → IsTree (tree_of paths)
 IsTree-tree_of paths are = record { sorted = are.sorted; entries = entries_of (tree_of paths) paths are.top }
@@ -76,9 +76,11 @@ find_none p (e ∷ t) all = ap (λ o. cond (is_eq o) (Some e.1) (find path_cmp p
 -- so is one below the first of sorted paths
 below_first : (p : Path) (x : Path) (xs : List Path) → IsTrue (is_sorted path_cmp (tree_of (x ∷ xs))) → path_cmp p x ≡ Less → find path_cmp p (tree_of (x ∷ xs)) ≡ None
 below_first p x xs sorted less =
-    find_none p (tree_of (x ∷ xs)) (less,
+    find_none p (tree_of (x ∷ xs)) (
+      less,
       all_weaker (λ e. path_cmp x e.0 ≡ Less) (λ e. path_cmp p e.0 ≡ Less) (λ e h. (lists_total nat_list_cmp_total).trans p x e.0 less h) (tree_of xs)
-      (rising_head (λ a b. path_cmp a.0 b.0) (x, Directory) (tree_of xs) (rising_from_is_sorted path_cmp (tree_of (x ∷ xs)) sorted)))
+          (rising_head (λ a b. path_cmp a.0 b.0) (x, Directory) (tree_of xs) (rising_from_is_sorted path_cmp (tree_of (x ∷ xs)) sorted)),
+    )
 
 -- a search that came to place i
 pub record Searched (paths : List Path) (path : Path) (i : ℕ) : Type 0 where
@@ -95,17 +97,17 @@ searched_more paths path x i within is greater h =
     record {
       found = h.found ∙ ap (λ xs. find path_cmp path (tree_of xs)) rest ∙ ap (λ o. cond (is_eq o) (Some Directory) (find path_cmp path (tree_of (drop (i + 1) paths)))) greater;
       placed =
-        h.placed ∙ ap (λ xs. tree_of (take i paths) ++ put path_cmp path Directory (tree_of xs)) rest
-        ∙ ap (λ o. tree_of (take i paths) ++ by_order o ((path, Directory) ∷ (x, Directory) ∷ tree_of (drop (i + 1) paths)) ((x, Directory) ∷ tree_of (drop (i + 1) paths)) ((x, Directory) ∷ put path_cmp path Directory (tree_of (drop (i + 1) paths)))) greater
-        ∙ sym (append_assoc (tree_of (take i paths)) ((x, Directory) ∷ []) (put path_cmp path Directory (tree_of (drop (i + 1) paths))))
-        ∙ ap (λ xs. xs ++ put path_cmp path Directory (tree_of (drop (i + 1) paths))) (sym (map-append (λ q. (q, Directory)) (take i paths) (x ∷ [])) ∙ ap tree_of (sym front));
+          h.placed ∙ ap (λ xs. tree_of (take i paths) ++ put path_cmp path Directory (tree_of xs)) rest
+          ∙ ap (λ o. tree_of (take i paths) ++ by_order o ((path, Directory) ∷ (x, Directory) ∷ tree_of (drop (i + 1) paths)) ((x, Directory) ∷ tree_of (drop (i + 1) paths)) ((x, Directory) ∷ put path_cmp path Directory (tree_of (drop (i + 1) paths)))) greater
+          ∙ sym (append_assoc (tree_of (take i paths)) ((x, Directory) ∷ []) (put path_cmp path Directory (tree_of (drop (i + 1) paths))))
+          ∙ ap (λ xs. xs ++ put path_cmp path Directory (tree_of (drop (i + 1) paths))) (sym (map-append (λ q. (q, Directory)) (take i paths) (x ∷ [])) ∙ ap tree_of (sym front));
     }
 
 sorted_back : (paths : List Path) (i : ℕ) → IsTrue (is_sorted path_cmp (tree_of paths)) → IsStrictlySortedBy (λ a b. path_cmp a.0 b.0) (tree_of (drop i paths))
 sorted_back paths i sorted =
     rising_back (λ a b. path_cmp a.0 b.0) (tree_of (take i paths)) (tree_of (drop i paths))
     (subst (IsStrictlySortedBy (λ a b. path_cmp a.0 b.0)) (ap tree_of (sym (take-append-drop i paths)) ∙ map-append (λ q. (q, Directory)) (take i paths) (drop i paths))
-      (rising_from_is_sorted path_cmp (tree_of paths) sorted))
+    (rising_from_is_sorted path_cmp (tree_of paths) sorted))
 
 put_at : (paths : List Path) (path : Path) (i : ℕ) → tree_of (take i paths) ++ (path, Directory) ∷ tree_of (drop i paths) ≡ tree_of (insert paths i path)
 put_at paths path i = sym (map-append (λ q. (q, Directory)) (take i paths) (path ∷ drop i paths))
@@ -116,14 +118,16 @@ place_before paths path x i sorted within is less h =
     let rising = subst (λ xs. IsStrictlySortedBy (λ a b. path_cmp a.0 b.0) (tree_of xs)) rest (sorted_back paths i sorted) in
     record {
       within = omega arith;
-      absent = h.found ∙ ap (λ xs. find path_cmp path (tree_of xs)) rest ∙ find_none path (tree_of (x ∷ drop (suc i) paths)) (less,
+      absent = h.found ∙ ap (λ xs. find path_cmp path (tree_of xs)) rest ∙ find_none path (tree_of (x ∷ drop (suc i) paths)) (
+        less,
         all_weaker (λ e. path_cmp x e.0 ≡ Less) (λ e. path_cmp path e.0 ≡ Less) (λ e q. (lists_total nat_list_cmp_total).trans path x e.0 less q) (tree_of (drop (suc i) paths))
-        (rising_head (λ a b. path_cmp a.0 b.0) (x, Directory) (tree_of (drop (suc i) paths)) rising));
+            (rising_head (λ a b. path_cmp a.0 b.0) (x, Directory) (tree_of (drop (suc i) paths)) rising),
+      );
       placed =
-        h.placed ∙ ap (λ xs. tree_of (take i paths) ++ put path_cmp path Directory (tree_of xs)) rest
-        ∙ ap (λ o. tree_of (take i paths) ++ by_order o ((path, Directory) ∷ (x, Directory) ∷ tree_of (drop (suc i) paths)) ((x, Directory) ∷ tree_of (drop (suc i) paths)) ((x, Directory) ∷ put path_cmp path Directory (tree_of (drop (suc i) paths)))) less
-        ∙ ap (λ xs. tree_of (take i paths) ++ (path, Directory) ∷ tree_of xs) (sym rest)
-        ∙ put_at paths path i;
+          h.placed ∙ ap (λ xs. tree_of (take i paths) ++ put path_cmp path Directory (tree_of xs)) rest
+          ∙ ap (λ o. tree_of (take i paths) ++ by_order o ((path, Directory) ∷ (x, Directory) ∷ tree_of (drop (suc i) paths)) ((x, Directory) ∷ tree_of (drop (suc i) paths)) ((x, Directory) ∷ put path_cmp path Directory (tree_of (drop (suc i) paths)))) less
+          ∙ ap (λ xs. tree_of (take i paths) ++ (path, Directory) ∷ tree_of xs) (sym rest)
+          ∙ put_at paths path i;
     }
 
 pub place_last : (paths : List Path) (path : Path) (i : ℕ) → length paths ≤ i → i ≤ length paths → Searched paths path i → HasPlace paths path (length paths)
@@ -134,8 +138,8 @@ place_last paths path i past within h =
       within = omega arith;
       absent = h.found ∙ ap (λ xs. find path_cmp path (tree_of xs)) none;
       placed =
-        h.placed ∙ ap (λ xs. tree_of (take i paths) ++ put path_cmp path Directory (tree_of xs)) none
-        ∙ ap (λ xs. tree_of (take i paths) ++ (path, Directory) ∷ tree_of xs) (sym none) ∙ put_at paths path i ∙ ap (λ k. tree_of (insert paths k path)) end;
+          h.placed ∙ ap (λ xs. tree_of (take i paths) ++ put path_cmp path Directory (tree_of xs)) none
+          ∙ ap (λ xs. tree_of (take i paths) ++ (path, Directory) ∷ tree_of xs) (sym none) ∙ put_at paths path i ∙ ap (λ k. tree_of (insert paths k path)) end;
     }
 
 pub found_at : (paths : List Path) (path x : Path) (i : ℕ) → length path ≡ 1 → i < length paths → get_or paths i x ≡ x → path_cmp path x ≡ Equal → Searched paths path i → IsTrue (exists (tree_of paths) path)

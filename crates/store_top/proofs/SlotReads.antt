@@ -38,9 +38,9 @@ pub rising_cells : (paths : List Path) → ArePaths paths → (n : ℕ) → IsSt
 rising_cells paths are n =
     rising_front key_cmp (map (λ (c : Cell). c.key) (map cell_of (take n paths))) (map (λ (c : Cell). c.key) (map cell_of (drop n paths)))
     (subst (IsStrictlySortedBy key_cmp) (
-      ap (λ xs. map (λ (c : Cell). c.key) (map cell_of xs)) (sym (take-append-drop n paths))
-      ∙ ap (map (λ (c : Cell). c.key)) (map-append cell_of (take n paths) (drop n paths))
-      ∙ map-append (λ (c : Cell). c.key) (map cell_of (take n paths)) (map cell_of (drop n paths)))
+    ap (λ xs. map (λ (c : Cell). c.key) (map cell_of xs)) (sym (take-append-drop n paths))
+    ∙ ap (map (λ (c : Cell). c.key)) (map-append cell_of (take n paths) (drop n paths))
+    ∙ map-append (λ (c : Cell). c.key) (map cell_of (take n paths)) (map cell_of (drop n paths)))
     (rising_all paths are))
 
 one_is_byte : (i : ℕ) → get_or (1 ∷ []) i 0 < 256
@@ -172,18 +172,19 @@ slot_is (q ∷ qs) h = refl
 pub page_shows : (slot : List ℕ) (page : Page) (paths : List Path) → IsPage page → page_bytes page ≡ slot → page.label ≡ first_label → AllByRecursion IsTopPath paths → page.cells ≡ map cell_of paths
     → ArePaths paths × (slot ≡ slot_of paths)
 page_shows slot page paths valid bytes label top cells = (
-    record {
-      top = top;
-      few = let room : length page.cells ≤ page_room page.label.level = valid.room in
-            let ten : length page.cells ≤ 10 = subst (λ (l : ℕ). length page.cells ≤ page_room l) (ap (λ (x : Label). x.level) label) room in
-            omega (arith, ten, ap length cells, length-map paths cell_of);
-      sorted = is_sorted_from_rising path_cmp (tree_of paths) (sorted_tree paths top (subst (λ (cs : List Cell). IsStrictlySortedBy key_cmp (map (λ (c : Cell). c.key) cs)) cells valid.rising));
-    },
-    sym bytes ∙ ap page_bytes (same_page page label cells) ∙ slot_is paths (some_paths paths cells),
-  )
+  record {
+    top = top;
+    few = let room : length page.cells ≤ page_room page.label.level = valid.room in
+        let ten : length page.cells ≤ 10 = subst (λ (l : ℕ). length page.cells ≤ page_room l) (ap (λ (x : Label). x.level) label) room in
+        omega (arith, ten, ap length cells, length-map paths cell_of);
+    sorted = is_sorted_from_rising path_cmp (tree_of paths) (sorted_tree paths top (subst (λ (cs : List Cell). IsStrictlySortedBy key_cmp (map (λ (c : Cell). c.key) cs)) cells valid.rising));
+  },
+  sym bytes ∙ ap page_bytes (same_page page label cells) ∙ slot_is paths (some_paths paths cells),
+)
   where
     some_paths : (ps : List Path) → page.cells ≡ map cell_of ps → 1 ≤ length ps
     some_paths ps e = omega (arith, valid.some_cell, ap length e, length-map ps cell_of)
+
     same_page : (p : Page) → p.label ≡ first_label → p.cells ≡ map cell_of paths → p ≡ record { label = first_label; cells = map cell_of paths }
     same_page p l c = ap (λ (x : Label). let q : Page = record { label = x; cells = p.cells } in q) l ∙ ap (λ (x : List Cell). let q : Page = record { label = first_label; cells = x } in q) c
 
@@ -236,7 +237,7 @@ slot_written p old new today hold hnew =
     ap (λ xs. overwrite xs 16384 (slot_of new)) is
     ∙ ap (λ xs. (xs ++ slot_of new) ++ drop (16384 + length (slot_of new)) (header p ++ zeros 12288 ++ slot_of old)) (take_at (header p ++ zeros 12288) (slot_of old) 16384 front)
     ∙ ap (λ xs. ((header p ++ zeros 12288) ++ slot_of new) ++ xs) (drop_all (16384 + length (slot_of new)) (header p ++ zeros 12288 ++ slot_of old)
-        (omega (arith, length-append (header p ++ zeros 12288) (slot_of old), front, length-slot_of old hold, length-slot_of new hnew)))
+    (omega (arith, length-append (header p ++ zeros 12288) (slot_of old), front, length-slot_of old hold, length-slot_of new hnew)))
     ∙ append-nil ((header p ++ zeros 12288) ++ slot_of new)
     ∙ sym (layout-tree_of new p today hnew.few)
 

@@ -54,8 +54,8 @@ paths_of_tree t p today top fits =
       valid = record {
         top = top_paths t t top.tree.entries top.top;
         few = let count = page_count-tree_of paths p today in
-              let same : page_count (tree_of paths) p ≡ page_count t p = ap (λ u. page_count u p) is in
-              omega (arith, count, same, fits, today.one_slot);
+            let same : page_count (tree_of paths) p ≡ page_count t p = ap (λ u. page_count u p) is in
+            omega (arith, count, same, fits, today.one_slot);
         sorted = subst (λ (u : Tree). IsTrue (is_sorted path_cmp u)) (sym is) top.tree.sorted;
       };
     }
@@ -98,26 +98,37 @@ none_answered status fault replies source source_new sink e = record {
   where
     differ_1 : statuses.Done ≡ statuses.NoMemory → ⊥
     differ_1 e = cc
+
     differ_2 : statuses.Done ≡ statuses.DiskFault → ⊥
     differ_2 e = cc
+
     differ_3 : statuses.SinkFault ≡ statuses.NoMemory → ⊥
     differ_3 e = cc
+
     differ_4 : statuses.SinkFault ≡ statuses.DiskFault → ⊥
     differ_4 e = cc
+
     differ_5 : statuses.SourceFault ≡ statuses.NoMemory → ⊥
     differ_5 e = cc
+
     differ_6 : statuses.SourceFault ≡ statuses.DiskFault → ⊥
     differ_6 e = cc
+
     differ_7 : statuses.TooLong ≡ statuses.NoMemory → ⊥
     differ_7 e = cc
+
     differ_8 : statuses.TooLong ≡ statuses.DiskFault → ⊥
     differ_8 e = cc
+
     differ_9 : statuses.NotImage ≡ statuses.NoMemory → ⊥
     differ_9 e = cc
+
     differ_10 : statuses.NotImage ≡ statuses.DiskFault → ⊥
     differ_10 e = cc
+
     differ_11 : statuses.Damaged ≡ statuses.NoMemory → ⊥
     differ_11 e = cc
+
     differ_12 : statuses.Damaged ≡ statuses.DiskFault → ⊥
     differ_12 e = cc
 

@@ -153,12 +153,12 @@ format_chosen : (w a b k s : List ℕ) → same_bytes w (codes "format") ≡ tru
 format_chosen w a b k s h =
     ⊎_elim
     (λ x. ⊎_elim
-      (λ y. ⊎_elim
-        (λ z. rw (x.0, x.1, y.0, y.1, z.0, z.1) (served_format (seed_of_word s)))
-        (λ z. rw (x.0, x.1, y.0, y.1, z.0) (other_kind (kind_of_word k) (seed_of_word s) z.1))
-        (kind_or_other k))
-      (λ y. rw (x.0, x.1, y.0) (other_height (number_in 1 8 b) (kind_of_word k) (seed_of_word s) y.1))
-      (one_or_other 8 (lit≤ tt) b))
+    (λ y. ⊎_elim
+    (λ z. rw (x.0, x.1, y.0, y.1, z.0, z.1) (served_format (seed_of_word s)))
+    (λ z. rw (x.0, x.1, y.0, y.1, z.0) (other_kind (kind_of_word k) (seed_of_word s) z.1))
+    (kind_or_other k))
+    (λ y. rw (x.0, x.1, y.0) (other_height (number_in 1 8 b) (kind_of_word k) (seed_of_word s) y.1))
+    (one_or_other 8 (lit≤ tt) b))
     (λ x. rw x.0 (other_slots (number_in 1 16384 a) (number_in 1 8 b) (kind_of_word k) (seed_of_word s) x.1))
     (one_or_other 16384 (lit≤ tt) a)
 

@@ -39,7 +39,12 @@ fn status_of(outcome: Result<(), FormatFault>) -> Status
 }
 
 /// Formats the disk.
-fn format_disk<D: Disk, R: Source, W: Sink>(params: &Params, disk: D, source: R, sink: W) -> Outcome<D, R, W>
+fn format_disk<D: Disk, R: Source, W: Sink>(
+    params: &Params,
+    disk: D,
+    source: R,
+    sink: W,
+) -> Outcome<D, R, W>
     requires { IsToday params.now }
     ensures end { IsFormatStatus result.status }
     ensures done { result.done ≡ done_of result.status }
@@ -75,7 +80,13 @@ fn format_disk<D: Disk, R: Source, W: Sink>(params: &Params, disk: D, source: R,
 /// layout of directories right below the root. With `format`, `WrongLength` comes exactly where the length
 /// is not the image's, and else `AlreadyImage` exactly where the disk begins as an image does. After each of
 /// these nothing was written, and the source and the sink are as they were.
-pub fn top<D: Disk, R: Source, W: Sink>(alloc: Global, words: &Words, disk: D, source: R, sink: W) -> Outcome<D, R, W>
+pub fn top<D: Disk, R: Source, W: Sink>(
+    alloc: Global,
+    words: &Words,
+    disk: D,
+    source: R,
+    sink: W,
+) -> Outcome<D, R, W>
     // The words.
     ensures usage { (result.status ≡ Status.Usage) ↔ (request_today words.now ≡ None) }
     ensures unserved { request_today words.now ≡ None → (result.done ≡ 0) × (result.disk ≡ disk) × (result.source ≡ source) × (result.sink ≡ sink) }

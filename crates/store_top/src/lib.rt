@@ -11,12 +11,11 @@ mod outcome;
 mod run;
 mod slot;
 mod status;
-
 mod words;
 
+pub use call::top;
 pub use outcome::Outcome;
 pub use status::Status;
-pub use call::top;
 pub use words::{Wanted, Words, wanted_len};
 
 #[cfg(test)]

@@ -25,7 +25,8 @@ use crate::slot::is_top;
 use crate::status::Status;
 use disk_model::Disk;
 use script_lines::{
-    Command, Line, LineFault, LineReader, MAX_SCRIPT, Reply, Sink, Source, parse_command, write_reply,
+    Command, Line, LineFault, LineReader, MAX_SCRIPT, Reply, Sink, Source, parse_command,
+    write_reply,
 };
 use std::alloc::Global;
 use store_base::{Fault, Refusal};
@@ -127,7 +128,7 @@ fn answer_lines<D: Disk, R: Source, W: Sink>(
     ensures limit { sources.IsObservable (R.state reader.old.source) → KeepsLimit result.status (R.state reader.old.source) }
     ensures replies { sources.IsObservable (R.state reader.old.source) → sinks.IsObservable (W.state sink.old)
         → RepliesKept result.status result.done (run_replies (tree_of store.old.paths.items) (R.state reader.old.source).left store.old.params)
-            (R.state reader.old.source) (R.state reader.new.source) (W.state sink.old) (W.state sink.new) }
+        (R.state reader.old.source) (R.state reader.new.source) (W.state sink.old) (W.state sink.new) }
     ensures image { sources.IsObservable (R.state reader.old.source) → disks.IsObservable (D.state store.old.disk)
         → Stands (D.state store.old.disk) (tree_of store.old.paths.items) store.old.params
         → (result.status ≡ Status.DiskFault → ⊥)
@@ -158,15 +159,24 @@ fn answer_lines<D: Disk, R: Source, W: Sink>(
         }
         let reply = match answer_line(store, line, reader.text()) {
             Ok(reply) => reply,
-            Err(fault) => return Answered { status: status_of(fault), done },
+            Err(fault) => return Answered {
+                status: status_of(fault),
+                done,
+            },
         };
         done += 1;
         if write_reply(sink, &reply).is_err() {
-            return Answered { status: Status::SinkFault, done };
+            return Answered {
+                status: Status::SinkFault,
+                done,
+            };
         }
     }
     // There is no room to count another line. No script of a length that is allowed has so many.
-    Answered { status: Status::NoMemory, done }
+    Answered {
+        status: Status::NoMemory,
+        done,
+    }
 }
 
 /// How a call ends that could not have its store.
@@ -183,7 +193,12 @@ fn refusal_of(fault: AttachFault) -> Status
 
 /// Answers the script that the source has: takes the room of the reader of lines, attaches the image, and
 /// answers each line.
-pub fn run<D: Disk, R: Source, W: Sink>(alloc: Global, disk: D, source: R, sink: W) -> Outcome<D, R, W>
+pub fn run<D: Disk, R: Source, W: Sink>(
+    alloc: Global,
+    disk: D,
+    source: R,
+    sink: W,
+) -> Outcome<D, R, W>
     ensures end { IsRunStatus result.status }
     ensures disk_cause { result.status ≡ Status.DiskFault → Rose (D.state disk).faults (D.state result.disk).faults }
     ensures source_cause { result.status ≡ Status.SourceFault → Rose (R.state source).faults (R.state result.source).faults }

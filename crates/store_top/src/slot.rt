@@ -21,7 +21,10 @@ use node_pages::{Cell, Page, decode_page};
 use path_keys::Path;
 use std::alloc::Global;
 use std::cmp::Ordering;
-use store_base::{DiskFault, Fault, Label, Lead, NoMemory, Params, Slot, Value, gate_at, image_len, read_header, table_at};
+use store_base::{
+    DiskFault, Fault, Label, Lead, NoMemory, Params, Slot, Value, gate_at, image_len, read_header,
+    table_at,
+};
 use store_model::DrawKind;
 
 /// The value of a directory.
@@ -56,7 +59,12 @@ pub fn find_place(paths: &[Path], path: &Path) -> Option<usize>
 
 /// The paths with one more, in its place.
 /// `NoMemory`: there was none for the list.
-pub fn with_path(alloc: Global, paths: &[Path], at: usize, path: &Path) -> Result<Vec<Path>, NoMemory>
+pub fn with_path(
+    alloc: Global,
+    paths: &[Path],
+    at: usize,
+    path: &Path,
+) -> Result<Vec<Path>, NoMemory>
     requires { at ≤ length paths.now }
     ensures { IfOk result (λ longer. longer.items ≡ insert paths.now at path.now) }
 {
@@ -189,7 +197,9 @@ pub fn read_params<D: Disk>(disk: &mut D) -> Result<Option<Params>, DiskFault>
     let mut header = [0; 4096];
     disk.read_at(0, &mut header)?;
     match read_header(&header) {
-        Some(params) if is_today(&params) && disk.len() == image_len(params.slots()) => Ok(Some(params)),
+        Some(params) if is_today(&params) && disk.len() == image_len(params.slots()) => Ok(Some(
+            params,
+        )),
         _ => Ok(None),
     }
 }
@@ -216,7 +226,11 @@ fn is_journal_empty<D: Disk>(disk: &mut D) -> Result<bool, DiskFault>
 
 /// The directories of an image with such parameters; `None` exactly where it is no layout of directories
 /// right below the root.
-pub fn read_paths<D: Disk>(alloc: Global, disk: &mut D, params: &Params) -> Result<Option<Vec<Path>>, Fault>
+pub fn read_paths<D: Disk>(
+    alloc: Global,
+    disk: &mut D,
+    params: &Params,
+) -> Result<Option<Vec<Path>>, Fault>
     requires today { IsToday params.now }
     requires size { (D.state disk.old).size ≡ model.image_len params.now.slots }
     ensures keeps { KeepsDisk (D.state disk.old) (D.state disk.new) }

@@ -52,7 +52,13 @@ const HEADER: [(usize, u8); 11] = [
 ];
 
 /// The slot of `/a`: a page, one cell, the key, the value's length and the value.
-const SLOT_A: [(usize, u8); 5] = [(16_384, 1), (16_515, 1), (16_516, 0x61), (16_641, 1), (16_642, 1)];
+const SLOT_A: [(usize, u8); 5] = [
+    (16_384, 1),
+    (16_515, 1),
+    (16_516, 0x61),
+    (16_641, 1),
+    (16_642, 1),
+];
 
 /// The image of the empty tree.
 fn empty_image(alloc: Global) -> Result<Vec<u8>, Fail> {
@@ -71,7 +77,13 @@ fn image_with_a(alloc: Global) -> Result<Vec<u8>, Fail> {
 }
 
 /// A call with these words on a disk with these bytes.
-fn call(alloc: Global, texts: &[&str], bytes: &[u8], source: MemSource, sink: MemSink) -> Result<MemOutcome, Fail> {
+fn call(
+    alloc: Global,
+    texts: &[&str],
+    bytes: &[u8],
+    source: MemSource,
+    sink: MemSink,
+) -> Result<MemOutcome, Fail> {
     let mut words = Words::new(alloc);
     for text in texts {
         words.push(text)?;
@@ -81,8 +93,17 @@ fn call(alloc: Global, texts: &[&str], bytes: &[u8], source: MemSource, sink: Me
 }
 
 /// A call whose script comes in one piece, and whose sink never fails.
-fn call_with(alloc: Global, texts: &[&str], bytes: &[u8], script: &[u8]) -> Result<MemOutcome, Fail> {
-    let source = MemSource::new(Vec::from_slice(alloc, script)?, Vec::new(alloc), Vec::new(alloc));
+fn call_with(
+    alloc: Global,
+    texts: &[&str],
+    bytes: &[u8],
+    script: &[u8],
+) -> Result<MemOutcome, Fail> {
+    let source = MemSource::new(
+        Vec::from_slice(alloc, script)?,
+        Vec::new(alloc),
+        Vec::new(alloc),
+    );
     let sink = MemSink::new(alloc, 65_536, Vec::new(alloc))?;
     call(alloc, texts, bytes, source, sink)
 }
@@ -142,20 +163,31 @@ fn an_empty_script_changes_nothing(rt: HostRuntime) -> Result<(), Fail> {
 fn the_eleventh_directory_is_too_many(rt: HostRuntime) -> Result<(), Fail> {
     let alloc = rt.alloc();
     let old = empty_image(alloc)?;
-    let script = b"make /k\nmake /a\nmake /c\nmake /b\nmake /e\nmake /d\nmake /f\nmake /h\nmake /g\nmake /i\nmake /j\nmake /a\nlist /";
+    let script =
+        b"make /k\nmake /a\nmake /c\nmake /b\nmake /e\nmake /d\nmake /f\nmake /h\nmake /g\nmake /i\nmake /j\nmake /a\nlist /";
     let ran = call_with(alloc, &["run"], &old, script)?;
-    let replies = b"ok\nok\nok\nok\nok\nok\nok\nok\nok\nok\nno full 2 1\nno exists\nd a\nd b\nd c\nd d\nd e\nd f\nd g\nd h\nd i\nd k\nend\n";
+    let replies =
+        b"ok\nok\nok\nok\nok\nok\nok\nok\nok\nok\nno full 2 1\nno exists\nd a\nd b\nd c\nd d\nd e\nd f\nd g\nd h\nd i\nd k\nend\n";
     assert_eq!(rt; ran.status.code(), 0);
     assert_eq!(rt; ran.done, 13);
     assert_eq!(rt; ran.sink.written(), replies.as_slice());
     assert_eq!(rt; ran.disk.write_count(), 10);
     // Other orders lead to the same image.
-    let sorted = b"make /a\nmake /b\nmake /c\nmake /d\nmake /e\nmake /f\nmake /g\nmake /h\nmake /i\nmake /k\nmake /l\n";
+    let sorted =
+        b"make /a\nmake /b\nmake /c\nmake /d\nmake /e\nmake /f\nmake /g\nmake /h\nmake /i\nmake /k\nmake /l\n";
     let other = call_with(alloc, &["run"], &old, sorted)?;
     assert!(rt; other.disk.bytes() == ran.disk.bytes());
     // The image is read again.
-    let again = call_with(alloc, &["run"], ran.disk.bytes(), b"make /k\nmake /x\n\nmake /\nspace")?;
-    assert_eq!(rt; again.sink.written(), b"no exists\nno full 2 1\nno syntax\nno syntax\n".as_slice());
+    let again = call_with(
+        alloc,
+        &["run"],
+        ran.disk.bytes(),
+        b"make /k\nmake /x\n\nmake /\nspace",
+    )?;
+    assert_eq!(rt;
+        again.sink.written(),
+        b"no exists\nno full 2 1\nno syntax\nno syntax\n".as_slice()
+    );
     Ok(())
 }
 
@@ -191,7 +223,11 @@ fn a_page_of_a_file_is_no_image_yet(rt: HostRuntime) -> Result<(), Fail> {
 fn a_reply_that_cannot_be_written_ends_the_run(rt: HostRuntime) -> Result<(), Fail> {
     let alloc = rt.alloc();
     let old = empty_image(alloc)?;
-    let source = MemSource::new(Vec::from_slice(alloc, b"make /a\nlist /\n")?, Vec::new(alloc), Vec::new(alloc));
+    let source = MemSource::new(
+        Vec::from_slice(alloc, b"make /a\nlist /\n")?,
+        Vec::new(alloc),
+        Vec::new(alloc),
+    );
     let sink = MemSink::new(alloc, 65_536, vec![in alloc; 0]?)?;
     let ran = call(alloc, &["run"], &old, source, sink)?;
     assert_eq!(rt; ran.status.code(), 4);

@@ -85,17 +85,15 @@ fn run_request(word: &str) -> Option<Request>
     ensures value { option_map request_seen result ≡ request_today (word.now ∷ []) }
     ensures valid { IfSome result IsTodayRequest }
 {
-    if word == "run" { Some(Request::Run) } else { None }
+    if word == "run" {
+        Some(Request::Run)
+    } else {
+        None
+    }
 }
 
 /// What a word with four arguments asks for.
-fn format_request(
-    word: &str,
-    slots: &str,
-    height: &str,
-    draw: &str,
-    seed: &str,
-) -> Option<Request>
+fn format_request(word: &str, slots: &str, height: &str, draw: &str, seed: &str) -> Option<Request>
     ensures value { option_map request_seen result ≡ request_today (word.now ∷ slots.now ∷ height.now ∷ draw.now ∷ seed.now ∷ []) }
     ensures valid { IfSome result IsTodayRequest }
 {

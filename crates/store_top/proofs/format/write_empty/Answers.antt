@@ -35,10 +35,10 @@ returns-clause-formatted g c observable =
     let behind_is = c.split_at.ensures.back in
     let first_is = c.split_at.ensures.front in
     let bytes : s4.bytes ≡ h ++ zeros 16384 =
-        written_empty s0.bytes s1.bytes s2.bytes s4.bytes h (zeros 16384) size header_size (length-zeros 16384)
-        (w1 ∙ ap (overwrite s0.bytes 1) behind_is)
-        w2
-        (w4 ∙ ap (λ xs. overwrite xs 0 c.split_at.result.0.now) y3 ∙ ap (overwrite s2.bytes 0) first_is) in
+    written_empty s0.bytes s1.bytes s2.bytes s4.bytes h (zeros 16384) size header_size (length-zeros 16384)
+    (w1 ∙ ap (overwrite s0.bytes 1) behind_is)
+    w2
+    (w4 ∙ ap (λ xs. overwrite xs 0 c.split_at.result.0.now) y3 ∙ ap (overwrite s2.bytes 0) first_is) in
     let flushed = c.sync-2.ensures.observed o4 in
     on_ok_weaker c.sync-2.result (λ durable. record {
       layout_is = flushed.bytes ∙ bytes ∙ ap (λ xs. xs ++ zeros 16384) c.write_header.ensures ∙ sym (empty_layout p c.requires.today);

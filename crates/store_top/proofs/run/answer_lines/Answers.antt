@@ -199,9 +199,9 @@ returns-then-is_err-clause-replies g c o so =
     let answer = c.in-Ok.ensures.answer (inv.source_kept.observable ∙ o) in
     let line = lem.line_answered state c.in-Ok.line c.text.result.now now next c.in_default.not-End c.text.ensures.value answer in
     let reply_is : reply_of c.in-Ok-answer_line.reply ≡ (answer_today t_now line.text p).reply =
-        c.in-Ok-answer_line.ensures.reply line.text line.is ∙ ap (λ (q : Parameters). (answer_today t_now line.text q).reply) inv.params in
+    c.in-Ok-answer_line.ensures.reply line.text line.is ∙ ap (λ (q : Parameters). (answer_today t_now line.text q).reply) inv.params in
     let tree_is : tree_of c.answer_line.new.store.paths.items ≡ (answer_today t_now line.text p).tree =
-        c.in-Ok-answer_line.ensures.tree line.text line.is ∙ ap (λ (q : Parameters). (answer_today t_now line.text q).tree) inv.params in
+    c.in-Ok-answer_line.ensures.tree line.text line.is ∙ ap (λ (q : Parameters). (answer_today t_now line.text q).tree) inv.params in
     let failed = sym c.is_err.ensures.value ∙ c.if-is_err.true in
     let appends = lem.at_err c.write_reply.result failed (c.write_reply.ensures.observed (inv.sink_kept.observable ∙ so)).cut_off in
     let prefix = subst (λ (r : Reply). AppendsPrefix sink_now.written (g.W.Sink.state c.write_reply.new.sink).written (reply_text r)) reply_is appends in
@@ -224,7 +224,7 @@ returns-then-is_err-clause-image g c o od stands whole =
     let answer = c.in-Ok.ensures.answer (inv.source_kept.observable ∙ o) in
     let line = lem.line_answered state c.in-Ok.line c.text.result.now now next c.in_default.not-End c.text.ensures.value answer in
     let tree_is : tree_of c.answer_line.new.store.paths.items ≡ (answer_today t_now line.text p).tree =
-        c.in-Ok-answer_line.ensures.tree line.text line.is ∙ ap (λ (q : Parameters). (answer_today t_now line.text q).tree) inv.params in
+    c.in-Ok-answer_line.ensures.tree line.text line.is ∙ ap (λ (q : Parameters). (answer_today t_now line.text q).tree) inv.params in
     let stands_now = subst (λ (q : Parameters). Stands (g.D.Disk.state c.loop-done.store.disk) t_now q) (sym inv.params) (inv.stands od stands) in
     let stands_next = c.in-Ok-answer_line.ensures.stands (inv.disk_kept.observable ∙ od) stands_now in
     let params_next = c.answer_line.ensures.params ∙ inv.params in
@@ -260,9 +260,9 @@ loop-done-preserved-else-is_err g c =
           let answer = c.in-Ok.ensures.answer (inv.source_kept.observable ∙ o) in
           let line = lem.line_answered state c.in-Ok.line c.text.result.now now next c.in_default.not-End c.text.ensures.value answer in
           let reply_is : reply_of c.in-Ok-answer_line.reply ≡ (answer_today t_now line.text p).reply =
-              c.in-Ok-answer_line.ensures.reply line.text line.is ∙ ap (λ (q : Parameters). (answer_today t_now line.text q).reply) inv.params in
+          c.in-Ok-answer_line.ensures.reply line.text line.is ∙ ap (λ (q : Parameters). (answer_today t_now line.text q).reply) inv.params in
           let tree_is : tree_of c.answer_line.new.store.paths.items ≡ (answer_today t_now line.text p).tree =
-              c.in-Ok-answer_line.ensures.tree line.text line.is ∙ ap (λ (q : Parameters). (answer_today t_now line.text q).tree) inv.params in
+          c.in-Ok-answer_line.ensures.tree line.text line.is ∙ ap (λ (q : Parameters). (answer_today t_now line.text q).tree) inv.params in
           lem.halfway_more state first now next sink_first sink_now (g.W.Sink.state c.write_reply.new.sink) t_first t_now (tree_of c.answer_line.new.store.paths.items) p c.loop-done.done line.text (inv.half o) line.answers tree_is
           (λ so. lem.at_ok c.write_reply.result written (c.write_reply.ensures.observed (inv.sink_kept.observable ∙ so)).appended ∙ ap (λ (r : Reply). sink_now.written ++ reply_text r) reply_is);
       stands = λ od stands.
@@ -299,9 +299,9 @@ loop-done-preserved g c =
           let answer = c.in-Ok.ensures.answer (inv.source_kept.observable ∙ o) in
           let line = lem.line_answered state c.in-Ok.line c.text.result.now now next c.in_default.not-End c.text.ensures.value answer in
           let reply_is : reply_of c.in-Ok-answer_line.reply ≡ (answer_today t_now line.text p).reply =
-              c.in-Ok-answer_line.ensures.reply line.text line.is ∙ ap (λ (q : Parameters). (answer_today t_now line.text q).reply) inv.params in
+          c.in-Ok-answer_line.ensures.reply line.text line.is ∙ ap (λ (q : Parameters). (answer_today t_now line.text q).reply) inv.params in
           let tree_is : tree_of c.answer_line.new.store.paths.items ≡ (answer_today t_now line.text p).tree =
-              c.in-Ok-answer_line.ensures.tree line.text line.is ∙ ap (λ (q : Parameters). (answer_today t_now line.text q).tree) inv.params in
+          c.in-Ok-answer_line.ensures.tree line.text line.is ∙ ap (λ (q : Parameters). (answer_today t_now line.text q).tree) inv.params in
           lem.halfway_more state first now next sink_first sink_now (g.W.Sink.state c.write_reply.new.sink) t_first t_now (tree_of c.answer_line.new.store.paths.items) p c.loop-done.done line.text (inv.half o) line.answers tree_is
           (λ so. lem.at_ok c.write_reply.result written (c.write_reply.ensures.observed (inv.sink_kept.observable ∙ so)).appended ∙ ap (λ (r : Reply). sink_now.written ++ reply_text r) reply_is);
       stands = λ od stands.

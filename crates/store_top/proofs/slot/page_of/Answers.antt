@@ -26,15 +26,15 @@ push-requires-clause-room c =
     let few : length c.args.paths.now ≤ 10 = c.requires.few in
     let test : c.loop-path.path-index < length c.in_ok-first.rest.now = c.loop-path-test.true in
     let size : length c.loop-path.page.cells ≡ c.loop-path.path-index + 1 =
-        ap length c.loop-path.invariant.cells ∙ length-map (take (c.loop-path.path-index + 1) c.args.paths.now) cell_of ∙ length-take-le (c.loop-path.path-index + 1) c.args.paths.now (omega arith) in
+    ap length c.loop-path.invariant.cells ∙ length-map (take (c.loop-path.path-index + 1) c.args.paths.now) cell_of ∙ length-take-le (c.loop-path.path-index + 1) c.args.paths.now (omega arith) in
     let room : length c.loop-path.page.cells < 10 = omega arith in
     subst (λ (l : Label). length c.loop-path.page.cells < page_room l.level) (sym c.loop-path.invariant.label) room
 
 pub push-requires-clause-rising : goal.push-requires-clause-rising
 push-requires-clause-rising c =
     let cells = ap (λ (cs : List Cell). cs ++ c.cell_of-in-loop-path.result ∷ []) c.loop-path.invariant.cells
-        ∙ ap (λ x. map cell_of (take (c.loop-path.path-index + 1) c.args.paths.now) ++ x ∷ []) c.cell_of-in-loop-path.ensures.value
-        ∙ next_cells c.args.paths.now c.in_ok-first.rest.now c.in_ok-first.first.now c.path-item.result c.loop-path.path-index c.in_ok-first.ensures.cases.0 c.loop-path-test.true c.path-item.is in
+    ∙ ap (λ x. map cell_of (take (c.loop-path.path-index + 1) c.args.paths.now) ++ x ∷ []) c.cell_of-in-loop-path.ensures.value
+    ∙ next_cells c.args.paths.now c.in_ok-first.rest.now c.in_ok-first.first.now c.path-item.result c.loop-path.path-index c.in_ok-first.ensures.cases.0 c.loop-path-test.true c.path-item.is in
     subst (λ (cs : List Cell). IsStrictlySortedBy key_cmp (map (λ (x : Cell). x.key) cs)) (sym cells)
     (rising_cells c.args.paths.now c.requires (c.loop-path.path-index + 1 + 1))
 

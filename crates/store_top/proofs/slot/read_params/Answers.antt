@@ -44,8 +44,8 @@ returns-in_default-clause-only g c observable p names =
       | in_default-via-in-Some+then-is_today+else-len-image_len w ↦
           let same : w.in-Some.params ≡ p = cc in
           absurd (w.if-len-image_len.false (
-            w.len-then-is_today.ensures ∙ c.read_at.ensures.call.size ∙ sym (g.met.D.Disk.sound c.args.disk.now observable).size ∙ names.length_is
-            ∙ ap (λ (x : model.Parameters). model.image_len x.slots) (sym same) ∙ sym (w.image_len.ensures ∙ ap model.image_len w.slots.ensures.value)))
+          w.len-then-is_today.ensures ∙ c.read_at.ensures.call.size ∙ sym (g.met.D.Disk.sound c.args.disk.now observable).size ∙ names.length_is
+          ∙ ap (λ (x : model.Parameters). model.image_len x.slots) (sym same) ∙ sym (w.image_len.ensures ∙ ap model.image_len w.slots.ensures.value)))
       | in_default-via-in-Some+else-is_today w ↦
           let same : w.in-Some.params ≡ p = cc in
           let yes : w.is_today.result ≡ true = w.is_today.ensures.1 (subst IsToday (sym same) names.today) in

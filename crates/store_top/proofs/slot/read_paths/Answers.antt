@@ -28,8 +28,8 @@ returns-clause-found g c observable names =
     let read = (c.in_ok-read_at.ensures.observed observable_1).read in
     let slot : List ℕ = c.read_at.new.into in
     let slot_is : slot ≡ bytes_at bytes 16384 4096 =
-        read ∙ ap (λ n. take n (drop c.table_at.result (state c.is_journal_empty.new.disk).bytes)) c.read_at.auto.into
-        ∙ ap (λ n. take 4096 (drop n (state c.is_journal_empty.new.disk).bytes)) at ∙ ap (λ xs. take 4096 (drop 16384 xs)) untouched.bytes in
+    read ∙ ap (λ n. take n (drop c.table_at.result (state c.is_journal_empty.new.disk).bytes)) c.read_at.auto.into
+    ∙ ap (λ n. take 4096 (drop n (state c.is_journal_empty.new.disk).bytes)) at ∙ ap (λ xs. take 4096 (drop 16384 xs)) untouched.bytes in
     let empty = (c.in_ok-is_journal_empty.ensures.answer observable).0 c.if-not-branch.false in
     if_some_weaker (λ v. ArePaths v.items × (slot ≡ slot_of v.items)) (λ v. ShowsPaths bytes v.items p)
     (λ v found. shows_from_parts bytes v.items p names found.0 empty (sym slot_is ∙ found.1))
@@ -46,6 +46,6 @@ returns-clause-only g c observable paths shows =
     let read = (c.in_ok-read_at.ensures.observed observable_1).read in
     let slot : List ℕ = c.read_at.new.into in
     let slot_is : slot ≡ bytes_at bytes 16384 4096 =
-        read ∙ ap (λ n. take n (drop c.table_at.result (state c.is_journal_empty.new.disk).bytes)) c.read_at.auto.into
-        ∙ ap (λ n. take 4096 (drop n (state c.is_journal_empty.new.disk).bytes)) at ∙ ap (λ xs. take 4096 (drop 16384 xs)) untouched.bytes in
+    read ∙ ap (λ n. take n (drop c.table_at.result (state c.is_journal_empty.new.disk).bytes)) c.read_at.auto.into
+    ∙ ap (λ n. take 4096 (drop n (state c.is_journal_empty.new.disk).bytes)) at ∙ ap (λ xs. take 4096 (drop 16384 xs)) untouched.bytes in
     c.in_ok-read_slot.ensures.only paths shows.valid (slot_is ∙ slot_shown bytes paths p shows)

@@ -30,6 +30,12 @@ returns-in_err-seed-clause-value c =
 
 pub returns-clause-value : goal.returns-clause-value
 returns-clause-value c =
-    rw (format_words c.args.word.now c.args.slots.now c.args.height.now c.args.draw.now c.args.seed.now,
-      agrees _ _ c.ne.ensures c.if-ne.false, agrees _ _ c.ne-else-ne.ensures c.if-ne-2.false, agrees _ _ c.ne-else-ne-2.ensures c.if-ne-3.false, agrees _ _ c.ne-else-ne-3.ensures c.if-ne-4.false, ← c.in_ok-seed.ensures)
+    rw (
+      format_words c.args.word.now c.args.slots.now c.args.height.now c.args.draw.now c.args.seed.now,
+      agrees _ _ c.ne.ensures c.if-ne.false,
+      agrees _ _ c.ne-else-ne.ensures c.if-ne-2.false,
+      agrees _ _ c.ne-else-ne-2.ensures c.if-ne-3.false,
+      agrees _ _ c.ne-else-ne-3.ensures c.if-ne-4.false,
+      ← c.in_ok-seed.ensures,
+    )
     (ap (λ p. Some (Format p)) (made_is c.new.result c.in_ok-params.params _ c.new.ensures.value (sym c.ok.ensures.value ∙ c.in_ok-params.was)))

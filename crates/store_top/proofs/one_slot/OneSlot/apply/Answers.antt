@@ -16,5 +16,5 @@ pub returns-in_ok-list-in_default-clause-tree : goal.returns-in_ok-list-in_defau
 returns-in_ok-list-in_default-clause-tree g c =
     let lists = served_other c.args.command.now c.requires c.in_default.not-Make in
     sym (
-      ap (λ (x : Command). (step (tree_of c.args.self.now.paths.items) x c.args.self.now.params).tree) lists
-      ∙ ap (λ (s : Step). s.tree) (list_step c.args.self.now.paths.items c.args.self.now.params c.args.self.now.listed.top))
+    ap (λ (x : Command). (step (tree_of c.args.self.now.paths.items) x c.args.self.now.params).tree) lists
+    ∙ ap (λ (s : Step). s.tree) (list_step c.args.self.now.paths.items c.args.self.now.params c.args.self.now.listed.top))

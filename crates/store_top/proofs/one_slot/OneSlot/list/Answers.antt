@@ -16,8 +16,8 @@ pub push-requires : goal.push-requires
 push-requires g c =
     let paths = c.args.self.now.paths.items in
     let here : slice_get paths c.loop-path.path-index ≡ Some c.path-item.result =
-        ap (λ ps. slice_get ps c.loop-path.path-index) (sym c.deref-path-items.ensures.value)
-        ∙ slice_get_read c.deref-path-items.result.now (length c.deref-path-items.result.now) c.loop-path.path-index c.path-item.result refl c.loop-path-test.true c.path-item.is in
+    ap (λ ps. slice_get ps c.loop-path.path-index) (sym c.deref-path-items.ensures.value)
+    ∙ slice_get_read c.deref-path-items.result.now (length c.deref-path-items.result.now) c.loop-path.path-index c.path-item.result refl c.loop-path-test.true c.path-item.is in
     let short = short_name c.path-item.result (all_at IsTopPath paths c.loop-path.path-index c.path-item.result c.args.self.now.listed.top here) in
     omega (arith, short, ap length c.name.ensures)
 
@@ -25,8 +25,8 @@ pub loop-path-preserved : goal.loop-path-preserved
 loop-path-preserved g c =
     let paths = c.args.self.now.paths.items in
     let here : slice_get paths c.loop-path.path-index ≡ Some c.path-item.result =
-        ap (λ ps. slice_get ps c.loop-path.path-index) (sym c.deref-path-items.ensures.value)
-        ∙ slice_get_read c.deref-path-items.result.now (length c.deref-path-items.result.now) c.loop-path.path-index c.path-item.result refl c.loop-path-test.true c.path-item.is in
+    ap (λ ps. slice_get ps c.loop-path.path-index) (sym c.deref-path-items.ensures.value)
+    ∙ slice_get_read c.deref-path-items.result.now (length c.deref-path-items.result.now) c.loop-path.path-index c.path-item.result refl c.loop-path-test.true c.path-item.is in
     c.in_ok-push.ensures.ok
     ∙ ap (λ es. es ++ (c.name.result.now, None) ∷ []) c.loop-path.invariant
     ∙ ap (λ name. map child_of (tree_of (take c.loop-path.path-index paths)) ++ (name, None) ∷ []) c.name.ensures
