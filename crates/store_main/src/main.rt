@@ -64,6 +64,13 @@ fn command_line(rt: &HostRuntime) -> Result<CommandLine, BadCommandLine> {
     Ok(CommandLine { image, words })
 }
 
+/// Takes one of the numbers that the standard streams have, if it is free: where the program was started with a
+/// closed stream, the image's file would else get its number, and replies would be written into the image. The
+/// null device is open for reading alone, so a write to it fails as one to a closed stream does.
+fn fill_closed_stream(rt: &HostRuntime) -> io::Result<File> {
+    File::open(rt, "/dev/null")
+}
+
 /// Opens a file for reading and writing.
 fn open(rt: &HostRuntime, path: &str) -> io::Result<File> {
     File::options().read(true).write(true).open(rt, path)
@@ -111,6 +118,11 @@ fn carry_out(rt: &HostRuntime, words: &Words, disk: FileDisk) -> Status {
 
 /// The status that the program ends with.
 fn run(rt: &HostRuntime) -> u8 {
+    let _streams = (
+        fill_closed_stream(rt),
+        fill_closed_stream(rt),
+        fill_closed_stream(rt),
+    );
     let CommandLine { image, words } = match command_line(rt) {
         Ok(line) => line,
         Err(BadCommandLine::Usage) => return Status::Usage.code(),
