@@ -10,7 +10,6 @@ use script_lines::{StdSink, StdSource};
 use std::alloc::Global;
 use std::fs::File;
 use std::io::ErrorKind;
-use std::os::fd::AsRawFd;
 use std::process::ExitCode;
 use std::{env, io};
 use store_base::NoMemory;
@@ -18,9 +17,6 @@ use store_top::{Outcome, Status, Wanted, Words, top, wanted_len};
 
 /// The status where the file cannot be opened or made.
 const NO_FILE: u8 = 12;
-
-/// The descriptor of standard error, the last of the standard streams.
-const LAST_STREAM: i32 = 2;
 
 /// The image's path and the words behind it.
 struct CommandLine {
@@ -92,19 +88,8 @@ fn open_or_make(rt: &HostRuntime, path: &str, len: u64) -> io::Result<File> {
     }
 }
 
-/// Moves a file off the descriptors of the standard streams. Where one of these was closed, the file that is opened
-/// next takes its number, and what is meant for the stream would land in the image.
-fn off_streams(file: File) -> io::Result<File> {
-    if file.as_raw_fd() > LAST_STREAM {
-        Ok(file)
-    } else {
-        file.try_clone()
-    }
-}
-
 /// The file as a disk of its length.
 fn disk_of(file: File) -> io::Result<FileDisk> {
-    let file = off_streams(file)?;
     let len = file.metadata()?.len();
     Ok(FileDisk::new(file, len))
 }
