@@ -10,6 +10,7 @@ use script_lines::{StdSink, StdSource};
 use std::alloc::Global;
 use std::fs::File;
 use std::io::ErrorKind;
+use std::os::fd::AsRawFd;
 use std::process::ExitCode;
 use std::{env, io};
 use store_base::NoMemory;
@@ -17,6 +18,9 @@ use store_top::{Outcome, Status, Wanted, Words, top, wanted_len};
 
 /// The status where the file cannot be opened or made.
 const NO_FILE: u8 = 12;
+
+/// The descriptor of standard error, the last of the standard streams.
+const LAST_STREAM: i32 = 2;
 
 /// The image's path and the words behind it.
 struct CommandLine {
@@ -60,13 +64,6 @@ fn command_line(rt: &HostRuntime) -> Result<CommandLine, BadCommandLine> {
     Ok(CommandLine { image, words })
 }
 
-/// Takes one of the numbers that the standard streams have, if it is free: where the program was started with a
-/// closed stream, the image's file would else get its number, and replies would be written into the image. The
-/// null device is open for reading alone, so a write to it fails as one to a closed stream does.
-fn fill_closed_stream(rt: &HostRuntime) -> io::Result<File> {
-    File::open(rt, "/dev/null")
-}
-
 /// Opens a file for reading and writing.
 fn open(rt: &HostRuntime, path: &str) -> io::Result<File> {
     File::options().read(true).write(true).open(rt, path)
@@ -88,8 +85,19 @@ fn open_or_make(rt: &HostRuntime, path: &str, len: u64) -> io::Result<File> {
     }
 }
 
+/// Moves a file off the descriptors of the standard streams. Where one of these was closed, the file that is opened
+/// next takes its number, and what is meant for the stream would land in the image.
+fn off_streams(file: File) -> io::Result<File> {
+    if file.as_raw_fd() > LAST_STREAM {
+        Ok(file)
+    } else {
+        file.try_clone()
+    }
+}
+
 /// The file as a disk of its length.
 fn disk_of(file: File) -> io::Result<FileDisk> {
+    let file = off_streams(file)?;
     let len = file.metadata()?.len();
     Ok(FileDisk::new(file, len))
 }
@@ -103,11 +111,6 @@ fn carry_out(rt: &HostRuntime, words: &Words, disk: FileDisk) -> Status {
 
 /// The status that the program ends with.
 fn run(rt: &HostRuntime) -> u8 {
-    let _streams = (
-        fill_closed_stream(rt),
-        fill_closed_stream(rt),
-        fill_closed_stream(rt),
-    );
     let CommandLine { image, words } = match command_line(rt) {
         Ok(line) => line,
         Err(BadCommandLine::Usage) => return Status::Usage.code(),
