@@ -14,7 +14,7 @@ use Rattle.gate_journal.specs.Phases.JournalPhase.{Journaling, Flagging, Redoing
 use Rattle.gate_journal.proofs.Areas.{areas, marks_end, shadow_end, table_end}
 use Rattle.gate_journal.proofs.Places.{SameAt-refl, SameAt-trans, SameAt-outside, bytes_at-same}
 use Rattle.gate_journal.proofs.Entries.{slice_index-overwrite}
-use Rattle.gate_journal.proofs.Phases.{recovered_in_phase, settled-same, settled_empty}
+use Rattle.gate_journal.proofs.Phases.{recovered_in_phase, settled_empty, same_settled}
 
 -- a slot of the table lies apart from another
 pub table_apart : (slots i other : ℕ) → i < slots → other < slots → (other ≡ i → ⊥) → (place : ℕ) → table_at slots i ≤ place → place < table_at slots i + 4096 → IsApart (table_at slots other) 4096 place
@@ -200,11 +200,14 @@ module _ (slots : ℕ) (changes : Changes) (valid : AreChanges slots changes) wh
         (with_first_same old long changes.count (omega arith)).same place (λ k few. inl (omega (arith, (areas slots (changes.slot k) (valid.below k few)).table_is)))
         ∙ empty place low high
 
-    either : (phase : JournalPhase) (image : List ℕ) → InPhase slots old (with_slots slots changes old) phase image → RecoversToEither slots old (with_slots slots changes old) image
-    either phase image is = elim (recovered_in_phase slots old (with_slots slots changes old) phase image is) [
-      | inl to_old ↦ inl (to_old ∙ settled_empty slots old long empty)
-      | inr to_new ↦ inr (to_new ∙ settled_empty slots (with_slots slots changes old) new_long new_empty)
-    ]
+    either : (phase : JournalPhase) (image : List ℕ) → length image ≡ image_len slots → InPhase slots old (with_slots slots changes old) phase image → RecoversToEither slots old (with_slots slots changes old) image
+    either phase image image_long is = record {
+      same_length = image_long ∙ sym long;
+      recovers = elim (recovered_in_phase slots old (with_slots slots changes old) phase image is) [
+        | inl to_old ↦ inl (to_old ∙ settled_empty slots old long empty)
+        | inr to_new ↦ inr (to_new ∙ settled_empty slots (with_slots slots changes old) new_long new_empty)
+      ];
+    }
 
     old_table : HasTable slots old old
     old_table = record { header = refl; table = λ i below. refl }
@@ -212,7 +215,7 @@ module _ (slots : ℕ) (changes : Changes) (valid : AreChanges slots changes) wh
     below_table : (place : ℕ) → place < table_at slots 0 → OutsideTable slots changes place
     below_table place low k few = inl (omega (arith, (areas slots (changes.slot k) (valid.below k few)).table_is))
 
-    new_header : take 4096 (with_slots slots changes old) ≡ take 4096 old
+    pub new_header : take 4096 (with_slots slots changes old) ≡ take 4096 old
     new_header =
         bytes_at-same (OutsideTable slots changes) 0 4096 old (with_slots slots changes old) (λ place low high. below_table place (omega (arith, marks_end slots, shadow_end slots)))
         (with_first_same old long changes.count (omega arith))
@@ -220,7 +223,7 @@ module _ (slots : ℕ) (changes : Changes) (valid : AreChanges slots changes) wh
     -- while the journal is written
     pub journaling : (image : List ℕ) → SameAt (OutsideJournal slots changes) old image → RecoversToEither slots old (with_slots slots changes old) image
     journaling image same =
-        either Journaling image (
+        either Journaling image (same.same_length ∙ long) (
           HasTable-same slots (OutsideJournal slots changes) old old image (λ place low. journal_spared place (omega arith)) (λ place low high. table_spared place low) same old_table,
           clear_flag image (same.same 4096 (journal_spared 4096 (omega arith)) ∙ empty 4096 (omega arith) (omega (arith, marks_end slots, shadow_end slots))),
         )
@@ -252,7 +255,7 @@ module _ (slots : ℕ) (changes : Changes) (valid : AreChanges slots changes) wh
     pub flagging : (before image : List ℕ) → Stands old before → SameAt (IsApart 4096 1) before image → RecoversToEither slots old (with_slots slots changes old) image
     flagging before image stands same =
         let here = Stands-flag old before image same stands in
-        either Flagging image (
+        either Flagging image here.long (
           here.table,
           redo old image long here.journal (here.table.header ∙ sym new_header) (λ i below none. here.table.table i below ∙ sym (with_slots_other old long i below none)),
         )
@@ -270,7 +273,7 @@ module _ (slots : ℕ) (changes : Changes) (valid : AreChanges slots changes) wh
     redoing before image stands one same =
         let header : take 4096 image ≡ take 4096 before =
         bytes_at-same (OutsideTable slots changes) 0 4096 before image (λ place low high. below_table place (omega (arith, marks_end slots, shadow_end slots))) same in
-        either Redoing image (
+        either Redoing image (same.same_length ∙ stands.long) (
           redo old image long (HasJournal-same (OutsideTable slots changes) before image (λ place low high. below_table place high) same stands.journal) (header ∙ stands.table.header ∙ sym new_header)
               (λ i below none.
               bytes_at-same (OutsideTable slots changes) (table_at slots i) 4096 before image (λ place from to k low. table_apart slots i (changes.slot k) below (valid.below k low) (none k low) place from to) same
@@ -292,12 +295,12 @@ module _ (slots : ℕ) (changes : Changes) (valid : AreChanges slots changes) wh
     pub clearing : (before image : List ℕ) → Stands (with_slots slots changes old) before → SameAt (IsApart 4096 1) before image → RecoversToEither slots old (with_slots slots changes old) image
     clearing before image stands same =
         let here = Stands-flag (with_slots slots changes old) before image same stands in
-        either Clearing image (here.table, redo old image long here.journal here.table.header (λ i below none. here.table.table i below))
+        either Clearing image here.long (here.table, redo old image long here.journal here.table.header (λ i below none. here.table.table i below))
 
     -- while the journal is erased
     pub erasing : (before image : List ℕ) → Stands (with_slots slots changes old) before → slice_index before 4096 ≡ 0 → SameAt (OutsideJournal slots changes) before image → RecoversToEither slots old (with_slots slots changes old) image
     erasing before image stands zero_flag same =
-        either Erasing image (
+        either Erasing image (same.same_length ∙ stands.long) (
           HasTable-same slots (OutsideJournal slots changes) (with_slots slots changes old) before image (λ place low. journal_spared place (omega arith)) (λ place low high. table_spared place low) same stands.table,
           clear_flag image (same.same 4096 (journal_spared 4096 (omega arith)) ∙ zero_flag),
         )
@@ -354,4 +357,4 @@ module _ (slots : ℕ) (changes : Changes) (valid : AreChanges slots changes) wh
               ]
         ] in
         let table = HasTable-same slots (OutsideJournal slots changes) (with_slots slots changes old) before image (λ place low. journal_spared place (omega arith)) (λ place low high. table_spared place low) same stands.table in
-        sym (settled_empty slots image image_long image_empty) ∙ settled-same slots (with_slots slots changes old) image table ∙ settled_empty slots (with_slots slots changes old) new_long new_empty
+        same_settled slots (with_slots slots changes old) image new_long image_long new_empty image_empty table

@@ -11,7 +11,7 @@ use Rattle.store_model.specs.Draws.{Draw, draw_of}
 use Rattle.store_model.specs.Pages.{Page, level_list, groups, level_pages, pages_of_pairs, pages}
 use Rattle.store_model.specs.Placement.{place, put_all}
 use Rattle.store_model.specs.Images.{header, slot_bytes, table_bytes, layout, journal_len}
-use Rattle.disk_model.specs.DiskState.{DiskState, IsDurable, IsSound}
+use Rattle.disk_model.specs.DiskState.{DiskState, IsDurable}
 use Rattle.disk_model.specs.DiskCalls.{LeavesOnly, overwrite}
 use Rattle.disk_model.proofs.Crashes.{LeavesOnly-trans, LeavesOnly-weaken}
 use Rattle.disk_model.proofs.Images.{slice_index-overwrite}
@@ -20,7 +20,8 @@ use Rattle.gate_journal.specs.Places.{IsApart, SameAt, Keeps, Reaches, ReadsOnly
 use Rattle.gate_journal.specs.Formats.{IsNoImage, IsEmptyOrNone, HasEmptyRest, Formats}
 use Rattle.gate_journal.proofs.Areas.{journal_end, marks_end, shadow_end, table_end}
 use Rattle.gate_journal.proofs.Places.{Keeps-durable}
-use Rattle.gate_journal.proofs.Stages.{no_claim, on_ok_map, phase_leaves, reads_after}
+use Rattle.gate_journal.proofs.Reading.{IsDurable-reads}
+use Rattle.gate_journal.proofs.Stages.{no_claim, on_ok_map, phase_leaves}
 
 -- The image of the empty tree: its table is empty.
 no_level : (d : Draw) (level : ℕ) → level_pages d [] level ≡ []
@@ -115,56 +116,57 @@ module _ (p : Parameters) (valid : IsParameters p) where
 pub while_rest : (p : Parameters) (before image : List ℕ) (n : ℕ) → (slice_index before 0 ≡ 72 → ⊥) → SameAt (IsApart 1 n) before image → IsEmptyOrNone p image
 while_rest p before image n differs same = inl (no_image image (λ first. differs (sym (same.same 0 (inl (let low : 0 < 1 = omega arith in low))) ∙ first)))
 
--- The states of the disk between the two phases.
-module _ (p : Parameters) (valid : IsParameters p) (old : DiskState) (durable : IsDurable old) (differs : slice_index old.bytes 0 ≡ 72 → ⊥) where
-  pub leaves_rest : (mid : DiskState) → Keeps (IsApart 1 (image_len p.slots - 1)) old mid → LeavesOnly old mid (IsEmptyOrNone p)
-  leaves_rest mid keeps =
+-- a format that failed claims nothing of Ok
+pub formats_failed : {T E : Type 0} (p : Parameters) (new : DiskState) (result : Result T E) → IsErr result → Formats p new result
+formats_failed p new result fails = record {
+  durable = no_claim result (IsDurable new) fails;
+  done = no_claim result (new.bytes ≡ layout empty_tree p) fails;
+}
+
+-- another value in the place of an Ok
+pub formats_answered : {T E U F : Type 0} (p : Parameters) (new : DiskState) (value : U) (answer : T) → Formats {E = F} p new (Ok value) → Formats {E = E} p new (Ok answer)
+formats_answered p new value answer formats = record { durable = formats.durable; done = formats.done }
+
+-- The states of the disk behind the two phases: after the rest was written, and after the first byte.
+module _ (p : Parameters) (valid : IsParameters p) (old : DiskState) (differs : slice_index old.bytes 0 ≡ 72 → ⊥) where
+  pub reads_rest : (mid : DiskState) → Keeps (IsApart 1 (image_len p.slots - 1)) old mid → IsEmptyOrNone p mid.bytes
+  reads_rest mid keeps = while_rest p old.bytes mid.bytes (image_len p.slots - 1) differs keeps.reads
+
+  pub leaves_rest : (mid : DiskState) → IsDurable old → Keeps (IsApart 1 (image_len p.slots - 1)) old mid → LeavesOnly old mid (IsEmptyOrNone p)
+  leaves_rest mid durable keeps =
       LeavesOnly-weaken old mid (SameAt (IsApart 1 (image_len p.slots - 1)) old.bytes) (IsEmptyOrNone p) (λ image same. while_rest p old.bytes image (image_len p.slots - 1) differs same)
       (Keeps-durable (IsApart 1 (image_len p.slots - 1)) old mid durable keeps)
 
-  pub formats_fault : {T E : Type 0} (new : DiskState) (result : Result T E) → IsErr result → IsSound new → Keeps (IsApart 1 (image_len p.slots - 1)) old new → Formats p old new result
-  formats_fault new result fails sound keeps = record {
-    crash = leaves_rest new keeps;
-    reads = reads_after old new (IsEmptyOrNone p) sound (leaves_rest new keeps);
-    durable = no_claim result (IsDurable new) fails;
-    done = no_claim result (new.bytes ≡ layout empty_tree p) fails;
-  }
+  module _ {T E : Type 0} (mid new : DiskState) (result : Result T E) (long : length mid.bytes ≡ image_len p.slots) (rest : HasEmptyRest p mid.bytes) (first : Reaches (IsApart 0 1) (λ image. image ≡ overwrite mid.bytes 0 (72 ∷ [])) mid new result) where
+    pub formats : OnOk result (IsDurable new) → Formats p new result
+    formats durable = record {
+      durable = durable;
+      done = on_ok_map result (new.bytes ≡ overwrite mid.bytes 0 (72 ∷ [])) (new.bytes ≡ layout empty_tree p)
+          (λ is.
+          let within : 0 + 1 ≤ length mid.bytes = omega (arith, long, table_end p.slots, shadow_end p.slots, marks_end p.slots) in
+          whole_empty p valid new.bytes (first.keeps.reads.same_length ∙ long) (ap (λ (l : List ℕ). slice_index l 0) is ∙ slice_index-overwrite mid.bytes 0 (72 ∷ []) 0 within (omega arith) (omega arith)) (record {
+            header_is = λ place low high. first.keeps.reads.same place (inr (omega arith)) ∙ rest.header_is place low high;
+            rest_is = λ place low high. first.keeps.reads.same place (inr (omega arith)) ∙ rest.rest_is place low high;
+          }))
+          first.done;
+    }
 
-  pub formats : {T E U F : Type 0} (mid new : DiskState) (value : U) (result : Result T E) → length mid.bytes ≡ image_len p.slots → IsSound new → Reaches {E = F} (IsApart 1 (image_len p.slots - 1)) (HasEmptyRest p) old mid (Ok value) → IsDurable mid
-      → Reaches (IsApart 0 1) (λ image. image ≡ overwrite mid.bytes 0 (72 ∷ [])) mid new result → OnOk result (IsDurable new) → Formats p old new result
-  formats mid new value result long sound rest mid_durable first new_durable =
-      let within : 0 + 1 ≤ length mid.bytes = omega (arith, long, table_end p.slots, shadow_end p.slots, marks_end p.slots) in
-      let leaves = phase_leaves (IsApart 0 1) (IsEmptyOrNone p) old mid new (leaves_rest mid rest.keeps) mid_durable first.keeps (λ image same. while_first p valid mid.bytes image long rest.done same) in
-      record {
-        crash = leaves;
-        reads = reads_after old new (IsEmptyOrNone p) sound leaves;
-        durable = new_durable;
-        done = on_ok_map result (new.bytes ≡ overwrite mid.bytes 0 (72 ∷ [])) (new.bytes ≡ layout empty_tree p)
-            (λ is.
-            whole_empty p valid new.bytes (first.keeps.reads.same_length ∙ long) (ap (λ (l : List ℕ). slice_index l 0) is ∙ slice_index-overwrite mid.bytes 0 (72 ∷ []) 0 within (omega arith) (omega arith)) (record {
-              header_is = λ place low high. first.keeps.reads.same place (inr (omega arith)) ∙ rest.done.header_is place low high;
-              rest_is = λ place low high. first.keeps.reads.same place (inr (omega arith)) ∙ rest.done.rest_is place low high;
-            }))
-            first.done;
-      }
+    pub reads_first : IsEmptyOrNone p new.bytes
+    reads_first = while_first p valid mid.bytes new.bytes long rest first.keeps.reads
+
+    pub leaves_first : IsDurable old → Keeps (IsApart 1 (image_len p.slots - 1)) old mid → IsDurable mid → LeavesOnly old new (IsEmptyOrNone p)
+    leaves_first durable keeps mid_durable =
+        phase_leaves (IsApart 0 1) (IsEmptyOrNone p) old mid new (leaves_rest mid durable keeps) mid_durable first.keeps (λ image same. while_first p valid mid.bytes image long rest same)
 
 -- a disk that was only read so far
 pub leaves_no_image : (p : Parameters) (old mid : DiskState) → IsDurable old → (slice_index old.bytes 0 ≡ 72 → ⊥) → ReadsOnly old mid → LeavesOnly old mid (IsEmptyOrNone p)
 leaves_no_image p old mid durable differs reads =
     LeavesOnly-weaken old mid old.crash_images (IsEmptyOrNone p) (λ image left. inl (no_image image (λ first. differs (sym (ap (λ (l : List ℕ). slice_index l 0) (durable image left)) ∙ first)))) reads.leaves
 
-pub formats_unread : {T E : Type 0} (p : Parameters) (old mid : DiskState) (result : Result T E) → IsErr result → IsDurable old → (slice_index old.bytes 0 ≡ 72 → ⊥) → ReadsOnly old mid → Formats p old mid result
-formats_unread p old mid result fails durable differs reads = record {
-  crash = leaves_no_image p old mid durable differs reads;
-  reads = inl (no_image mid.bytes (λ first. differs (sym (ap (λ (l : List ℕ). slice_index l 0) reads.bytes) ∙ first)));
-  durable = no_claim result (IsDurable mid) fails;
-  done = no_claim result (mid.bytes ≡ layout empty_tree p) fails;
-}
+pub reads_no_image : (p : Parameters) (old mid : DiskState) → (slice_index old.bytes 0 ≡ 72 → ⊥) → ReadsOnly old mid → IsEmptyOrNone p mid.bytes
+reads_no_image p old mid differs reads = inl (no_image mid.bytes (λ first. differs (sym (ap (λ (l : List ℕ). slice_index l 0) reads.bytes) ∙ first)))
 
-pub formats_read : {T E U F : Type 0} (p : Parameters) (old mid new : DiskState) (value : U) (answer : T) → IsDurable old → (slice_index old.bytes 0 ≡ 72 → ⊥) → ReadsOnly old mid → Formats {E = F} p mid new (Ok value) → Formats {E = E} p old new (Ok answer)
-formats_read p old mid new value answer durable differs reads formats = record {
-  crash = LeavesOnly-trans old mid new (IsEmptyOrNone p) (leaves_no_image p old mid durable differs reads) formats.crash;
-  reads = formats.reads;
-  durable = formats.durable;
-  done = formats.done;
-}
+-- a durable disk that was only read, and then written
+pub leaves_written : (p : Parameters) (old mid new : DiskState) → IsDurable old → (slice_index old.bytes 0 ≡ 72 → ⊥) → ReadsOnly old mid → (IsDurable mid → LeavesOnly mid new (IsEmptyOrNone p)) → LeavesOnly old new (IsEmptyOrNone p)
+leaves_written p old mid new durable differs reads then =
+    LeavesOnly-trans old mid new (IsEmptyOrNone p) (leaves_no_image p old mid durable differs reads) (then (IsDurable-reads old mid durable reads))

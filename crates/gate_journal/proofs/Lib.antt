@@ -12,3 +12,4 @@ pub mod Redoing
 pub mod Recovering
 pub mod Recoveries
 pub mod Formatting
+pub mod Layouts

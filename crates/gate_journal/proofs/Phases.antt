@@ -83,6 +83,11 @@ settled_empty slots image long empty =
     ∙ ap (λ (l : List ℕ). take 4096 image ++ (l ++ drop n (drop 4096 image))) (sym (journal_zeros slots image long empty))
     ∙ ap (λ (l : List ℕ). take 4096 image ++ l) back ∙ take-append-drop 4096 image
 
+-- images with empty journals, one header and one table are the same
+pub same_settled : (slots : ℕ) (target image : List ℕ) → length target ≡ image_len slots → length image ≡ image_len slots → HasEmptyJournal slots target → HasEmptyJournal slots image → HasTable slots target image → image ≡ target
+same_settled slots target image target_long long target_empty empty has =
+    sym (settled_empty slots image long empty) ∙ settled-same slots target image has ∙ settled_empty slots target target_long target_empty
+
 -- an image with an empty journal is what it recovers to
 pub recovered_empty : (slots : ℕ) (image : List ℕ) → length image ≡ image_len slots → HasEmptyJournal slots image → recovered slots image ≡ image
 unfolding is_flag_set

@@ -24,10 +24,14 @@ flag_clear image clear = elim (cases_eq (slice_index image 4096) 0) [
   | inr differs ↦ absurd (both_ways (not (slice_index image 4096 == 0)) clear (ap not (ne_eqb (slice_index image 4096) 0 differs)))
 ]
 
+-- an image that is the other recovers as it does
+recovers_alike : (slots : ℕ) (old image : List ℕ) → image ≡ old → RecoversAs slots old image
+recovers_alike slots old image is = record { same_length = ap length is; recovers = ap (recovered slots) is }
+
 -- what a durable disk recovers to, while it is only read
 pub leaves_reading : (slots : ℕ) (old new : DiskState) → IsDurable old → ReadsOnly old new → LeavesOnly old new (RecoversAs slots old.bytes)
 leaves_reading slots old new durable reads =
-    LeavesOnly-weaken old new old.crash_images (RecoversAs slots old.bytes) (λ image left. ap (recovered slots) (durable image left)) reads.leaves
+    LeavesOnly-weaken old new old.crash_images (RecoversAs slots old.bytes) (λ image left. recovers_alike slots old.bytes image (durable image left)) reads.leaves
 
 -- the flag was clear
 pub settles_clear : {T E : Type 0} (slots : ℕ) (old new : DiskState) (value : T) → length old.bytes ≡ image_len slots → IsDurable old → ReadsOnly old new → is_flag_set old.bytes ≡ false → SettlesFlag {E = E} slots old new (Ok value)
@@ -69,7 +73,7 @@ module _ (slots : ℕ) (old mid : DiskState) (long : length old.bytes ≡ image_
     settles_cleared new result reaches new_durable = record {
       crash =
           phase_leaves (IsApart 4096 1) (RecoversAs slots old.bytes) old next new (leaves_redoing next set kept) next_durable reaches.keeps
-          (λ image same. while_cleared slots old.bytes long next.bytes image next_table next_redo same);
+          (λ image same. while_cleared slots old.bytes long next.bytes image (same_marks.same_length ∙ long) next_table next_redo same);
       durable = new_durable;
       table = on_ok_map result (new.bytes ≡ overwrite next.bytes 4096 (0 ∷ [])) (HasTable slots (recovered slots old.bytes) new.bytes)
           (λ is. HasTable-same slots (IsApart 4096 1) (recovered slots old.bytes) next.bytes new.bytes (λ place low. inl low) (λ place low high. inr (omega (arith, shadow_end slots, marks_end slots))) reaches.keeps.reads next_table)
@@ -110,7 +114,7 @@ recovers_erased slots old mid next new value result long next_long durable reads
     record {
       crash =
           phase_leaves (IsApart 4097 (journal_len slots - 1)) (RecoversAs slots old.bytes) old next new (leaves_settling slots old mid next (Ok value) durable reads settles) settles.durable reaches.keeps
-          (λ image same. while_erased slots old.bytes long next.bytes image table settles.clear same);
+          (λ image same. while_erased slots old.bytes long next.bytes image next_long table settles.clear same);
       durable = new_durable;
       done = on_ok_map result (IsZeroAt 4097 (journal_len slots - 1) new.bytes) (new.bytes ≡ recovered slots old.bytes)
           (λ zero. when_erased slots old.bytes long next.bytes new.bytes next_long table settles.clear reaches.keeps.reads zero) reaches.done;
@@ -122,7 +126,7 @@ recovers_unsynced slots old new sync_result result fails observable sync =
     let effect = sync.observed observable in
     record {
       crash = record { time = effect.time; each = λ image left. inl (effect.during image left) };
-      reads = ap (recovered slots) effect.bytes;
+      reads = recovers_alike slots old.bytes new.bytes effect.bytes;
       durable = no_claim result (IsDurable new) fails;
       done = no_claim result (new.bytes ≡ recovered slots old.bytes) fails;
       empty = no_claim result (HasEmptyJournal slots new.bytes) fails;

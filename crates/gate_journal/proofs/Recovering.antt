@@ -12,7 +12,7 @@ use Rattle.gate_journal.specs.Recovery.{OutsideMarked, AreRedone, RecoversAs}
 use Rattle.gate_journal.proofs.Areas.{areas, journal_end, marks_end, shadow_end, table_end}
 use Rattle.gate_journal.proofs.Places.{bytes_at-same}
 use Rattle.gate_journal.proofs.Slots.{block-flat_map, length-flat_map-blocks}
-use Rattle.gate_journal.proofs.Phases.{recovered_clear, recovered_set, settled-same, settled_empty}
+use Rattle.gate_journal.proofs.Phases.{recovered_clear, recovered_set, settled_empty, same_settled}
 use Rattle.gate_journal.proofs.Committing.{table_apart, HasTable-same, clear_flag}
 use Rattle.gate_journal.proofs.Redoing.{before_table}
 
@@ -136,8 +136,11 @@ module _ (slots : ℕ) (old : List ℕ) (long : length old ≡ image_len slots) 
 
     -- while marked slots are redone
     pub while_redone : RecoversAs slots old image
-    while_redone =
-        recovered_set slots (recovered slots old) image (flag_same old image (same.same 4096 (spared 4096 (omega (arith, shadow_end slots, marks_end slots)))) ∙ set) redo_kept ∙ settled-recovered
+    while_redone = record {
+      same_length = same.same_length;
+      recovers =
+          recovered_set slots (recovered slots old) image (flag_same old image (same.same 4096 (spared 4096 (omega (arith, shadow_end slots, marks_end slots)))) ∙ set) redo_kept ∙ settled-recovered;
+    }
 
     pub table_redone : AreRedone slots 0 slots old image → HasTable slots (recovered slots old) image
     table_redone redone = record {
@@ -149,8 +152,8 @@ module _ (slots : ℕ) (old : List ℕ) (long : length old ≡ image_len slots) 
     }
 
   -- while the flag is cleared
-  pub while_cleared : (before image : List ℕ) → HasTable slots (recovered slots old) before → HasRedo slots (recovered slots old) before → SameAt (IsApart 4096 1) before image → RecoversAs slots old image
-  while_cleared before image table redo same =
+  pub while_cleared : (before image : List ℕ) → length before ≡ image_len slots → HasTable slots (recovered slots old) before → HasRedo slots (recovered slots old) before → SameAt (IsApart 4096 1) before image → RecoversAs slots old image
+  while_cleared before image before_long table redo same =
       let kept : (at : ℕ) → 8192 ≤ at → bytes_at image at 4096 ≡ bytes_at before at 4096 = λ at low. bytes_at-same (IsApart 4096 1) at 4096 before image (λ place from to. inr (omega arith)) same in
       let header : take 4096 image ≡ take 4096 before = bytes_at-same (IsApart 4096 1) 0 4096 before image (λ place low high. inl high) same in
       let here : HasTable slots (recovered slots old) image =
@@ -165,16 +168,22 @@ module _ (slots : ℕ) (old : List ℕ) (long : length old ≡ image_len slots) 
               | inr not_so ↦ slot_unmarked image i (mark ∙ not_so) ∙ kept (table_at slots i) (omega (arith, at.table_is, shadow_end slots, marks_end slots)) ∙ sym (slot_unmarked before i not_so) ∙ redo.redo i below
             ];
       } in
-      elim (cases_Bool (is_flag_set image)) [
-        | inl set ↦ recovered_set slots (recovered slots old) image set again ∙ settled-recovered
-        | inr clear ↦ recovered_clear slots (recovered slots old) image clear here ∙ settled-recovered
-      ]
+      record {
+        same_length = same.same_length ∙ before_long ∙ sym long;
+        recovers = elim (cases_Bool (is_flag_set image)) [
+          | inl set ↦ recovered_set slots (recovered slots old) image set again ∙ settled-recovered
+          | inr clear ↦ recovered_clear slots (recovered slots old) image clear here ∙ settled-recovered
+        ];
+      }
 
   -- while the journal is erased
-  pub while_erased : (before image : List ℕ) → HasTable slots (recovered slots old) before → slice_index before 4096 ≡ 0 → SameAt (IsApart 4097 (journal_len slots - 1)) before image → RecoversAs slots old image
-  while_erased before image table zero_flag same =
+  pub while_erased : (before image : List ℕ) → length before ≡ image_len slots → HasTable slots (recovered slots old) before → slice_index before 4096 ≡ 0 → SameAt (IsApart 4097 (journal_len slots - 1)) before image → RecoversAs slots old image
+  while_erased before image before_long table zero_flag same =
       let here = HasTable-same slots (IsApart 4097 (journal_len slots - 1)) (recovered slots old) before image (λ place low. inl (omega arith)) (λ place low high. inr (omega (arith, journal_end slots, shadow_end slots, marks_end slots))) same table in
-      recovered_clear slots (recovered slots old) image (clear_flag image (same.same 4096 (inl (omega arith)) ∙ zero_flag)) here ∙ settled-recovered
+      record {
+        same_length = same.same_length ∙ before_long ∙ sym long;
+        recovers = recovered_clear slots (recovered slots old) image (clear_flag image (same.same 4096 (inl (omega arith)) ∙ zero_flag)) here ∙ settled-recovered;
+      }
 
   -- when it is erased the image is the recovered one
   pub when_erased : (before image : List ℕ) → length before ≡ image_len slots → HasTable slots (recovered slots old) before → slice_index before 4096 ≡ 0 → SameAt (IsApart 4097 (journal_len slots - 1)) before image → IsZeroAt 4097 (journal_len slots - 1) image → image ≡ recovered slots old
@@ -184,4 +193,4 @@ module _ (slots : ℕ) (old : List ℕ) (long : length old ≡ image_len slots) 
         | inl flag ↦ ap (slice_index image) flag ∙ same.same 4096 (inl (omega arith)) ∙ zero_flag
         | inr differs ↦ zero place (omega arith) (omega (arith, journal_end slots))
       ] in
-      sym (settled_empty slots image (same.same_length ∙ before_long) empty) ∙ settled-same slots (recovered slots old) image here ∙ settled-recovered
+      same_settled slots (recovered slots old) image long-recovered (same.same_length ∙ before_long) empty-recovered empty here

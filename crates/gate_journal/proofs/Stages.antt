@@ -1,5 +1,5 @@
 -- The states of the disk between the phases of a commit.
-use Rattle.std.proofs.Common.{◌≡◌, ℕ, List, [], ◌∷◌, slice_index, sym, ap, inl, subst, Result, Ok, Err, OnOk, IfOk, IsErr, length}
+use Rattle.std.proofs.Common.{◌≡◌, ℕ, List, [], ◌∷◌, slice_index, refl, sym, ap, inl, subst, Result, Ok, Err, OnOk, IfOk, IsErr, length}
 use Rattle.std.proofs.lemmas.Bool.{false≢true}
 use Rattle.store_model.specs.Parameters.{image_len}
 use Rattle.disk_model.specs.DiskState.{DiskState, IsDurable, IsSound}
@@ -122,7 +122,7 @@ module _ (slots : ℕ) (changes : Changes) (valid : AreChanges slots changes) (s
 pub commits_none : {T E : Type 0} (slots : ℕ) (changes : Changes) (disk : DiskState) (value : T) → changes.count ≡ 0 → length disk.bytes ≡ image_len slots → IsSound disk → IsDurable disk → HasEmptyJournal slots disk.bytes → Commits {E = E} slots changes disk disk (Ok value)
 commits_none slots changes disk value none long sound durable empty =
     let same : disk.bytes ≡ with_slots slots changes disk.bytes = ap (λ (n : ℕ). with_first slots changes n disk.bytes) (sym none) in
-    let here : RecoversToEither slots disk.bytes (with_slots slots changes disk.bytes) disk.bytes = inl (recovered_empty slots disk.bytes long empty) in
+    let here : RecoversToEither slots disk.bytes (with_slots slots changes disk.bytes) disk.bytes = record { same_length = refl; recovers = inl (recovered_empty slots disk.bytes long empty) } in
     record {
       crash = LeavesOnly-refl disk (RecoversToEither slots disk.bytes (with_slots slots changes disk.bytes)) sound (MayLeaveOnly-durable disk (RecoversToEither slots disk.bytes (with_slots slots changes disk.bytes)) durable here);
       reads = here;

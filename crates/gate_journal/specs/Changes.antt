@@ -29,9 +29,10 @@ with_first slots changes (suc n) image = overwrite (with_first slots changes n i
 abbrev pub with_slots : ℕ → Changes → List ℕ → List ℕ
 with_slots slots changes image = with_first slots changes changes.count image
 
--- the image recovers to the one image or to the other
-abbrev pub RecoversToEither : ℕ → List ℕ → List ℕ → List ℕ → Type 0
-RecoversToEither slots old new image = (recovered slots image ≡ old) ⊎ (recovered slots image ≡ new)
+-- the image is as long as the old one, and recovers to that or to the new one
+pub record RecoversToEither (slots : ℕ) (old new image : List ℕ) : Type 0 where
+  pub same_length : length image ≡ length old
+  pub recovers : (recovered slots image ≡ old) ⊎ (recovered slots image ≡ new)
 
 -- a place outside the mark and the shadow block of a slot
 pub record OutsideEntry (slots slot place : ℕ) : Type 0 where
@@ -59,8 +60,9 @@ AreJournaled slots changes n image = (k : ℕ) → k < n → HasEntry slots (cha
 abbrev pub AreErased : ℕ → Changes → ℕ → List ℕ → Type 0
 AreErased slots changes n image = (k : ℕ) → k < n → HasEntry slots (changes.slot k) 0 (zeros 4096) image
 
--- A commit of the changes: an image that a crash at any moment of it may leave recovers to the old image or to the one
--- with the slots changed, and so does what is read after a fault; after Ok the disk is durable and reads the latter.
+-- A commit of the changes: an image that a crash at any moment of it may leave is as long and recovers to the old image or
+-- to the one with the slots changed, and so does what is read after a fault; after Ok the disk is durable and reads the
+-- latter.
 pub record Commits {T E : Type 0} (slots : ℕ) (changes : Changes) (old new : DiskState) (result : Result T E) : Type 0 where
   pub crash : LeavesOnly old new (RecoversToEither slots old.bytes (with_slots slots changes old.bytes))
   pub reads : RecoversToEither slots old.bytes (with_slots slots changes old.bytes) new.bytes

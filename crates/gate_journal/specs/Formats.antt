@@ -1,10 +1,9 @@
--- What formatting does to a disk that is no image.
+-- What formatting makes of a disk that is no image.
 use Rattle.std.specs.Prelude.{◌≡◌, ◌⊎◌, ℕ, ◌-◌, ◌<◌, ◌≤◌, List, slice_index, Result, OnOk}
 use Rattle.store_model.specs.Parameters.{Parameters, image_len}
 use Rattle.store_model.specs.Trees.{empty_tree}
 use Rattle.store_model.specs.Images.{header, layout, NamesParameters}
 use Rattle.disk_model.specs.DiskState.{DiskState, IsDurable}
-use Rattle.disk_model.specs.DiskCalls.{LeavesOnly}
 use Rattle.gate_journal.specs.Places.{IsZeroAt}
 
 -- the image's header names no parameters, so it is no image
@@ -20,10 +19,7 @@ pub record HasEmptyRest (p : Parameters) (image : List ℕ) : Type 0 where
   pub header_is : (place : ℕ) → 1 ≤ place → place < 4096 → slice_index image place ≡ slice_index (header p) place
   pub rest_is : IsZeroAt 4096 (image_len p.slots - 4096) image
 
--- A disk with nothing pending, whose first byte is not that of an image, is formatted: each image that a crash at any
--- moment may leave is no image or that of the empty tree; after Ok the disk is durable and reads the latter.
-pub record Formats {T E : Type 0} (p : Parameters) (old new : DiskState) (result : Result T E) : Type 0 where
-  pub crash : LeavesOnly old new (IsEmptyOrNone p)
-  pub reads : IsEmptyOrNone p new.bytes
+-- where a format answers Ok the disk is durable and reads the image of the empty tree
+pub record Formats {T E : Type 0} (p : Parameters) (new : DiskState) (result : Result T E) : Type 0 where
   pub durable : OnOk result (IsDurable new)
   pub done : OnOk result (new.bytes ≡ layout empty_tree p)

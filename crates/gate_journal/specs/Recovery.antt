@@ -1,5 +1,5 @@
 -- What recovery does to a disk.
-use Rattle.std.specs.Prelude.{◌≡◌, ◌⊎◌, ℕ, ◌<◌, ◌≤◌, List, slice_index, true, Result, OnOk}
+use Rattle.std.specs.Prelude.{◌≡◌, ◌⊎◌, ℕ, ◌<◌, ◌≤◌, List, length, slice_index, true, Result, OnOk}
 use Rattle.store_model.specs.Parameters.{shadow_at, table_at}
 use Rattle.store_model.specs.Images.{bytes_at, is_marked, recovered}
 use Rattle.disk_model.specs.DiskState.{DiskState, IsDurable}
@@ -15,9 +15,10 @@ OutsideMarked slots from to marks place = (i : ℕ) → from ≤ i → i < to �
 abbrev pub AreRedone : ℕ → ℕ → ℕ → List ℕ → List ℕ → Type 0
 AreRedone slots from to marks image = (i : ℕ) → from ≤ i → i < to → is_marked marks i ≡ true → table_slot slots image i ≡ bytes_at marks (shadow_at slots i) 4096
 
--- the image recovers to what the other does
-abbrev pub RecoversAs : ℕ → List ℕ → List ℕ → Type 0
-RecoversAs slots old image = recovered slots image ≡ recovered slots old
+-- the image is as long as the other, and recovers to what that does
+pub record RecoversAs (slots : ℕ) (old image : List ℕ) : Type 0 where
+  pub same_length : length image ≡ length old
+  pub recovers : recovered slots image ≡ recovered slots old
 
 -- The flag of a durable disk is settled: an image that a crash at any moment may leave recovers as before, and after Ok
 -- the disk is durable, its table is the recovered one, and the flag is clear.

@@ -2,9 +2,9 @@
 ghost use Rattle.std.specs.Prelude.{◌≡◌, ◌≢◌, ◌⊎◌, ℕ, ◌+◌, ◌-◌, ◌*◌, ◌<◌, ◌≤◌, [], ◌∷◌, ◌==◌, slice_index, OnOk, IfOk, Err};
 ghost use Rattle.store_model.specs.Parameters.{IsParameters, image_len as len_of};
 ghost use Rattle.disk_model.specs.DiskState.{DiskState, IsObservable, IsDurable};
-ghost use Rattle.disk_model.specs.DiskCalls.{IsCall, overwrite};
+ghost use Rattle.disk_model.specs.DiskCalls.{IsCall, LeavesOnly, overwrite};
 ghost use Rattle.gate_journal.specs.Places.{IsApart, AreCalls, Reaches, ReadsOnly};
-ghost use Rattle.gate_journal.specs.Formats.{HasEmptyRest, Formats};
+ghost use Rattle.gate_journal.specs.Formats.{IsEmptyOrNone, HasEmptyRest, Formats};
 
 use disk_model::Disk;
 use store_base::{DiskFault, Params, image_len, write_header};
@@ -51,14 +51,15 @@ fn write_first<D: Disk>(disk: &mut D) -> Result<(), DiskFault>
     disk.sync()
 }
 
-// Formats a disk with nothing pending whose first byte is not that of an image.
-pub fn format_durable<D: Disk>(disk: &mut D, params: &Params) -> Result<(), DiskFault>
+// Writes the image of the empty tree to a disk whose first byte is not that of an image, the first byte last.
+pub fn write_image<D: Disk>(disk: &mut D, params: &Params) -> Result<(), DiskFault>
     requires valid { IsParameters params.now }
     requires size { (D.state disk.old).size ≡ len_of params.now.slots }
-    requires durable { IsObservable (D.state disk.old) → IsDurable (D.state disk.old) }
     requires no_image { IsObservable (D.state disk.old) → slice_index (D.state disk.old).bytes 0 ≢ 0x48 }
     ensures call { IsCall (D.state disk.old) (D.state disk.new) result }
-    ensures formats { IsObservable (D.state disk.old) → Formats params.now (D.state disk.old) (D.state disk.new) result }
+    ensures formats { IsObservable (D.state disk.old) → Formats params.now (D.state disk.new) result }
+    ensures reads { IsObservable (D.state disk.old) → IsEmptyOrNone params.now (D.state disk.new).bytes }
+    ensures crash { IsObservable (D.state disk.old) → IsDurable (D.state disk.old) → LeavesOnly (D.state disk.old) (D.state disk.new) (IsEmptyOrNone params.now) }
 {
     write_rest(disk, params)?;
     write_first(disk)

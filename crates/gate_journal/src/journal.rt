@@ -1,19 +1,19 @@
 //! The calls of the journal.
-ghost use Rattle.std.specs.Prelude.{◌≡◌, ◌≢◌, ◌↔◌, ◌⊎◌, ◌+◌, ◌*◌, ◌<◌, slice_index, IsOk, OnOk, OnErr};
+ghost use Rattle.std.specs.Prelude.{◌≡◌, ◌≢◌, ◌↔◌, ◌⊎◌, ◌+◌, ◌*◌, ◌<◌, ◌≤◌, slice_index, IsOk, OnOk, OnErr};
 ghost use Rattle.store_model.specs.Parameters.{image_len};
 ghost use Rattle.store_model.specs.Images.{recovered_slot};
 ghost use Rattle.disk_model.specs.DiskState.{IsObservable, IsDurable};
-ghost use Rattle.disk_model.specs.DiskCalls.{Rose};
+ghost use Rattle.disk_model.specs.DiskCalls.{Rose, LeavesOnly};
 ghost use Rattle.gate_journal.specs.Places.{AreCalls, Makes, ReadsOnly};
 ghost use Rattle.gate_journal.specs.Phases.{HasEmptyJournal};
 ghost use Rattle.gate_journal.specs.Changes.{AreChanges, Commits};
 ghost use Rattle.gate_journal.specs.Recovery.{Recovers};
-ghost use Rattle.gate_journal.specs.Formats.{Formats};
+ghost use Rattle.gate_journal.specs.Formats.{IsEmptyOrNone, Formats};
 
 use crate::changes::SlotChanges;
 use crate::commit::commit_changes;
 use crate::fault::JournalFault;
-use crate::format::{format_durable, is_image};
+use crate::format::{is_image, write_image};
 use crate::recover::recover_durable;
 use crate::view::read_slot;
 use disk_model::Disk;
@@ -25,9 +25,10 @@ pub struct Journal;
 impl Journal {
     /// Changes these slots of the table together.
     ///
-    /// Each image that a crash at any moment of the call may leave recovers to the old image or to the one with the
-    /// slots changed, and so does what the disk reads after `DiskFault`; recover it before it is used again. After Ok the
-    /// disk is durable and reads the image with the slots changed. For no change nothing is called.
+    /// Each image that a crash at any moment of the call may leave has the disk's length and recovers to the old image
+    /// or to the one with the slots changed, and so does what the disk reads after `DiskFault`; recover it before it is
+    /// used again. After Ok the disk is durable and reads the image with the slots changed. For no change nothing is
+    /// called.
     pub fn commit<D: Disk, S: SlotChanges>(
         disk: &mut D,
         params: &Params,
@@ -57,9 +58,9 @@ impl Journal {
     /// Makes the image that a crash left what it recovers to.
     ///
     /// It serves any disk of the length of the parameters, whether or not writes are pending. Each image that a crash at
-    /// any moment of the call may leave is one that a crash before it might have left, or recovers to the same; what the
-    /// disk reads recovers to the same, after `DiskFault` too, and then it is recovered again before it is used. After
-    /// Ok the disk is durable and reads what it recovers to.
+    /// any moment of the call may leave is one that a crash before it might have left, or has the disk's length and
+    /// recovers to the same; what the disk reads recovers to the same, after `DiskFault` too, and then it is recovered
+    /// again before it is used. After Ok the disk is durable and reads what it recovers to.
     pub fn recover<D: Disk>(disk: &mut D, params: &Params) -> Result<(), DiskFault>
         requires { (D.state disk.old).size ≡ image_len params.now.slots }
         ensures calls { AreCalls (D.state disk.old) (D.state disk.new) result }
@@ -76,25 +77,39 @@ impl Journal {
     ///
     /// `WrongLength` comes exactly where the disk's length is not that of an image of these parameters, and
     /// `AlreadyImage` exactly where the length is right and the first byte is that of an image, and then nothing was
-    /// written. `Disk` comes only where the disk failed. From there on, each image that a crash at any moment of the call
-    /// may leave is no image, or that of the empty tree, and so is what the disk reads after `Disk`. After Ok the disk is
-    /// durable and reads the image of the empty tree.
+    /// written. `Disk` comes only where the disk failed. After Ok the disk is durable and reads the image of the empty
+    /// tree, whatever was pending before.
+    ///
+    /// A disk of the right length whose first byte is not that of an image reads no image or that of the empty tree,
+    /// after `Disk` too. If nothing was pending before, each image that a crash at any moment of the call may leave is
+    /// one of these as well. A write that is pending might leave the first byte of an image before the rest is written,
+    /// so sync such a disk first.
     pub fn format<D: Disk>(disk: &mut D, params: &Params) -> Result<(), JournalFault>
-        requires { IsObservable (D.state disk.old) → IsDurable (D.state disk.old) }
         ensures size { (D.state disk.new).size ≡ (D.state disk.old).size }
         ensures observable { (D.state disk.new).is_observable ≡ (D.state disk.old).is_observable }
+        ensures faults { (D.state disk.old).faults ≤ (D.state disk.new).faults }
+        ensures writes { (D.state disk.old).writes ≤ (D.state disk.new).writes }
+        ensures syncs { (D.state disk.old).syncs ≤ (D.state disk.new).syncs }
 
         ensures wrong_length { (result ≡ Err JournalFault.WrongLength) ↔ ((D.state disk.old).size ≢ image_len params.now.slots) }
         ensures wrong_length_keeps { result ≡ Err JournalFault.WrongLength → disk.new ≡ disk.old }
 
         ensures already_image { IsObservable (D.state disk.old) → result ≡ Err JournalFault.AlreadyImage → slice_index (D.state disk.old).bytes 0 ≡ 0x48 }
+        // an image is only read, also where that fails
+        ensures image_is_kept { IsObservable (D.state disk.old) → (D.state disk.old).size ≡ image_len params.now.slots → slice_index (D.state disk.old).bytes 0 ≡ 0x48
+            → ReadsOnly (D.state disk.old) (D.state disk.new) }
         ensures already_image_keeps { IsObservable (D.state disk.old) → result ≡ Err JournalFault.AlreadyImage → ReadsOnly (D.state disk.old) (D.state disk.new) }
         ensures image_is_found { IsObservable (D.state disk.old) → (D.state disk.old).size ≡ image_len params.now.slots → slice_index (D.state disk.old).bytes 0 ≡ 0x48
             → (result ≡ Err JournalFault.AlreadyImage) ⊎ (result ≡ Err JournalFault.Disk) }
 
         ensures disk_failed { result ≡ Err JournalFault.Disk → Rose (D.state disk.old).faults (D.state disk.new).faults }
-        ensures formats { IsObservable (D.state disk.old) → (D.state disk.old).size ≡ image_len params.now.slots → slice_index (D.state disk.old).bytes 0 ≢ 0x48
-            → Formats params.now (D.state disk.old) (D.state disk.new) result }
+        ensures formats { IsObservable (D.state disk.old) → Formats params.now (D.state disk.new) result }
+
+        // what the disk reads, after a fault too, and where nothing was pending what a crash may leave
+        ensures reads { IsObservable (D.state disk.old) → (D.state disk.old).size ≡ image_len params.now.slots → slice_index (D.state disk.old).bytes 0 ≢ 0x48
+            → IsEmptyOrNone params.now (D.state disk.new).bytes }
+        ensures crash { IsObservable (D.state disk.old) → (D.state disk.old).size ≡ image_len params.now.slots → slice_index (D.state disk.old).bytes 0 ≢ 0x48
+            → IsDurable (D.state disk.old) → LeavesOnly (D.state disk.old) (D.state disk.new) (IsEmptyOrNone params.now) }
     {
         if disk.len() != len_of(params.slots()) {
             return Err(JournalFault::WrongLength);
@@ -102,7 +117,7 @@ impl Journal {
         if is_image(disk)? {
             return Err(JournalFault::AlreadyImage);
         }
-        Ok(format_durable(disk, params)?)
+        Ok(write_image(disk, params)?)
     }
 
     /// Reads what recovery would leave in slot `at`, and writes nothing.

@@ -58,11 +58,6 @@ fn recover<D: Disk>(disk: &mut D, params: &Params) -> Result<(), DiskFault> {
     Journal::recover(disk, params)
 }
 
-fn format<D: Disk>(disk: &mut D, params: &Params) -> Result<(), JournalFault> {
-    disk.sync()?;
-    Journal::format(disk, params)
-}
-
 // The first byte of a slot, as the view gives it.
 fn first_of<D: Disk + Drop>(disk: D, params: &Params, at: u32) -> Result<(u8, D), Fault> {
     let mut slot = [0; 4096];
@@ -88,7 +83,7 @@ fn firsts_of(mut disk: MemDisk, params: &Params) -> Result<([u8; 8], MemDisk), F
 // A formatted disk whose odd slots hold the byte 1.
 fn striped(alloc: Global, params: &Params) -> Result<MemDisk, Fail> {
     let mut disk = MemDisk::new(alloc, &[0xEE; LEN], ROOM)?;
-    format(&mut disk, params)?;
+    Journal::format(&mut disk, params)?;
     commit(&mut disk, params, &Stripes { count: 4, byte: 1 })?;
     Ok(disk)
 }
@@ -129,12 +124,21 @@ fn a_format_says_what_it_met(rt: HostRuntime) -> Result<(), Fail> {
     let alloc = rt.alloc();
     let params = Params::new(SLOTS, 2, DrawKind::Ruler, [7; 32])?;
     let mut disk = MemDisk::new(alloc, &[0xEE; LEN], ROOM)?;
-    assert_eq!(rt; format(&mut disk, &params), Ok(()));
+    assert_eq!(rt; Journal::format(&mut disk, &params), Ok(()));
     assert_eq!(rt; disk.bytes().starts_with(b"HSTORE01"), true);
-    assert_eq!(rt; format(&mut disk, &params), Err(JournalFault::AlreadyImage));
+    assert_eq!(rt;
+        Journal::format(&mut disk, &params),
+        Err(JournalFault::AlreadyImage)
+    );
     let mut short = MemDisk::new(alloc, &[0xEE; 4096], ROOM)?;
-    assert_eq!(rt; format(&mut short, &params), Err(JournalFault::WrongLength));
-    let mut failing = FailingDisk::new(short, Vec::new(alloc), Some(0));
-    assert_eq!(rt; format(&mut failing, &params), Err(JournalFault::Disk));
+    assert_eq!(rt;
+        Journal::format(&mut short, &params),
+        Err(JournalFault::WrongLength)
+    );
+    let mut failing = FailingDisk::new(disk, Vec::new(alloc), Some(0));
+    assert_eq!(rt;
+        Journal::format(&mut failing, &params),
+        Err(JournalFault::Disk)
+    );
     Ok(())
 }
