@@ -1,3 +1,4 @@
+pub mod Adapted
 pub mod LineState
 pub mod Lines
 pub mod Memory

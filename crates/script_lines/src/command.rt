@@ -4,7 +4,7 @@ ghost use Rattle.std.specs.Prelude.{◌≡◌, ◌≤◌, ◌∷◌, [], length}
 ghost use Rattle.store_model.specs.Grammar.{parse, command_of_fields, checked_command};
 ghost use Rattle.script_lines.specs.Parsing.{reading_of, rename_of};
 
-use crate::fields::{Fields, read_bytes, read_number, read_path, split_fields};
+use crate::fields::{Fields, parse_number, read_bytes, read_path, split_fields};
 use crate::lines::MAX_LINE;
 use path_keys::Path;
 use store_base::{Bytes, Refusal};
@@ -89,7 +89,7 @@ fn command_of_three(word: &[u8], path: &[u8], argument: &[u8]) -> Result<Command
     ensures { reading_of result ≡ checked_command (command_of_fields (word.now ∷ path.now ∷ argument.now ∷ [])) }
 {
     if word == b"cut".as_slice() {
-        let Some(len) = read_number(argument) else {
+        let Some(len) = parse_number(argument) else {
             return Err(Refusal::Syntax);
         };
         Ok(Command::Cut(read_path(path)?, len))
@@ -121,14 +121,14 @@ fn command_of_four(word: &[u8], path: &[u8], at: &[u8], argument: &[u8]) -> Resu
     requires { length argument.now ≤ MAX_LINE }
     ensures { reading_of result ≡ checked_command (command_of_fields (word.now ∷ path.now ∷ at.now ∷ argument.now ∷ [])) }
 {
-    let number = read_number(at);
+    let number = parse_number(at);
     if word == b"write".as_slice() {
         let (Some(at), Some(bytes)) = (number, read_bytes(argument)) else {
             return Err(Refusal::Syntax);
         };
         Ok(Command::Write(read_path(path)?, at, bytes))
     } else if word == b"read".as_slice() {
-        let (Some(at), Some(len)) = (number, read_number(argument)) else {
+        let (Some(at), Some(len)) = (number, parse_number(argument)) else {
             return Err(Refusal::Syntax);
         };
         Ok(Command::Read(read_path(path)?, at, len))

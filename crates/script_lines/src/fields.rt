@@ -97,9 +97,11 @@ fn are_digits(text: &[u8]) -> bool
     text.iter().all(|c| c.is_ascii_digit())
 }
 
-/// The number that a field spells, where it is at most 4,294,967,295.
+/// The number that a text spells, 0 to 4,294,967,295: one or more of the digits `0` to `9`, the highest
+/// first, with no leading zero but `0` itself, and nothing else: no sign, no space, no separator.
+/// `None` exactly where the text spells no number, or a greater one. It takes no memory.
 #[tactic(auto, unfolding(store_model::specs::Grammar::number_of))]
-pub fn read_number(text: &[u8]) -> Option<u32>
+pub fn parse_number(text: &[u8]) -> Option<u32>
     ensures { result ≡ number_of text.now }
 {
     if !is_numeral(text) {

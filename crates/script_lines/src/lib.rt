@@ -17,6 +17,7 @@ mod text;
 
 pub use command::{Command, parse_command};
 pub use fault::{SinkFault, SourceFault};
+pub use fields::parse_number;
 pub use lines::{Line, LineFault, LineReader, MAX_LINE, MAX_SCRIPT};
 pub use memory::{MemSink, MemSource};
 pub use reply::{Reply, write_reply};

@@ -1,11 +1,12 @@
 //! A source over a reader of std, and a sink over a writer of std. They do not tell their bytes.
 
-ghost use Rattle.std.specs.Prelude.{false, []};
+ghost use Rattle.std.specs.Prelude.{◌≡◌, false, []};
 
 use crate::fault::{SinkFault, SourceFault};
 use crate::sink::Sink;
 use crate::source::Source;
 use std::io::{Read, Write};
+use std::marker::Model;
 
 /// A source over a reader. Each error of the reader is a fault.
 #[derive(Drop)]
@@ -14,14 +15,26 @@ pub struct StdSource<R> {
     faults: u64,
 }
 
+impl<R> Model for StdSource<R> {
+    ghost use Rattle.script_lines.specs.Adapted.{Adapted};
+
+    ghost Value = { Adapted R };
+
+    ghost view = { λ s. record { inner = s.reader; faults = s.faults } };
+}
+
 impl<R> StdSource<R> {
-    /// A source that reads from this reader.
-    pub fn new(reader: R) -> Self {
+    /// A source that reads from this reader. No fault came yet.
+    pub fn new(reader: R) -> Self
+        ensures { result ≡ record { inner = reader; faults = 0 } }
+    {
         StdSource { reader, faults: 0 }
     }
 
     /// The reader.
-    pub fn into_inner(self) -> R {
+    pub fn into_inner(self) -> R
+        ensures { result ≡ self.inner }
+    {
         let StdSource { reader, faults: _ } = self;
         reader
     }
@@ -50,14 +63,26 @@ pub struct StdSink<W> {
     faults: u64,
 }
 
+impl<W> Model for StdSink<W> {
+    ghost use Rattle.script_lines.specs.Adapted.{Adapted};
+
+    ghost Value = { Adapted W };
+
+    ghost view = { λ s. record { inner = s.writer; faults = s.faults } };
+}
+
 impl<W> StdSink<W> {
-    /// A sink that writes to this writer.
-    pub fn new(writer: W) -> Self {
+    /// A sink that writes to this writer. No fault came yet.
+    pub fn new(writer: W) -> Self
+        ensures { result ≡ record { inner = writer; faults = 0 } }
+    {
         StdSink { writer, faults: 0 }
     }
 
     /// The writer.
-    pub fn into_inner(self) -> W {
+    pub fn into_inner(self) -> W
+        ensures { result ≡ self.inner }
+    {
         let StdSink { writer, faults: _ } = self;
         writer
     }

@@ -1,6 +1,6 @@
 use crate::{
     Command, Line, LineFault, LineReader, MemSink, MemSource, Reply, Sink, SinkFault, Source,
-    StdSink, StdSource, parse_command, write_reply,
+    StdSink, StdSource, parse_command, parse_number, write_reply,
 };
 use std::alloc::{AllocError, Global};
 use std::io;
@@ -236,6 +236,7 @@ fn commands_are_read(rt: HostRuntime) {
     ] {
         assert!(rt; parse_command(line).is_ok());
     }
+    assert_eq!(rt; parse_number(b"4294967295"), Some(4_294_967_295));
 }
 
 #[test]
