@@ -1,5 +1,5 @@
 -- The runs of a group, one after the other.
-use Rattle.std.proofs.Common.{◌≡◌, ℕ, zero, suc, ◌+◌, ◌-◌, ◌*◌, ◌≤◌, ◌<◌, Bool, true, false, cond, List, [], ◌∷◌, ◌++◌, map, length, take, drop, get_or, refl, sym, ap, ap₂, subst, ◌∙◌, arith, append_assoc, ◌==◌}
+use Rattle.std.proofs.Common.{◌≡◌, ℕ, zero, suc, ◌+◌, ◌-◌, ◌*◌, ◌≤◌, ◌<◌, Bool, true, false, cond, List, [], ◌∷◌, ◌++◌, map, length, take, drop, get_or, refl, sym, ap, ap₂, subst, ◌∙◌, arith, append_assoc, take-add, ◌==◌}
 use Rattle.std.specs.List.{enumerate_from, AllByRecursion}
 use Rattle.std.specs.List.Sorted.{IsStrictlySortedBy}
 use Rattle.std.proofs.lemmas.List.{drop-drop, length-drop, length-take, take-append-drop, append-nil, map-append, take_more, length-take-le}
@@ -93,23 +93,28 @@ next label run i page cell is page_is below cell_is = subst (λ p. IsNext label 
 
 -- ---- a group, run by run
 
--- the pages that are made, and those of the rest, are those of the group
-pub record CutsOn (level : ℕ) (lead : Lead) (cells : List Cell) (pages : List Page) (index : ℕ) (rest : List Cell) : Type 0 where
-  pub made : pages ++ pages_from level lead index rest ≡ group_pages level lead cells
+-- behind the pages of a front stand those of the group that are made, and the rest of the group makes the others
+pub record CutsOn (level : ℕ) (lead : Lead) (cells : List Cell) (front pages : List Page) (index : ℕ) (rest : List Cell) : Type 0 where
+  pub made : pages ≡ front ++ take index (group_pages level lead cells)
+  pub left : pages_from level lead index rest ≡ drop index (group_pages level lead cells)
   pub each : AllByRecursion (IsCell level) rest
   pub rising : IsStrictlySortedBy key_cmp (map (λ c. c.key) rest)
   pub few : index + length rest < 4294967296
 
-pub cut_none : (level : ℕ) (lead : Lead) (cells : List Cell) → AllByRecursion (IsCell level) cells → IsStrictlySortedBy key_cmp (map (λ c. c.key) cells) → length cells < 4294967296 → CutsOn level lead cells [] 0 cells
-cut_none level lead cells each rising few = record { made = all_pages level lead cells; each = each; rising = rising; few = omega arith }
+pub cut_none : (level : ℕ) (lead : Lead) (cells : List Cell) (front : List Page) → AllByRecursion (IsCell level) cells → IsStrictlySortedBy key_cmp (map (λ c. c.key) cells) → length cells < 4294967296 → CutsOn level lead cells front front 0 cells
+cut_none level lead cells front each rising few = record { made = sym (append-nil front); left = all_pages level lead cells; each = each; rising = rising; few = omega arith }
 
-pub cut_all : (level : ℕ) (lead : Lead) (cells : List Cell) (pages : List Page) (index : ℕ) (rest : List Cell) → CutsOn level lead cells pages index rest → rest ≡ [] → pages ≡ group_pages level lead cells
-cut_all level lead cells pages index rest so_far empty = sym (append-nil pages) ∙ ap (λ ps. pages ++ ps) (sym (no_page level lead index rest empty)) ∙ so_far.made
+pub cut_all : (level : ℕ) (lead : Lead) (cells : List Cell) (front pages : List Page) (index : ℕ) (rest : List Cell) → CutsOn level lead cells front pages index rest → rest ≡ [] → pages ≡ front ++ group_pages level lead cells
+cut_all level lead cells front pages index rest so_far empty =
+    let whole = group_pages level lead cells in
+    let none : drop index whole ≡ [] = sym so_far.left ∙ no_page level lead index rest empty in
+    let all : take index whole ≡ whole = sym (append-nil (take index whole)) ∙ ap (λ ps. take index whole ++ ps) (sym none) ∙ take-append-drop index whole in
+    so_far.made ∙ ap (λ ps. front ++ ps) all
 
 -- the next run is a page's
-pub run_is_page : (level : ℕ) (lead : Lead) (cells : List Cell) (pages : List Page) (index : ℕ) (rest : List Cell) → CutsOn level lead cells pages index rest → 1 ≤ length rest → level < 256 → IsLead lead
+pub run_is_page : (level : ℕ) (lead : Lead) (cells : List Cell) (front pages : List Page) (index : ℕ) (rest : List Cell) → CutsOn level lead cells front pages index rest → 1 ≤ length rest → level < 256 → IsLead lead
     → IsPage (page_of_run level lead index (take (page_room level) rest))
-run_is_page level lead cells pages index rest so_far some low valid =
+run_is_page level lead cells front pages index rest so_far some low valid =
     let room = page_room level in
     let keys : List Cell → List (List ℕ) = map (λ c. c.key) in
     let whole : keys rest ≡ keys (take room rest) ++ keys (drop room rest) = ap keys (sym (take-append-drop room rest)) ∙ map-append (λ (c : Cell). c.key) (take room rest) (drop room rest) in
@@ -122,15 +127,27 @@ run_is_page level lead cells pages index rest so_far some low valid =
       rising = rising_front key_cmp (keys (take room rest)) (keys (drop room rest)) (subst (IsStrictlySortedBy key_cmp) whole so_far.rising);
     }
 
+-- one element on in a list
+take_next : {A : Type 0} (n : ℕ) (xs ys : List A) (x : A) → drop n xs ≡ x ∷ ys → take (n + 1) xs ≡ take n xs ++ x ∷ []
+take_next n xs ys x here = take-add n 1 xs ∙ ap (λ zs. take n xs ++ take 1 zs) here
+
+drop_next : {A : Type 0} (n : ℕ) (xs ys : List A) (x : A) → drop n xs ≡ x ∷ ys → drop (n + 1) xs ≡ ys
+drop_next n xs ys x here = sym (drop-drop 1 n xs) ∙ ap (drop 1) here
+
 -- one run on
-pub cut_more : (level : ℕ) (lead : Lead) (cells : List Cell) (pages : List Page) (index : ℕ) (rest : List Cell) → CutsOn level lead cells pages index rest → 1 ≤ length rest
-    → CutsOn level lead cells (pages ++ page_of_run level lead index (take (page_room level) rest) ∷ []) (index + 1) (drop (page_room level) rest)
-cut_more level lead cells pages index rest so_far some =
+pub cut_more : (level : ℕ) (lead : Lead) (cells : List Cell) (front pages : List Page) (index : ℕ) (rest : List Cell) → CutsOn level lead cells front pages index rest → 1 ≤ length rest
+    → CutsOn level lead cells front (pages ++ page_of_run level lead index (take (page_room level) rest) ∷ []) (index + 1) (drop (page_room level) rest)
+cut_more level lead cells front pages index rest so_far some =
     let room = page_room level in
     let keys : List Cell → List (List ℕ) = map (λ c. c.key) in
     let whole : keys rest ≡ keys (take room rest) ++ keys (drop room rest) = ap keys (sym (take-append-drop room rest)) ∙ map-append (λ (c : Cell). c.key) (take room rest) (drop room rest) in
+    let group = group_pages level lead cells in
+    let page = page_of_run level lead index (take room rest) in
+    let behind = pages_from level lead (index + 1) (drop room rest) in
+    let here : drop index group ≡ page ∷ behind = sym so_far.left ∙ next_page level lead index rest some in
     record {
-      made = append_assoc pages (page_of_run level lead index (take room rest) ∷ []) (pages_from level lead (index + 1) (drop room rest)) ∙ ap (λ ps. pages ++ ps) (sym (next_page level lead index rest some)) ∙ so_far.made;
+      made = ap (λ ps. ps ++ page ∷ []) so_far.made ∙ append_assoc front (take index group) (page ∷ []) ∙ ap (λ ps. front ++ ps) (sym (take_next index group behind page here));
+      left = sym (drop_next index group behind page here);
       each = all_back (IsCell level) (take room rest) (drop room rest) (subst (AllByRecursion (IsCell level)) (sym (take-append-drop room rest)) so_far.each);
       rising = rising_back key_cmp (keys (take room rest)) (keys (drop room rest)) (subst (IsStrictlySortedBy key_cmp) whole so_far.rising);
       few = omega (arith, so_far.few, length-drop room rest, some_room level);

@@ -1,6 +1,6 @@
 //! Groups: the pages that the cells of one group make.
 
-ghost use Rattle.std.specs.Prelude.{◌≡◌, ◌≤◌, map, length, IfOk};
+ghost use Rattle.std.specs.Prelude.{◌≡◌, ◌≤◌, ◌++◌, ℕ, map, length, take, IfOk, OnOk, OnErr};
 ghost use Rattle.std.specs.List.{AllByRecursion};
 ghost use Rattle.std.specs.List.Sorted.{IsStrictlySortedBy};
 ghost use Rattle.store_model.specs.Paths.{key_cmp};
@@ -34,9 +34,26 @@ pub fn cut_group(alloc: Global, level: u8, lead: &Lead, cells: &Cells) -> Result
     requires rising { IsStrictlySortedBy key_cmp (map (λ c. c.key) cells.now) }
     ensures { IfOk result (λ pages. pages ≡ group_pages level (lead_of lead.now) cells.now) }
 {
+    let mut pages = PageList::new(alloc);
+    append_group(&mut pages, level, lead, cells)?;
+    Ok(pages)
+}
+
+/// Appends the pages that `cut_group` gives, so that no page moves to another list. `NoMemory` leaves the first
+/// few of them appended, or none.
+pub fn append_group(
+    pages: &mut PageList,
+    level: u8,
+    lead: &Lead,
+    cells: &Cells,
+) -> Result<(), NoMemory>
+    requires each { AllByRecursion (IsCell level) cells.now }
+    requires rising { IsStrictlySortedBy key_cmp (map (λ c. c.key) cells.now) }
+    ensures ok { OnOk result (pages.new ≡ pages.old ++ group_pages level (lead_of lead.now) cells.now) }
+    ensures err { OnErr result ((n : ℕ) × (pages.new ≡ pages.old ++ take n (group_pages level (lead_of lead.now) cells.now))) }
+{
     let _ = lead.key_bytes();
     let room = usize::from(spelling::room(level));
-    let mut pages = PageList::new(alloc);
     let mut index = 0;
     let mut rest = cells.as_slice();
     while !rest.is_empty() {
@@ -50,5 +67,5 @@ pub fn cut_group(alloc: Global, level: u8, lead: &Lead, cells: &Cells) -> Result
         index += 1;
         rest = behind;
     }
-    Ok(pages)
+    Ok(())
 }

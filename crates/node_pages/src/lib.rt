@@ -11,9 +11,10 @@ mod sequence;
 mod spelling;
 
 pub use cell::Cell;
-pub use group::cut_group;
+pub use group::{append_group, cut_group};
 pub use page::{Page, decode_page, encode_page, label_in};
 pub use sequence::{Cells, PageList, PairList, Sequence};
+pub use spelling::room;
 
 #[cfg(test)]
 mod tests;

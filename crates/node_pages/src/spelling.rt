@@ -22,7 +22,7 @@ pub fn cell_len(level: u8) -> usize
     if level == 0 { 382 } else { KEY_LEN }
 }
 
-/// How many cells a page of the level holds at most.
+/// How many cells a page of the level holds at most: 10 at level 0, 31 above.
 pub fn room(level: u8) -> u8
     ensures { result ≡ model.page_room level }
 {

@@ -1,4 +1,4 @@
-use Rattle.std.proofs.Common.{◌≡◌, ◌-◌, ◌++◌, ℕ, List, length, drop, sym, ap, ap₂, ◌∙◌}
+use Rattle.std.proofs.Common.{◌++◌, ℕ, List, length, ap₂, ◌∙◌}
 use Rattle.std.proofs.lemmas.List.{drop-replicate}
 use Rattle.node_pages.proofs.tests.key.Goals as goal
 

@@ -1,4 +1,4 @@
-use Rattle.std.proofs.Common.{◌≡◌, [], ◌∷◌, ◌++◌, map, ℕ, List, sym, ap, ap₂, subst, refl, ◌∙◌, Less}
+use Rattle.std.proofs.Common.{◌≡◌, [], ◌∷◌, ◌++◌, map, ℕ, List, sym, ap, ap₂, subst, ◌∙◌, Less}
 use Rattle.std.specs.List.Sorted.{IsStrictlySortedBy}
 use Rattle.store_model.specs.Lists.{zeros}
 use Rattle.store_model.specs.Paths.{key_cmp}
