@@ -1,0 +1,109 @@
+//! The pages of a list of pairs: sorted by key, cut into groups on each level, and these into pages.
+
+ghost use Rattle.std.specs.Prelude.{◌≡◌, ◌≤◌, ◌++◌, length, map, IfOk, IfErr, OnOk};
+ghost use Rattle.std.specs.List.{flat_map};
+ghost use Rattle.std.specs.List.Sorted.{IsStrictlySortedBy};
+ghost use Rattle.store_model.specs.Lists.{numbers_below};
+ghost use Rattle.store_model.specs.Labels.{label_cmp};
+ghost use Rattle.store_model.specs.Draws as draws;
+ghost use Rattle.store_model.specs.Pages.{level_pages, pages_of_pairs};
+ghost use Rattle.layout_scratch.specs.Sorting.{HasDistinctKeys, pair_cmp, by_key};
+ghost use Rattle.layout_scratch.specs.Ranks.{pairs_of, AreRanked};
+ghost use Rattle.layout_scratch.specs.Faults.{IsRefusal};
+
+use crate::count::page_count;
+use crate::fault::ScratchFault;
+use crate::groups::{cells_of_group, first_group, lead_of_group};
+use crate::ranked::{Ranked, sorted_pairs};
+use node_pages::{PageList, PairList, append_group};
+use seeded_draw::Draw;
+use std::alloc::Global;
+use store_base::NoMemory;
+
+/// Appends the pages of a level to those of the levels below it.
+fn cut_level(
+    alloc: Global,
+    level: u8,
+    ranked: &[Ranked],
+    pages: &mut PageList,
+) -> Result<(), NoMemory>
+    requires { IsStrictlySortedBy pair_cmp (pairs_of ranked.now) }
+    ensures { OnOk result ((d : draws.Draw) → AreRanked d ranked.now → pages.new ≡ pages.old ++ level_pages d (pairs_of ranked.now) level) }
+{
+    let mut start = 0;
+    while start < ranked.len() {
+        let group = first_group(level, &ranked[start..]);
+        let cells = cells_of_group(alloc, level, group)?;
+        append_group(pages, level, &lead_of_group(level, group), &cells)?;
+        start += group.len();
+    }
+    Ok(())
+}
+
+/// The pages of the levels below a height.
+fn cut_levels(alloc: Global, height: u8, ranked: &[Ranked]) -> Result<PageList, NoMemory>
+    requires { IsStrictlySortedBy pair_cmp (pairs_of ranked.now) }
+    ensures { IfOk result (λ pages. (d : draws.Draw) → AreRanked d ranked.now → pages ≡ flat_map (level_pages d (pairs_of ranked.now)) (numbers_below height)) }
+{
+    let mut pages = PageList::new(alloc);
+    for level in 0..height {
+        cut_level(alloc, level, ranked, &mut pages)?;
+    }
+    Ok(pages)
+}
+
+/// The pages of these pairs, level after level and group after group. `Full` comes exactly where they are more than the
+/// draw's slots.
+pub fn cut_pages<W: Draw>(
+    alloc: Global,
+    draw: &W,
+    pairs: &PairList,
+) -> Result<PageList, ScratchFault>
+    requires distinct { HasDistinctKeys pairs.now }
+    requires few { length pairs.now ≤ 268435456 }
+    requires height { (W.drawn draw.now).height ≤ 8 }
+    ensures value { IfOk result (λ pages. pages ≡ pages_of_pairs (W.drawn draw.now) (by_key pairs.now)) }
+    ensures fits { IfOk result (λ pages. length pages ≤ (W.drawn draw.now).slots) }
+    ensures ranked { IfOk result (λ pages. IsStrictlySortedBy label_cmp (map (λ page. page.label) pages)) }
+    ensures full { IfErr result (IsRefusal (W.drawn draw.now) pairs.now) }
+{
+    let sorted = sorted_pairs(alloc, draw, pairs)?;
+    let ranked = sorted.as_slice();
+    let height = draw.height();
+    let need = page_count(height, ranked);
+    let slots = draw.slots();
+    if need > slots {
+        return Err(ScratchFault::Full { need, slots });
+    }
+    Ok(cut_levels(alloc, height, ranked)?)
+}
+
+#[cfg(test)]
+mod tests {
+    use super::*;
+    use seeded_draw::RulerDraw;
+    use std::test::Fail;
+    use store_base::{Key, Value};
+
+    /// The pair of the directory `/U`, whose key stands on levels 0 and 1.
+    fn one_pair(alloc: Global) -> Result<PairList, NoMemory>
+        ensures distinct { IfOk result HasDistinctKeys }
+        ensures one { IfOk result (λ pairs. length pairs ≡ 1) }
+    {
+        let mut key = [0; 124];
+        key[0] = b'U';
+        let mut pairs = PairList::new(alloc);
+        pairs.push((Key::new(key), Value::new(&[1])))?;
+        Ok(pairs)
+    }
+
+    #[test]
+    fn one_pair_on_two_levels(rt: HostRuntime) -> Result<(), Fail> {
+        let pairs = one_pair(rt.alloc())?;
+        let pages = cut_pages(rt.alloc(), &RulerDraw::new(2, 2), &pairs)?;
+        assert_eq!(rt; pages.len(), 2);
+        let refused = cut_pages(rt.alloc(), &RulerDraw::new(1, 2), &pairs).err();
+        assert_eq!(rt; refused, Some(ScratchFault::Full { need: 2, slots: 1 }));
+        Ok(())
+    }
+}

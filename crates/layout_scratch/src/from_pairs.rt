@@ -1,0 +1,48 @@
+//! From pairs to a layout.
+
+ghost use Rattle.std.specs.Prelude.{◌≡◌, ◌≤◌, length, IfOk, IfErr};
+ghost use Rattle.seeded_draw.specs.AnyDrawn.{any_draw};
+ghost use Rattle.store_model.specs.Draws.{draw_of};
+ghost use Rattle.store_model.specs.Pages.{pages_of_pairs};
+ghost use Rattle.store_model.specs.Placement.{place};
+ghost use Rattle.layout_scratch.specs.Sorting.{HasDistinctKeys, by_key};
+ghost use Rattle.layout_scratch.specs.Faults.{IsRefusal};
+
+use crate::cut::cut_pages;
+use crate::fault::ScratchFault;
+use crate::layout::Layout;
+use crate::place::place_pages;
+use node_pages::PairList;
+use seeded_draw::{AnyDraw, Draw};
+use std::alloc::Global;
+use store_base::Params;
+
+/// The layout of a list of pairs under a draw.
+fn build_by<W: Draw>(alloc: Global, draw: &W, pairs: &PairList) -> Result<Layout, ScratchFault>
+    requires distinct { HasDistinctKeys pairs.now }
+    requires few { length pairs.now ≤ 268435456 }
+    requires height { (W.drawn draw.now).height ≤ 8 }
+    ensures value { IfOk result (λ layout. layout ≡ place (W.drawn draw.now) (pages_of_pairs (W.drawn draw.now) (by_key pairs.now))) }
+    ensures fits { IfOk result (λ _. length (pages_of_pairs (W.drawn draw.now) (by_key pairs.now)) ≤ (W.drawn draw.now).slots) }
+    ensures full { IfErr result (IsRefusal (W.drawn draw.now) pairs.now) }
+{
+    let pages = cut_pages(alloc, draw, pairs)?;
+    Ok(place_pages(alloc, draw, pages)?)
+}
+
+/// The layout of a list of pairs with distinct keys, at most 268,435,456 of them, in whatever order they come: the
+/// pairs are sorted by key, cut into groups and pages, and the pages placed by rank (Blelloch and Golovin, "Strongly
+/// History-Independent Hashing with Applications").
+///
+/// `Full` comes exactly where the pages are more than the slots, and says how many they are.
+#[tactic(auto, unfolding(store_model::specs::Draws::draw_of))]
+pub fn build(alloc: Global, params: &Params, pairs: &PairList) -> Result<Layout, ScratchFault>
+    requires distinct { HasDistinctKeys pairs.now }
+    requires few { length pairs.now ≤ 268435456 }
+    ensures value { IfOk result (λ layout. layout ≡ place (draw_of params.now) (pages_of_pairs (draw_of params.now) (by_key pairs.now))) }
+    ensures fits { IfOk result (λ _. length (pages_of_pairs (draw_of params.now) (by_key pairs.now)) ≤ params.now.slots) }
+    ensures full { IfErr result (IsRefusal (draw_of params.now) pairs.now) }
+{
+    let _height = params.height();
+    build_by(alloc, &AnyDraw::new(params), pairs)
+}

@@ -1,0 +1,21 @@
+//! The layout of a list of pairs, computed from nothing: the pairs are sorted by their keys, cut into groups and
+//! pages, and the pages placed by rank.
+//!
+//! This is the plain program of the layout: what a store in place must come to, and what loads many pairs at once.
+#![tactic(auto)]
+
+mod count;
+mod cut;
+mod fault;
+mod from_pairs;
+mod groups;
+mod layout;
+mod place;
+mod ranked;
+
+pub use fault::ScratchFault;
+pub use from_pairs::build;
+pub use layout::Layout;
+
+#[cfg(test)]
+mod tests;
