@@ -7,33 +7,36 @@ use Rattle.store_model.specs.Parameters.{Parameters}
 use Rattle.store_model.specs.Trees.{Tree}
 use Rattle.store_model.specs.Commands.{Command}
 use Rattle.store_model.specs.Commands.Reply.{Refused}
-use Rattle.store_model.specs.Steps.{Step, step}
+use Rattle.store_model.specs.Steps.{step}
 use Rattle.store_model.specs.Grammar.{parse}
 use Rattle.store_model.specs.Scripts.{line_limit, answer_by}
 use Rattle.script_lines.specs.declared.lines.Line.{Line}
 use Rattle.script_lines.specs.declared.lines.Line.TheVariants as lines
-use Rattle.store_top.specs.TodayLines.{reading_today, served_reading, is_served, answer_today}
+use Rattle.store_top.specs.TodayLines.{reading_today, served_reading, is_served, has_served_word, answer_today}
 use Rattle.store_top.specs.Runs.{IsLine}
 
-pub reading_short : (text : List ℕ) → length text ≤ line_limit → reading_today text ≡ served_reading (parse text)
+pub reading_short : (text : List ℕ) → length text ≤ line_limit → reading_today text ≡ served_reading text (parse text)
 unfolding reading_today
-reading_short text h = ap (λ b. cond b (Err refusals.Syntax) (served_reading (parse text))) (le-ltb line_limit (length text) h)
+reading_short text h = ap (λ b. cond b (Err refusals.Long) (served_reading text (parse text))) (le-ltb line_limit (length text) h)
 
-pub reading_long : (text : List ℕ) → line_limit < length text → reading_today text ≡ Err refusals.Syntax
+pub reading_long : (text : List ℕ) → line_limit < length text → reading_today text ≡ Err refusals.Long
 unfolding reading_today
-reading_long text h = ap (λ b. cond b (Err refusals.Syntax) (served_reading (parse text))) (lt-ltb line_limit (length text) h)
+reading_long text h = ap (λ b. cond b (Err refusals.Long) (served_reading text (parse text))) (lt-ltb line_limit (length text) h)
 
-pub reading_served : (c : Command) (m : Result Command Refusal) → m ≡ Ok c → is_served c ≡ true → served_reading m ≡ Ok c
-reading_served c m e h = ap served_reading e ∙ ap (λ b. cond b (Ok c) (Err refusals.Syntax)) h
+pub reading_served : (text : List ℕ) (c : Command) (m : Result Command Refusal) → m ≡ Ok c → is_served c ≡ true → served_reading text m ≡ Ok c
+reading_served text c m e h = ap (served_reading text) e ∙ ap (λ b. cond b (Ok c) (Err refusals.Syntax)) h
 
-pub reading_other : (c : Command) (m : Result Command Refusal) → m ≡ Ok c → is_served c ≡ false → served_reading m ≡ Err refusals.Syntax
-reading_other c m e h = ap served_reading e ∙ ap (λ b. cond b (Ok c) (Err refusals.Syntax)) h
+pub reading_other : (text : List ℕ) (c : Command) (m : Result Command Refusal) → m ≡ Ok c → is_served c ≡ false → served_reading text m ≡ Err refusals.Syntax
+reading_other text c m e h = ap (served_reading text) e ∙ ap (λ b. cond b (Ok c) (Err refusals.Syntax)) h
 
-pub reading_refused : (r : Refusal) (m : Result Command Refusal) → m ≡ Err r → served_reading m ≡ Err refusals.Syntax
-reading_refused r m e = ap served_reading e
+pub reading_refused : (text : List ℕ) (r : Refusal) (m : Result Command Refusal) → m ≡ Err r → has_served_word text ≡ true → served_reading text m ≡ Err r
+reading_refused text r m e h = ap (served_reading text) e ∙ ap (λ b. cond b (Err r) (Err refusals.Syntax)) h
+
+pub reading_unserved : (text : List ℕ) (r : Refusal) (m : Result Command Refusal) → m ≡ Err r → has_served_word text ≡ false → served_reading text m ≡ Err refusals.Syntax
+reading_unserved text r m e h = ap (served_reading text) e ∙ ap (λ b. cond b (Err r) (Err refusals.Syntax)) h
 
 -- a line that is no text was too long
-pub not_text : (line : Line) → (line ≡ lines.Text → ⊥) → (shown text : List ℕ) → IsLine line shown text → Err refusals.Syntax ≡ reading_today text
+pub not_text : (line : Line) → (line ≡ lines.Text → ⊥) → (shown text : List ℕ) → IsLine line shown text → Err refusals.Long ≡ reading_today text
 not_text lines.Text other shown text is = absurd (other refl)
 not_text lines.Long other shown text is = sym (reading_long text is)
 not_text lines.End other shown text is = absurd is

@@ -1,13 +1,13 @@
 -- Lemmas on a script that is answered line after line.
-use Rattle.std.proofs.Common.{◌≡◌, ℕ, suc, ◌+◌, ◌-◌, ◌<◌, ◌≤◌, List, [], ◌∷◌, ◌++◌, map, length, take, drop, true, false, IsTrue, Option, Some, None, Result, Ok, Err, refl, sym, ap, ap₂, ◌∙◌, subst, arith, append_assoc, length-append, length-drop, min}
-use Rattle.std.specs.List.{flat_map}
-use Rattle.std.proofs.lemmas.List.{take_at, drop_at, append-nil, take-append-drop, length-take-le, take_all, drop-drop, take-take}
+use Rattle.std.proofs.Common.{◌≡◌, ℕ, suc, ◌+◌, ◌-◌, ◌<◌, ◌≤◌, List, [], ◌∷◌, ◌++◌, length, take, drop, true, false, IsTrue, Result, Ok, Err, refl, sym, ap, ◌∙◌, subst, arith, append_assoc, length-append, length-drop, length-take}
+use Rattle.std.specs.List.{AllByRecursion}
+use Rattle.std.proofs.lemmas.List.{take_at, drop_at, append-nil, take-append-drop, drop-drop}
 use Rattle.std.proofs.lemmas.List.Concat.{flat_map-append}
 use Rattle.store_model.specs.Parameters.{Parameters}
 use Rattle.store_model.specs.Trees.{Tree}
 use Rattle.store_model.specs.Commands.{Reply, reply_text}
 use Rattle.store_model.specs.Scripts.{lines, replies_by, tree_by, replies_text, script_limit}
-use Rattle.store_model.specs.Steps.{Step}
+use Rattle.store_model.proofs.ListsLemmas.{all_front, all_back}
 use Rattle.store_model.proofs.ScriptsLemmas.{replies_by-append, tree_by-append}
 use Rattle.script_lines.specs.SourceState.{SourceState}
 use Rattle.script_lines.specs.SinkState.{SinkState, AppendsPrefix, IsPut}
@@ -24,12 +24,11 @@ use Rattle.script_lines.proofs.StateLemmas.{Answers-refl, Answers-trans, Takes-t
 use Rattle.script_lines.proofs.LineLemmas.{lines-none}
 use Rattle.store_base.specs.declared.store_fault.Fault.{Fault}
 use Rattle.store_base.specs.declared.store_fault.Fault.TheVariants as causes
-use Rattle.store_top.specs.Steps.{fault_status}
+use Rattle.store_top.specs.Steps.{fault_status, IsRefused}
 use Rattle.store_top.specs.declared.status.Status.{Status}
 use Rattle.store_top.specs.declared.status.Status.TheVariants as statuses
 use Rattle.store_top.specs.TodayLines.{answer_today}
-use Rattle.store_top.specs.Promises.{IsCutShort, IsFrontOf, WroteInPart, PromisesReplies}
-use Rattle.store_top.specs.Runs.{run_replies, run_trees, RepliesKept, KeepsLimit, IsLine, IsEndOfRun, KeepsSource, KeepsSink}
+use Rattle.store_top.specs.Runs.{run_replies, run_trees, RepliesKept, HasTaken, KeepsLimit, IsLine, IsEndOfRun, KeepsSource, KeepsSink}
 
 -- the replies to lines, and the tree after them
 abbrev pub replies_on : Tree → List (List ℕ) → Parameters → List Reply
@@ -66,6 +65,12 @@ replies_text-append a b = flat_map-append reply_text a b
 replies_text-one : (r : Reply) → replies_text (r ∷ []) ≡ reply_text r
 unfolding replies_text
 replies_text-one r = append-nil (reply_text r)
+
+counted_by : (xs ys : List Reply) (n : ℕ) → take n xs ≡ ys → length ys ≡ n → n ≤ length xs
+counted_by xs ys n e size = omega (arith, size, ap length e, length-take n xs)
+
+one_more : (xs : List Reply) (y : Reply) (n : ℕ) → take 1 (drop n xs) ≡ y ∷ [] → n + 1 ≤ length xs
+one_more xs y n e = omega (arith, ap length e, length-take 1 (drop n xs), length-drop n xs)
 
 module _ {R : Type 0} (state : R → SourceState) where
   -- the lines that were answered from the start of a script on, with the tree after them and what was written
@@ -161,6 +166,8 @@ module _ {R : Type 0} (state : R → SourceState) where
             in_part = λ e. absurd (cc);
             ended = λ e. absurd (cc);
             ended_in_limit = λ e. absurd (cc);
+            counted = counted_by (run_replies t_first (left state first) p) (replies_on t_first h.texts p) done (replies_at now sink_first sink_now t_first t_now p done h) (length-replies_on t_first h.texts p ∙ sym h.count);
+            some_line = λ e. absurd (cc);
             is_image = λ e. cc;
             is_whole = λ e. cc;
           };
@@ -185,6 +192,8 @@ module _ {R : Type 0} (state : R → SourceState) where
         in_part = λ e. absurd (cc);
         ended = λ e. absurd (cc);
         ended_in_limit = λ e. absurd (cc);
+        counted = counted_by (run_replies t_first (left state first) p) (replies_on t_first h.texts p) done (replies_at now sink_first sink_now t_first t_now p done h) (length-replies_on t_first h.texts p ∙ sym h.count);
+        some_line = λ e. absurd (cc);
         is_image = λ e. cc;
         is_whole = λ e. cc;
       };
@@ -200,6 +209,8 @@ module _ {R : Type 0} (state : R → SourceState) where
         in_part = λ e. absurd (cc);
         ended = λ e. absurd (cc);
         ended_in_limit = λ e. absurd (cc);
+        counted = counted_by (run_replies t_first (left state first) p) (replies_on t_first h.texts p) done (replies_at now sink_first sink_now t_first t_now p done h) (length-replies_on t_first h.texts p ∙ sym h.count);
+        some_line = λ e. absurd (cc);
         is_image = λ e. cc;
         is_whole = λ e. cc;
       };
@@ -225,6 +236,8 @@ module _ {R : Type 0} (state : R → SourceState) where
             in_part = λ e. absurd (cc);
             ended = λ e. h.count ∙ ap length (sym ended_are);
             ended_in_limit = λ e. absurd (cc);
+            counted = counted_by (run_replies t_first (left state first) p) (replies_on t_first h.texts p) done (replies_at now sink_first sink_now t_first t_now p done h) (length-replies_on t_first h.texts p ∙ sym h.count);
+            some_line = λ e. absurd (cc);
             is_image = λ e. cc;
             is_whole = λ e. cc;
           };
@@ -261,10 +274,16 @@ module _ {R : Type 0} (state : R → SourceState) where
             };
             ended = λ e. absurd (cc);
             ended_in_limit = λ e. absurd (cc);
+            counted = one_more (run_replies t_first (left state first) p) (answer_today t_now text p).reply done (ap (λ n. take 1 (drop n (run_replies t_first (left state first) p))) (sym before) ∙ last);
+            some_line = λ e. omega arith;
             is_image = λ e. cc;
             is_whole = λ e. cc;
           };
         }
+
+    -- all bytes, as those taken up to one past the limit and those left
+    taken_all : {ys : List ℕ} → ys ≡ drop (script_limit + 1) (left state first) → left state first ≡ take (script_limit + 1) (left state first) ++ ys
+    taken_all e = sym (take-append-drop (script_limit + 1) (left state first)) ∙ ap (λ xs. take (script_limit + 1) (left state first) ++ xs) (sym e)
 
     -- one byte too many
     pub at_too_long : (now next : LineState R) (sink_first sink_now : SinkState) (t_first t_now : Tree) (p : Parameters) (done : ℕ) → first.limit ≡ script_limit
@@ -284,28 +303,66 @@ module _ {R : Type 0} (state : R → SourceState) where
         record {
           taken = take (script_limit + 1) (left state first);
           written = replies_text (replies_on t_first h.texts p);
-          taken_is = sym (take-append-drop (script_limit + 1) (left state first)) ∙ ap (λ xs. take (script_limit + 1) (left state first) ++ xs) (sym left_is);
+          taken_is = taken_all left_is;
           written_is = h.written o;
           promised = record {
             all = λ e. absurd (cc);
             answered = λ c. ap replies_text (sym (replies_at now sink_first sink_now t_first t_now p done h));
             in_part = λ e. absurd (cc);
             ended = λ e. absurd (cc);
-            ended_in_limit = λ e. h.count ∙ ap length (sym ended_are) ∙ ap (λ xs. length (ended_lines xs)) (sym (take-take script_limit (script_limit + 1) (left state first) (omega arith)));
+            ended_in_limit = λ e. h.count ∙ ap length (sym ended_are) ∙ ap (λ xs. length (ended_lines (take script_limit xs))) (taken_all left_is);
+            counted = counted_by (run_replies t_first (left state first) p) (replies_on t_first h.texts p) done (replies_at now sink_first sink_now t_first t_now p done h) (length-replies_on t_first h.texts p ∙ sym h.count);
+            some_line = λ e. absurd (cc);
             is_image = λ e. cc;
             is_whole = λ e. cc;
           };
         }
 
-    pub too_long_by : (now next : LineState R) (texts : List (List ℕ)) → first.limit ≡ script_limit → Answers state first now texts → PassesLimit state now next → script_limit < length (left state first)
-    too_long_by now next texts limit answers passes =
-        omega (arith, passes.longer, answers.takes.limit, limit, none_taken, ap length answers.takes.left, length-drop (now.taken - first.taken) (left state first), answers.takes.fits)
+    -- so many bytes were taken
+    pub taken_by : (next : LineState R) → Takes state first next → HasTaken next.taken (state first.source) (state next.source)
+    taken_by next takes = record {
+      taken = take (next.taken - first.taken) (left state first);
+      taken_is = taken_split next takes;
+      count_is = omega (arith, length-take (next.taken - first.taken) (left state first), takes.fits, none_taken);
+    }
 
-    pub whole_by : (now next : LineState R) (texts : List (List ℕ)) → Answers state first now texts → Answers state now next [] → to_come state next ≡ [] → next.taken ≤ script_limit → length (left state first) ≤ script_limit
-    whole_by now next texts before answers none in_limit =
-        let takes = Takes-trans state first now next before.takes answers.takes in
-        let end : length (left state next) ≡ 0 = omega (arith, ap length none, length-append next.held (left state next)) in
-        omega (arith, end, ap length takes.left, length-drop (next.taken - first.taken) (left state first), none_taken, in_limit)
+    -- the call ended otherwise than by too long a script
+    pub within_limit : (status : Status) (next : LineState R) → Takes state first next → next.taken ≤ script_limit
+        → (status ≡ statuses.TooLong → ⊥) → (status ≡ statuses.Done → left state next ≡ []) → KeepsLimit status (state first.source) (state next.source)
+    within_limit status next takes in_limit other whole = record {
+      too_long = λ e. absurd (other e);
+      within = λ h. (next.taken, in_limit, taken_by next takes);
+      whole = whole;
+    }
+
+    -- it ended by that
+    pub past_limit : (now next : LineState R) (texts : List (List ℕ)) → first.limit ≡ script_limit → Answers state first now texts → PassesLimit state now next
+        → KeepsLimit statuses.TooLong (state first.source) (state next.source)
+    past_limit now next texts limit answers passes =
+        let limit_now : now.limit ≡ script_limit = answers.takes.limit ∙ limit in
+        let more : (now.taken - first.taken) + ((now.limit - now.taken) + 1) ≡ script_limit + 1 = omega (arith, none_taken, limit_now, passes.within, answers.takes.taken) in
+        let left_is : left state next ≡ drop (script_limit + 1) (left state first) =
+        passes.left ∙ ap (drop ((now.limit - now.taken) + 1)) answers.takes.left
+        ∙ drop-drop ((now.limit - now.taken) + 1) (now.taken - first.taken) (left state first) ∙ ap (λ n. drop n (left state first)) more in
+        let longer : script_limit < length (left state first) =
+        omega (arith, passes.longer, answers.takes.limit, limit, none_taken, ap length answers.takes.left, length-drop (now.taken - first.taken) (left state first), answers.takes.fits) in
+        record {
+          too_long = λ e. record {
+            taken = take (script_limit + 1) (left state first);
+            taken_is = taken_all left_is;
+            count_is = omega (arith, length-take (script_limit + 1) (left state first), longer);
+          };
+          within = λ h. absurd (h refl);
+          whole = λ e. absurd (cc);
+        }
+
+    -- the script was read to its end
+    pub end_of_left : (next : LineState R) → to_come state next ≡ [] → left state next ≡ []
+    end_of_left next none = second_nil next.held (left state next) none
+      where
+        second_nil : (xs ys : List ℕ) → xs ++ ys ≡ [] → ys ≡ []
+        second_nil [] ys e = e
+        second_nil (x ∷ xs) ys e = absurd (cc)
 
 -- the line that a reader answered, and what it is
 pub record LineAnswered {R : Type 0} (state : R → SourceState) (line : Line) (shown : List ℕ) (a b : LineState R) : Type 0 where
@@ -327,6 +384,25 @@ trees_next state first held none_taken now next sink_first sink_now t_first t_no
     trees_at state first held none_taken next sink_first sink_next t_first t_next p (done + 1)
     (halfway_more state first now next sink_first sink_now sink_next t_first t_now t_next p done text h answers tree (λ o. refl))
 
+-- where all replies up to one line more are refusals, those before are, and that of the line is
+pub refused_more : {R : Type 0} (state : R → SourceState) (first : LineState R) (held : first.held ≡ []) (none_taken : first.taken ≡ 0) (now next : LineState R) (sink_first sink_now : SinkState) (t_first t_now : Tree) (p : Parameters) (done : ℕ) (text : List ℕ)
+    → Halfway state first now sink_first sink_now t_first t_now p done → Answers state now next (text ∷ [])
+    → AllByRecursion IsRefused (take (done + 1) (run_replies t_first (left state first) p))
+    → AllByRecursion IsRefused (take done (run_replies t_first (left state first) p)) × IsRefused (answer_today t_now text p).reply
+unfolding halfway_more
+refused_more state first held none_taken now next sink_first sink_now t_first t_now p done text h answers all =
+    let reply = (answer_today t_now text p).reply in
+    let sink_next : SinkState = record { is_observable = true; written = sink_now.written ++ reply_text reply; faults = 0 } in
+    let longer = halfway_more state first now next sink_first sink_now sink_next t_first t_now (answer_today t_now text p).tree p done text h answers refl (λ o. refl) in
+    let after = replies_at state first held none_taken next sink_first sink_next t_first (answer_today t_now text p).tree p (done + 1) longer in
+    let split : replies_on t_first (h.texts ++ text ∷ []) p ≡ replies_on t_first h.texts p ++ reply ∷ [] =
+    replies_by-append (λ u x. answer_today u x p) t_first h.texts (text ∷ [])
+    ∙ ap (λ u. replies_on t_first h.texts p ++ replies_on u (text ∷ []) p) (sym h.tree) ∙ ap (λ rs. replies_on t_first h.texts p ++ rs) (one_reply t_now text p) in
+    let whole = subst (λ rs. AllByRecursion IsRefused rs) (after ∙ split) all in (
+      subst (λ rs. AllByRecursion IsRefused rs) (sym (replies_at state first held none_taken now sink_first sink_now t_first t_now p done h)) (all_front IsRefused (replies_on t_first h.texts p) (reply ∷ []) whole),
+      (all_back IsRefused (replies_on t_first h.texts p) (reply ∷ []) whole).0,
+    )
+
 -- ---- faults
 
 pub end_of_fault : (fault : Fault) → IsEndOfRun (fault_status fault)
@@ -345,9 +421,13 @@ pub no_sink_fault : (fault : Fault) → fault_status fault ≡ statuses.SinkFaul
 no_sink_fault causes.Disk e = cc
 no_sink_fault causes.NoMemory e = cc
 
-pub no_limit : (fault : Fault) (source : SourceState) → KeepsLimit (fault_status fault) source
-no_limit causes.Disk source = record { too_long = λ e. absurd (cc); whole = λ e. absurd (cc) }
-no_limit causes.NoMemory source = record { too_long = λ e. absurd (cc); whole = λ e. absurd (cc) }
+pub not_too_long : (fault : Fault) → fault_status fault ≡ statuses.TooLong → ⊥
+not_too_long causes.Disk e = cc
+not_too_long causes.NoMemory e = cc
+
+pub not_done : (fault : Fault) → fault_status fault ≡ statuses.Done → ⊥
+not_done causes.Disk e = cc
+not_done causes.NoMemory e = cc
 
 pub memory_fault : (fault : Fault) → (fault_status fault ≡ statuses.DiskFault → ⊥) → fault ≡ causes.NoMemory
 memory_fault causes.Disk other = absurd (other refl)

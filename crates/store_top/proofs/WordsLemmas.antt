@@ -1,178 +1,149 @@
 -- Lemmas on the words that are served today.
-use Rattle.std.proofs.Common.{◌≡◌, ◌≢◌, ℕ, zero, suc, ◌+◌, ◌-◌, ◌*◌, ◌<◌, ◌≤◌, List, [], ◌∷◌, length, Bool, true, false, cond, ◌&&◌, not, Option, Some, None, IsTrue, eqb, leb, refl, sym, ap, ◌∙◌, subst, inl, inr, ◌⊎◌, ⊎_elim, arith, codes, if◌then◌else◌, lit≤, Result, Ok, Err, IfOk}
-use Rattle.std.specs.Result.{result_ok}
-use Rattle.std.proofs.lemmas.Bool.{false≢true, eqb-true, eq-eqb, ne_eqb, le-leb}
+use Rattle.std.proofs.Common.{◌≡◌, ◌≢◌, ℕ, ◌<◌, ◌≤◌, List, [], ◌∷◌, length, Bool, true, false, cond, ◌&&◌, Option, Some, None, eqb, leb, refl, sym, ap, ◌∙◌, inl, inr, ◌⊎◌, ⊎_elim, arith, codes, if◌then◌else◌, Result, Ok, Err, IsOk, IfOk, ◌↔◌}
+use Rattle.std.specs.Option.{option_map}
+use Rattle.std.specs.Result.{result_ok, OkIff}
+use Rattle.std.proofs.lemmas.Bool.{cases_Bool, false≢true, eqb-true, eq-eqb, le-leb, lt-leb, leb-true}
 use Rattle.hex.specs.Hex.{decode_of, decode_sized}
 use Rattle.hex.specs.declared.error.FromHexError.{FromHexError}
 use Rattle.hex.proofs.HexLemmas.{decode_sized-twice, decode_sized-ok}
-use Rattle.store_model.specs.Parameters.{Parameters}
-use Rattle.std.specs.List.{list_all, fold}
-use Rattle.std.proofs.lemmas.Slice.Eq.{bytes_eq-Decides}
+use Rattle.store_model.specs.Parameters.{Parameters, IsParameters}
 use Rattle.store_model.specs.declared.draw_kind.DrawKind.{DrawKind}
 use Rattle.store_model.specs.declared.draw_kind.DrawKind.TheVariants.{Ruler, Sha256}
-use Rattle.store_model.specs.Lists.{same_bytes}
-use Rattle.store_model.specs.Grammar.{number_of, digits_value, is_numeral, is_digit, number_limit, ◌>>=◌, ok_value}
+use Rattle.store_model.specs.Lists.{IsBytes, same_bytes}
+use Rattle.store_model.specs.Grammar.{number_of, ◌>>=◌, ok_value}
 use Rattle.store_model.specs.Words.{Request, request_of, number_in, kind_of_word, seed_of_word, on_command}
 use Rattle.store_model.specs.Words.Request.{Format, Run, Check, Scrub, Wipe, Big}
-use Rattle.store_top.specs.TodayWords.{request_today, served, is_served_request, has_today, is_ruler}
+use Rattle.store_model.proofs.ListsLemmas.{first_true, second_true}
+use Rattle.store_top.specs.TodayWords.{request_today, served}
 
--- a test that is true or false
-tested : (b : Bool) → (b ≡ true) ⊎ (b ≡ false)
-tested true = inl refl
-tested false = inr refl
-
--- digits never make a number smaller
-fold_above : (n : ℕ) (digits : List ℕ) → n ≤ fold (λ m c. 10 * m + (c - 0x30)) n digits
-fold_above n [] = omega arith
-fold_above n (c ∷ digits) = omega (arith, fold_above (10 * n + (c - 0x30)) digits)
-
-both : (a b : Bool) → (a && b) ≡ true → (a ≡ true) × (b ≡ true)
-both true true h = (refl, refl)
-both true false h = absurd (cc)
-both false b h = absurd (cc)
-
-digit_above : (c : ℕ) → is_digit c ≡ true → 0x30 ≤ c
-digit_above c h = grind arith
-
--- the numeral of 1 is `1` alone
-numeral_of_one : (w : List ℕ) → is_numeral w ≡ true → digits_value w ≡ 1 → w ≡ 0x31 ∷ []
-unfolding digits_value
-numeral_of_one [] h e = absurd (cc)
-numeral_of_one (c ∷ []) h e = let is : c ≡ 0x31 = omega (arith, digit_above c h) in ap (λ d. d ∷ []) is
-numeral_of_one (c ∷ d ∷ digits) h e =
-    let parts = both _ _ h in
-    let first = both _ _ parts.1 in
-    let low : 0x30 ≤ c = digit_above c first.0 in
-    let other : c ≢ 0x30 = λ q. let e : not (eqb c 0x30) ≡ false = ap (λ x. not (eqb x 0x30)) q in cc in
-    absurd (omega (arith, fold_above (10 * (10 * 0 + (c - 0x30)) + (d - 0x30)) digits))
-
--- a number in a range from 1 on: 1 exactly where it is spelled `1`
-abbrev pub IsOther : Option ℕ → Type 0
-IsOther None = Unit {0}
-IsOther (Some n) = eqb n 1 ≡ false
-
-in_range_one : (high : ℕ) → 1 ≤ high → cond {A = Option ℕ} (leb 1 1 && leb 1 high) (Some 1) None ≡ Some 1
-in_range_one high h = rw (le-leb 1 high h) refl
-
-spelled_one : (high : ℕ) → 1 ≤ high → (w : List ℕ) → w ≡ 0x31 ∷ [] → number_in 1 high w ≡ Some 1
-unfolding number_in number_of digits_value
-spelled_one high h w e = ap (number_in 1 high) e ∙ in_range_one high h
-
-in_range_other : (low high n : ℕ) → eqb n 1 ≡ false → IsOther (if leb low n && leb n high then Some n else None)
-in_range_other low high n e = elim (leb low n && leb n high) as (λ b. IsOther (if b then Some n else None)) [ true ↦ e | false ↦ tt ]
-
-bound_other : (low high v : ℕ) (b : Bool) → (b ≡ true → eqb v 1 ≡ false) → IsOther ((if b then Some v else None) >>= λ n. if leb low n && leb n high then Some n else None)
-bound_other low high v true h = in_range_other low high v (h refl)
-bound_other low high v false h = tt
-
-other_number : (high : ℕ) (w : List ℕ) → (w ≡ 0x31 ∷ [] → ⊥) → IsOther (number_in 1 high w)
-unfolding number_in number_of
-other_number high w other =
-    bound_other 1 high (digits_value w) (is_numeral w && leb (digits_value w) number_limit)
-    (λ h. ne_eqb (digits_value w) 1 (λ q. other (numeral_of_one w (both _ _ h).0 q)))
-
-pub one_or_other : (high : ℕ) → 1 ≤ high → (w : List ℕ)
-    → ((same_bytes w (codes "1") ≡ true) × (number_in 1 high w ≡ Some 1)) ⊎ ((same_bytes w (codes "1") ≡ false) × IsOther (number_in 1 high w))
-one_or_other high h w =
-    ⊎_elim
-    (λ e. inl (e, spelled_one high h w ((bytes_eq-Decides w (0x31 ∷ [])).0 e)))
-    (λ e. inr (e, other_number high w (λ q. false≢true (sym e ∙ (bytes_eq-Decides w (0x31 ∷ [])).1 q))))
-    (tested (same_bytes w (codes "1")))
-
--- what the words of `format` ask for, by the tests of the word and of its first three arguments
-abbrev pub format_if : Bool → Bool → Bool → Bool → Option (List ℕ) → Option Request
-format_if true true true true (Some seed) = Some (Format (record { slots = 1; height = 1; kind = Ruler; seed = seed }))
-format_if true true true true None = None
-format_if true true true false s = None
-format_if true true false d s = None
-format_if true false c d s = None
-format_if false b c d s = None
-
-pub format_if-first : (b c d : Bool) (s : Option (List ℕ)) → format_if false b c d s ≡ None
-format_if-first b c d s = refl
-
-pub format_if-second : (a c d : Bool) (s : Option (List ℕ)) → format_if a false c d s ≡ None
-format_if-second true c d s = refl
-format_if-second false c d s = refl
-
-pub format_if-third : (a b d : Bool) (s : Option (List ℕ)) → format_if a b false d s ≡ None
-format_if-third true true d s = refl
-format_if-third true false d s = refl
-format_if-third false b d s = refl
-
-pub format_if-fourth : (a b c : Bool) (s : Option (List ℕ)) → format_if a b c false s ≡ None
-format_if-fourth true true true s = refl
-format_if-fourth true true false s = refl
-format_if-fourth true false c s = refl
-format_if-fourth false b c s = refl
-
-pub format_if-no_seed : (a b c d : Bool) → format_if a b c d None ≡ None
-format_if-no_seed true true true true = refl
-format_if-no_seed true true true false = refl
-format_if-no_seed true true false d = refl
-format_if-no_seed true false c d = refl
-format_if-no_seed false b c d = refl
-
--- the draw's word is `ruler` exactly where the kind that it names is
-kind_or_other : (k : List ℕ) → ((same_bytes k (codes "ruler") ≡ true) × (kind_of_word k ≡ Some Ruler)) ⊎ ((same_bytes k (codes "ruler") ≡ false) × ((kind_of_word k ≡ Some Sha256) ⊎ (kind_of_word k ≡ None)))
-unfolding kind_of_word
-kind_or_other k =
-    ⊎_elim
-    (λ e. inl (e, rw e refl))
-    (λ e. inr (e, rw e (elim (same_bytes k (codes "sha256")) as (λ b. ((if b then Some Sha256 else None) ≡ Some Sha256) ⊎ ((if b then Some Sha256 else None) ≡ None)) [ true ↦ inl refl | false ↦ inr refl ])))
-    (tested (same_bytes k (codes "ruler")))
-
-abbrev pub format_by : Option ℕ → Option ℕ → Option DrawKind → Option (List ℕ) → Option Request
+-- what `format` asks for, by what its four arguments spell
+abbrev format_by : Option ℕ → Option ℕ → Option DrawKind → Option (List ℕ) → Option Request
 format_by slots height kind seed = slots >>= λ n. height >>= λ h. kind >>= λ k. seed >>= λ s. Some (Format (record { slots = n; height = h; kind = k; seed = s }))
 
-other_slots : (n h : Option ℕ) (k : Option DrawKind) (s : Option (List ℕ)) → IsOther n → (format_by n h k s >>= served) ≡ None
-other_slots None h k s o = refl
-other_slots (Some n) None k s o = refl
-other_slots (Some n) (Some h) None s o = refl
-other_slots (Some n) (Some h) (Some k) None o = refl
-other_slots (Some n) (Some h) (Some k) (Some s) o = rw o refl
-
-other_height : (h : Option ℕ) (k : Option DrawKind) (s : Option (List ℕ)) → IsOther h → (format_by (Some 1) h k s >>= served) ≡ None
-other_height None k s o = refl
-other_height (Some h) None s o = refl
-other_height (Some h) (Some k) None o = refl
-other_height (Some h) (Some k) (Some s) o = rw o refl
-
-other_kind : (k : Option DrawKind) (s : Option (List ℕ)) → (k ≡ Some Sha256) ⊎ (k ≡ None) → (format_by (Some 1) (Some 1) k s >>= served) ≡ None
-other_kind k None (inl e) = rw e refl
-other_kind k (Some s) (inl e) = rw e refl
-other_kind k s (inr e) = rw e refl
-
-served_format : (s : Option (List ℕ)) → (format_by (Some 1) (Some 1) (Some Ruler) s >>= served) ≡ format_if true true true true s
-served_format None = refl
-served_format (Some s) = refl
-
-format_chosen : (w a b k s : List ℕ) → same_bytes w (codes "format") ≡ true
-    → (format_by (number_in 1 16384 a) (number_in 1 8 b) (kind_of_word k) (seed_of_word s) >>= served)
-    ≡ format_if true (same_bytes a (codes "1")) (same_bytes b (codes "1")) (same_bytes k (codes "ruler")) (seed_of_word s)
-format_chosen w a b k s h =
-    ⊎_elim
-    (λ x. ⊎_elim
-    (λ y. ⊎_elim
-    (λ z. rw (x.0, x.1, y.0, y.1, z.0, z.1) (served_format (seed_of_word s)))
-    (λ z. rw (x.0, x.1, y.0, y.1, z.0) (other_kind (kind_of_word k) (seed_of_word s) z.1))
-    (kind_or_other k))
-    (λ y. rw (x.0, x.1, y.0) (other_height (number_in 1 8 b) (kind_of_word k) (seed_of_word s) y.1))
-    (one_or_other 8 (lit≤ tt) b))
-    (λ x. rw x.0 (other_slots (number_in 1 16384 a) (number_in 1 8 b) (kind_of_word k) (seed_of_word s) x.1))
-    (one_or_other 16384 (lit≤ tt) a)
-
-chosen : (b : Bool) (x y : Option Request) → b ≡ true → (cond b x y) ≡ x
-chosen b x y h = rw h refl
-
-pub format_words : (w a b k s : List ℕ)
-    → request_today (w ∷ a ∷ b ∷ k ∷ s ∷ []) ≡ format_if (same_bytes w (codes "format")) (same_bytes a (codes "1")) (same_bytes b (codes "1")) (same_bytes k (codes "ruler")) (seed_of_word s)
+-- another word asks for nothing
+pub other_word : (w a b k s : List ℕ) → same_bytes w (codes "format") ≡ false → request_today (w ∷ a ∷ b ∷ k ∷ s ∷ []) ≡ None
 unfolding request_today request_of
-format_words w a b k s =
+other_word w a b k s h = rw h refl
+
+other_kind : (c : Bool) (n h : Option ℕ) (k : Option DrawKind) (s : Option (List ℕ)) → (k ≡ Some Sha256) ⊎ (k ≡ None) → ((cond c (format_by n h k s) None) >>= served) ≡ None
+other_kind false n h k s o = refl
+other_kind true None h k s o = refl
+other_kind true (Some n) None k s o = refl
+other_kind true (Some n) (Some h) k None (inl e) = rw e refl
+other_kind true (Some n) (Some h) k (Some s) (inl e) = rw e refl
+other_kind true (Some n) (Some h) k s (inr e) = rw e refl
+
+other_kind_of_word : (k : List ℕ) → same_bytes k (codes "ruler") ≡ false → (kind_of_word k ≡ Some Sha256) ⊎ (kind_of_word k ≡ None)
+unfolding kind_of_word
+other_kind_of_word k e =
+    rw e (elim (same_bytes k (codes "sha256")) as (λ b. ((if b then Some Sha256 else None) ≡ Some Sha256) ⊎ ((if b then Some Sha256 else None) ≡ None)) [ true ↦ inl refl | false ↦ inr refl ])
+
+-- another draw is not served
+pub other_draw : (w a b k s : List ℕ) → same_bytes k (codes "ruler") ≡ false → request_today (w ∷ a ∷ b ∷ k ∷ s ∷ []) ≡ None
+unfolding request_today request_of
+other_draw w a b k s h =
+    other_kind (same_bytes w (codes "format")) (number_in 1 16384 a) (number_in 1 8 b) (kind_of_word k) (seed_of_word s) (other_kind_of_word k h)
+
+-- the words of `format` with the draw `ruler`
+abbrev pub ruler_words : List ℕ → List ℕ → List ℕ → List (List ℕ)
+ruler_words a b s = codes "format" ∷ a ∷ b ∷ codes "ruler" ∷ s ∷ []
+
+-- the parameters of two numbers and a seed, with that draw
+abbrev pub ruler_of : ℕ → ℕ → List ℕ → Parameters
+ruler_of n h seed = record { slots = n; height = h; kind = Ruler; seed = seed }
+
+-- what those words ask for
+abbrev ruler_request : Option ℕ → Option ℕ → Option (List ℕ) → Option Request
+ruler_request slots height seed = slots >>= λ n. height >>= λ h. seed >>= λ s. Some (Format (ruler_of n h s))
+
+served_ruler : (n h : Option ℕ) (s : Option (List ℕ)) → (format_by n h (Some Ruler) s >>= served) ≡ ruler_request n h s
+served_ruler None h s = refl
+served_ruler (Some n) None s = refl
+served_ruler (Some n) (Some h) None = refl
+served_ruler (Some n) (Some h) (Some s) = refl
+
+today_ruler : (a b s : List ℕ) → request_today (ruler_words a b s) ≡ ruler_request (number_in 1 16384 a) (number_in 1 8 b) (seed_of_word s)
+unfolding request_today request_of kind_of_word
+today_ruler a b s = served_ruler (number_in 1 16384 a) (number_in 1 8 b) (seed_of_word s)
+
+-- a number, where it lies in the range
+abbrev in_range : ℕ → ℕ → ℕ → Option ℕ
+in_range low high n = if leb low n && leb n high then Some n else None
+
+in_range_yes : (low high n : ℕ) → low ≤ n → n ≤ high → in_range low high n ≡ Some n
+in_range_yes low high n low_le le_high = rw (le-leb low n low_le, le-leb n high le_high) refl
+
+in_range_no : (low high n : ℕ) → high < n → in_range low high n ≡ None
+in_range_no low high n h = rw (lt-leb n high h) (elim (leb low n) as (λ b. (if b && false then Some n else None) ≡ None) [ true ↦ refl | false ↦ refl ])
+
+number_in_none : (low high : ℕ) (w : List ℕ) → number_of w ≡ None → number_in low high w ≡ None
+unfolding number_in
+number_in_none low high w e = rw e refl
+
+number_in_some : (low high n : ℕ) (w : List ℕ) → number_of w ≡ Some n → number_in low high w ≡ in_range low high n
+unfolding number_in
+number_in_some low high n w e = rw e refl
+
+no_height_request : (n : Option ℕ) (s : Option (List ℕ)) → ruler_request n None s ≡ None
+no_height_request None s = refl
+no_height_request (Some n) s = refl
+
+no_seed_request : (n h : Option ℕ) → ruler_request n h None ≡ None
+no_seed_request None h = refl
+no_seed_request (Some n) None = refl
+no_seed_request (Some n) (Some h) = refl
+
+-- a word that spells no number of slots, or of levels, or no seed
+pub no_slots : (a b s : List ℕ) → number_of a ≡ None → request_today (ruler_words a b s) ≡ None
+no_slots a b s e = rw (today_ruler a b s, number_in_none 1 16384 a e) refl
+
+pub no_height : (a b s : List ℕ) → number_of b ≡ None → request_today (ruler_words a b s) ≡ None
+no_height a b s e = rw (today_ruler a b s, number_in_none 1 8 b e) (no_height_request (number_in 1 16384 a) (seed_of_word s))
+
+pub great_height : (a b s : List ℕ) (h : ℕ) → number_of b ≡ Some h → 8 < h → request_today (ruler_words a b s) ≡ None
+great_height a b s h e great = rw (today_ruler a b s, number_in_some 1 8 h b e, in_range_no 1 8 h great) (no_height_request (number_in 1 16384 a) (seed_of_word s))
+
+pub no_seed : (a b s : List ℕ) → seed_of_word s ≡ None → request_today (ruler_words a b s) ≡ None
+no_seed a b s e = rw (today_ruler a b s, e) (no_seed_request (number_in 1 16384 a) (number_in 1 8 b))
+
+-- a number that is read into a byte, and one that does not fit
+pub fits_byte : {E : Type 0} (r : Result ℕ E) (n x : ℕ) → OkIff r (n < 256) n → Some x ≡ result_ok r → x ≡ n
+fits_byte (Ok y) n x h e = let same : x ≡ y = cc in same ∙ h.1
+fits_byte (Err d) n x h e = absurd (cc)
+
+pub passes_byte : {E : Type 0} (r : Result ℕ E) (n : ℕ) → OkIff r (n < 256) n → None ≡ result_ok r → 8 < n
+passes_byte (Ok y) n h e = absurd (cc)
+passes_byte (Err d) n h e = omega (arith, h)
+
+-- what is made of two numbers and a seed of 32 bytes, exactly where they are in range, is what the words ask for
+made : {E : Type 0} (r : Result Parameters E) (n h : ℕ) (seed : List ℕ) → length seed ≡ 32 → IsBytes seed
+    → IsOk r ↔ IsParameters (ruler_of n h seed) → IfOk r (λ p. p ≡ ruler_of n h seed)
+    → option_map Format (result_ok r) ≡ ruler_request (in_range 1 16384 n) (in_range 1 8 h) (Some seed)
+made (Ok p) n h seed size bytes exact value =
+    let valid = exact.0 refl in
+    rw (in_range_yes 1 16384 n valid.some_slot valid.slots_in_range, in_range_yes 1 8 h valid.some_level valid.height_in_range) (ap (λ q. Some (Format q)) value)
+made (Err e) n h seed size bytes exact value =
     ⊎_elim
-    (λ h. rw h (format_chosen w a b k s h))
-    (λ h. rw h refl)
-    (tested (same_bytes w (codes "format")))
+    (λ few. ⊎_elim
+    (λ low. absurd (false≢true (exact.1 (record {
+      some_slot = leb-true _ _ (first_true _ _ few);
+      slots_in_range = leb-true _ _ (second_true _ _ few);
+      some_level = leb-true _ _ (first_true _ _ low);
+      height_in_range = leb-true _ _ (second_true _ _ low);
+      seed_length = size;
+      seed_bytes = bytes;
+    }))))
+    (λ low. rw low (sym (no_height_request (in_range 1 16384 n) (Some seed))))
+    (cases_Bool (leb 1 h && leb h 8)))
+    (λ few. rw few refl)
+    (cases_Bool (leb 1 n && leb n 16384))
+
+pub made_today : {E : Type 0} (r : Result Parameters E) (a b s : List ℕ) (n h : ℕ) (seed : List ℕ)
+    → number_of a ≡ Some n → number_of b ≡ Some h → seed_of_word s ≡ Some seed → length seed ≡ 32 → IsBytes seed
+    → IsOk r ↔ IsParameters (ruler_of n h seed) → IfOk r (λ p. p ≡ ruler_of n h seed)
+    → option_map Format (result_ok r) ≡ request_today (ruler_words a b s)
+made_today r a b s n h seed slots height digits size bytes exact value =
+    rw (today_ruler a b s, number_in_some 1 16384 n a slots, number_in_some 1 8 h b height, digits) (made r n h seed size bytes exact value)
 
 -- a single word is served where it is `run`
 pub single_word : (w : List ℕ) → request_today (w ∷ []) ≡ (if same_bytes w (codes "run") then Some Run else None)
@@ -228,9 +199,4 @@ seed_decoded w r e =
     ap result_ok e ∙ ⊎_elim
     (λ h. ap result_ok (decode_sized-twice w 32 (eqb-true _ _ h)) ∙ same_value (decode_of w) ∙ sym (seed_right w h))
     (λ h. no_value (decode_sized w 32) (λ bytes q. false≢true (sym h ∙ eq-eqb _ _ (decode_sized-ok w 32 bytes q))) ∙ sym (seed_wrong w h))
-    (tested (eqb (length w) 64))
-
--- what a `Result` that is known at `Ok` holds
-pub made_is : {E : Type 0} (r : Result Parameters E) (p q : Parameters) → IfOk r (λ x. x ≡ q) → result_ok r ≡ Some p → p ≡ q
-made_is (Ok x) p q h e = let same : x ≡ p = cc in sym same ∙ h
-made_is (Err x) p q h e = absurd (cc)
+    (cases_Bool (eqb (length w) 64))

@@ -1,13 +1,13 @@
 -- What the calls behind `top` say of their statuses.
-use Rattle.std.specs.Prelude.{◌≡◌, ℕ}
-use Rattle.store_top.specs.declared.format.FormatFault.{FormatFault}
-use Rattle.store_top.specs.declared.format.FormatFault.TheVariants as faults
+use Rattle.std.specs.Prelude.{ℕ}
+use Rattle.gate_journal.specs.declared.fault.JournalFault.{JournalFault}
+use Rattle.gate_journal.specs.declared.fault.JournalFault.TheVariants as faults
 use Rattle.std.specs.Prelude.{Result, Ok, Err}
 use Rattle.store_top.specs.declared.status.Status.{Status}
 use Rattle.store_top.specs.declared.status.Status.TheVariants as statuses
 
 -- how `format` ends
-abbrev pub format_status : Result Unit FormatFault → Status
+abbrev pub format_status : Result Unit JournalFault → Status
 format_status (Ok value) = statuses.Done
 format_status (Err faults.Disk) = statuses.DiskFault
 format_status (Err faults.AlreadyImage) = statuses.AlreadyImage

@@ -14,7 +14,7 @@ use Rattle.disk_model.specs.DiskCalls.{LeavesOnly}
 use Rattle.script_lines.specs.Lines.{ended_lines}
 use Rattle.store_top.specs.declared.status.Status.{Status}
 use Rattle.store_top.specs.declared.status.Status.TheVariants as statuses
-use Rattle.store_top.specs.Disks.{Stands, IsUntouched}
+use Rattle.store_top.specs.Disks.{Stands, IsUnwritten}
 
 -- the call ended before the script did, and not because of the sink: by the source, the disk, the script's length or
 -- want of memory
@@ -56,7 +56,10 @@ pub record PromisesReplies (status : Status) (done : ℕ) (replies : List Reply)
   -- each line that was ended among the bytes taken was carried out; of a script that is too long, among as many as it
   -- may have
   pub ended : status ≡ statuses.SourceFault → done ≡ length (ended_lines taken)
-  pub ended_in_limit : status ≡ statuses.TooLong → done ≡ length (ended_lines (take script_limit taken))
+  pub ended_in_limit : status ≡ statuses.TooLong → done ≡ length (ended_lines (take script_limit (taken ++ left)))
+  -- no more lines were carried out than there are, and the reply that could not be written was that of one of them
+  pub counted : done ≤ length replies
+  pub some_line : status ≡ statuses.SinkFault → 1 ≤ done
   -- the image is one
   pub is_image : status ≡ statuses.NotImage → ⊥
   pub is_whole : status ≡ statuses.Damaged → ⊥
@@ -66,7 +69,7 @@ pub record PromisesImage (status : Status) (done : ℕ) (trees : ℕ → Tree) (
   -- between two lines it is the layout of the tree after the lines carried out, and durable
   pub between : IsBetweenLines status → Stands new (trees done) p
   -- for want of memory it is so too, or nothing was done
-  pub no_memory : status ≡ statuses.NoMemory → Stands new (trees done) p ⊎ ((done ≡ 0) × IsUntouched old new)
+  pub no_memory : status ≡ statuses.NoMemory → Stands new (trees done) p ⊎ ((done ≡ 0) × IsUnwritten old new)
   -- where the disk failed the image represents the tree before or after the line in progress
   pub fault : status ≡ statuses.DiskFault → Represents new.bytes (trees done) p ⊎ Represents new.bytes (trees (done + 1)) p
 

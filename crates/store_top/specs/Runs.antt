@@ -1,5 +1,5 @@
 -- What answering a script does: the replies and trees of its lines, and what calls keep of the outside.
-use Rattle.std.specs.Prelude.{◌≡◌, ℕ, ◌<◌, ◌≤◌, List, ◌++◌, length, take}
+use Rattle.std.specs.Prelude.{◌≡◌, ℕ, ◌+◌, ◌<◌, ◌≤◌, List, [], ◌++◌, length, take}
 use Rattle.store_model.specs.Parameters.{Parameters}
 use Rattle.store_model.specs.Trees.{Tree}
 use Rattle.store_model.specs.Commands.{Reply}
@@ -55,7 +55,15 @@ pub record RepliesKept (status : Status) (done : ℕ) (replies : List Reply) (so
   pub written_is : sink_new.written ≡ sink_old.written ++ written
   pub promised : PromisesReplies status done replies written taken source_new.left
 
--- the script is too long where the call says so, and not where it was read to its end
-pub record KeepsLimit (status : Status) (source : SourceState) : Type 0 where
-  pub too_long : status ≡ statuses.TooLong → script_limit < length source.left
-  pub whole : status ≡ statuses.Done → length source.left ≤ script_limit
+-- so many bytes were taken from the source
+pub record HasTaken (count : ℕ) (old new : SourceState) : Type 0 where
+  pub taken : List ℕ
+  pub taken_is : old.left ≡ taken ++ new.left
+  pub count_is : length taken ≡ count
+
+-- the call says that the script is too long where as many bytes were taken as it may have, and one more; else no more were
+-- taken than that, and a script that was read to its end has no more
+pub record KeepsLimit (status : Status) (old new : SourceState) : Type 0 where
+  pub too_long : status ≡ statuses.TooLong → HasTaken (script_limit + 1) old new
+  pub within : (status ≡ statuses.TooLong → ⊥) → (count : ℕ) × (count ≤ script_limit) × HasTaken count old new
+  pub whole : status ≡ statuses.Done → new.left ≡ []

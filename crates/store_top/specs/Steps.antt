@@ -7,8 +7,8 @@ use Rattle.store_base.specs.declared.store_fault.Fault.{Fault}
 use Rattle.store_base.specs.declared.store_fault.Fault.TheVariants as causes
 use Rattle.store_top.specs.declared.status.Status.{Status}
 use Rattle.store_top.specs.declared.status.Status.TheVariants as statuses
-use Rattle.store_top.specs.declared.one_slot.AttachFault.{AttachFault}
-use Rattle.store_top.specs.declared.one_slot.AttachFault.TheVariants as faults
+use Rattle.store_top.specs.declared.attach.AttachFault.{AttachFault}
+use Rattle.store_top.specs.declared.attach.AttachFault.TheVariants as faults
 
 -- the reply is a refusal
 abbrev pub IsRefused : Reply → Type 0

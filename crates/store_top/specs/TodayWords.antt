@@ -1,10 +1,9 @@
 -- Which words are served today, and what they ask for.
-use Rattle.std.specs.Prelude.{◌≡◌, ℕ, List, Bool, true, false, ◌&&◌, Option, Some, None, ◌==◌, if◌then◌else◌}
+use Rattle.std.specs.Prelude.{◌≡◌, ℕ, List, Bool, true, false, Option, Some, None, if◌then◌else◌}
 use Rattle.store_model.specs.declared.draw_kind.DrawKind.{DrawKind}
 use Rattle.store_model.specs.declared.draw_kind.DrawKind.TheVariants.{Ruler, Sha256}
-use Rattle.store_model.specs.Parameters.{Parameters, image_len}
+use Rattle.store_model.specs.Parameters.{Parameters, IsParameters, image_len}
 use Rattle.store_model.specs.Grammar.{◌>>=◌}
-use Rattle.store_top.specs.OneSlot.{IsToday}
 use Rattle.store_model.specs.Words.{Request, request_of}
 use Rattle.store_model.specs.Words.Request.{Format, Run, Check, Scrub, Wipe, Big}
 use Rattle.store_top.specs.declared.words.Request as own
@@ -12,17 +11,23 @@ use Rattle.store_top.specs.declared.words.Request.TheVariants as own_requests
 use Rattle.store_top.specs.declared.words.Wanted.{Wanted}
 use Rattle.store_top.specs.declared.words.Wanted.TheVariants.{Usage, Existing, Fresh}
 
+-- the parameters of the images that are served today: slots, height and seed in their full range, and the draw
+-- `ruler`
+pub record IsServed (p : Parameters) : Type 0 where
+  pub valid : IsParameters p
+  pub ruler : p.kind ≡ Ruler
+
 abbrev pub is_ruler : DrawKind → Bool
 is_ruler Ruler = true
 is_ruler Sha256 = false
 
--- whether images with these parameters are served: one slot, one level, the draw `ruler`
-abbrev pub has_today : Parameters → Bool
-has_today p = (p.slots == 1) && (p.height == 1) && is_ruler p.kind
+-- whether images with these parameters, in their range, are served: those with the draw `ruler`
+abbrev pub serves : Parameters → Bool
+serves p = is_ruler p.kind
 
 -- whether a request is served: `run`, and `format` with such parameters
 abbrev pub is_served_request : Request → Bool
-is_served_request (Format p) = has_today p
+is_served_request (Format p) = serves p
 is_served_request Run = true
 is_served_request Check = false
 is_served_request Scrub = false
@@ -43,7 +48,7 @@ request_seen own_requests.Run = Run
 
 -- the parameters of a request are those that are served
 abbrev pub IsTodayRequest : own.Request → Type 0
-IsTodayRequest (own_requests.Format p) = IsToday p
+IsTodayRequest (own_requests.Format p) = IsServed p
 IsTodayRequest own_requests.Run = Unit {0}
 
 -- the file that a request needs: one that is there, or for `format` one of the image's length

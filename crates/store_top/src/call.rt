@@ -1,40 +1,46 @@
 //! The whole program as one call.
 
-ghost use Rattle.std.specs.Prelude.{◌≡◌, ◌≢◌, ◌↔◌, ◌⊎◌, [], Some, None, slice_index};
+ghost use Rattle.std.specs.Prelude.{◌≡◌, ◌≢◌, ◌↔◌, ◌⊎◌, [], Some, None, slice_index, take};
+ghost use Rattle.std.specs.List.{AllByRecursion};
 ghost use Rattle.store_base.specs.Counts.{Rose};
 ghost use Rattle.store_model.specs.Parameters as model;
 ghost use Rattle.store_model.specs.Parameters.{Parameters};
 ghost use Rattle.store_model.specs.Trees.{Tree};
 ghost use Rattle.store_model.specs.Words.Request.{Format, Run};
 ghost use Rattle.disk_model.specs.DiskState as disks;
+ghost use Rattle.disk_model.specs.DiskCalls.{LeavesOnly};
+ghost use Rattle.gate_journal.specs.Formats.{IsEmptyOrNone};
+ghost use Rattle.gate_journal.specs.Phases.{HasEmptyJournal};
+ghost use Rattle.store_top.specs.Steps.{IsRefused};
 ghost use Rattle.script_lines.specs.SourceState as sources;
 ghost use Rattle.script_lines.specs.SinkState as sinks;
-ghost use Rattle.store_top.specs.Disks.{KeepsDisk, IsUntouched, Stands};
-ghost use Rattle.store_top.specs.OneSlot.{IsToday, NamesToday, IsTopLayout};
+ghost use Rattle.store_top.specs.Disks.{IsBlank, IsUnwritten, Stands};
+ghost use Rattle.store_top.specs.Directories.{NamesServed, IsServedImage, MayLeaveServed};
+ghost use Rattle.store_top.specs.TodayWords.{IsServed};
 ghost use Rattle.store_top.specs.Outcomes.{format_status, done_of, IsFormatStatus, IsRunStatus, IsPastHeader, IsRefusedImage, IsRefusedDisk};
-ghost use Rattle.store_top.specs.Promises.{PromisesImage};
+ghost use Rattle.store_top.specs.Promises.{PromisesImage, PromisesCrashes, IsBetweenLines};
 ghost use Rattle.store_top.specs.Runs.{RepliesKept, KeepsLimit, run_replies, run_trees};
 ghost use Rattle.store_top.specs.TodayWords.{request_today};
 
-use crate::format::{FormatFault, format};
 use crate::outcome::Outcome;
 use crate::run::run;
 use crate::status::Status;
 use crate::words::{Request, Words};
 use disk_model::Disk;
+use gate_journal::{Journal, JournalFault};
 use script_lines::{Sink, Source};
 use std::alloc::Global;
 use store_base::Params;
 
 /// How a call of `format` ended.
-fn status_of(outcome: Result<(), FormatFault>) -> Status
+fn status_of(outcome: Result<(), JournalFault>) -> Status
     ensures { result ≡ format_status outcome }
 {
     match outcome {
         Ok(()) => Status::Done,
-        Err(FormatFault::Disk) => Status::DiskFault,
-        Err(FormatFault::AlreadyImage) => Status::AlreadyImage,
-        Err(FormatFault::WrongLength) => Status::WrongLength,
+        Err(JournalFault::Disk) => Status::DiskFault,
+        Err(JournalFault::AlreadyImage) => Status::AlreadyImage,
+        Err(JournalFault::WrongLength) => Status::WrongLength,
     }
 }
 
@@ -45,7 +51,7 @@ fn format_disk<D: Disk, R: Source, W: Sink>(
     source: R,
     sink: W,
 ) -> Outcome<D, R, W>
-    requires { IsToday params.now }
+    requires { IsServed params.now }
     ensures end { IsFormatStatus result.status }
     ensures done { result.done ≡ done_of result.status }
     ensures others { (result.source ≡ source) × (result.sink ≡ sink) }
@@ -54,11 +60,15 @@ fn format_disk<D: Disk, R: Source, W: Sink>(
     ensures right_length { result.status ≡ Status.AlreadyImage → (D.state disk).size ≡ model.image_len params.now.slots }
     ensures already_image { disks.IsObservable (D.state disk) → result.status ≡ Status.AlreadyImage → slice_index (D.state disk).bytes 0 ≡ 72 }
     ensures other_byte { disks.IsObservable (D.state disk) → result.status ≡ Status.Done → slice_index (D.state disk).bytes 0 ≢ 72 }
-    ensures refused { disks.IsObservable (D.state disk) → IsRefusedDisk result.status → IsUntouched (D.state disk) (D.state result.disk) }
+    ensures refused { disks.IsObservable (D.state disk) → IsRefusedDisk result.status → IsUnwritten (D.state disk) (D.state result.disk) }
+    ensures keeps { disks.IsObservable (D.state disk) → slice_index (D.state disk).bytes 0 ≡ 72 → IsUnwritten (D.state disk) (D.state result.disk) }
     ensures formatted { disks.IsObservable (D.state disk) → result.status ≡ Status.Done → Stands (D.state result.disk) [] params.now }
+    ensures reads { disks.IsObservable (D.state disk) → IsBlank (D.state disk) params.now → IsEmptyOrNone params.now (D.state result.disk).bytes }
+    ensures crash { disks.IsObservable (D.state disk) → IsBlank (D.state disk) params.now → disks.IsDurable (D.state disk)
+        → LeavesOnly (D.state disk) (D.state result.disk) (IsEmptyOrNone params.now) }
 {
     let mut disk = disk;
-    let status = status_of(format(&mut disk, params));
+    let status = status_of(Journal::format(&mut disk, params));
     let done = match status {
         Status::Done => 1,
         _ => 0,
@@ -73,11 +83,11 @@ fn format_disk<D: Disk, R: Source, W: Sink>(
 }
 
 /// Carries out the words on a disk: `format` makes the image of the empty tree, `run` answers the script
-/// that the source has, and writes each reply to the sink before it takes more of the script.
+/// that the source has and writes the replies to the sink.
 ///
 /// Words that are not served end with `Usage`. With `run`, `NotImage` comes exactly where the header names
-/// no parameters that are served or the length is not theirs, and `Damaged` only where the image is no
-/// layout of directories right below the root. With `format`, `WrongLength` comes exactly where the length
+/// no parameters that are served or the length is not theirs, and `Damaged` only where what recovery would leave
+/// is no layout of a tree of directories. With `format`, `WrongLength` comes exactly where the length
 /// is not the image's, and else `AlreadyImage` exactly where the disk begins as an image does. After each of
 /// these nothing was written, and the source and the sink are as they were.
 pub fn top<D: Disk, R: Source, W: Sink>(
@@ -105,25 +115,45 @@ pub fn top<D: Disk, R: Source, W: Sink>(
     ensures right_length { (p : Parameters) → request_today words.now ≡ Some (Format p) → result.status ≡ Status.AlreadyImage → (D.state disk).size ≡ model.image_len p.slots }
     ensures already_image { (p : Parameters) → request_today words.now ≡ Some (Format p) → disks.IsObservable (D.state disk) → result.status ≡ Status.AlreadyImage → slice_index (D.state disk).bytes 0 ≡ 72 }
     ensures other_byte { (p : Parameters) → request_today words.now ≡ Some (Format p) → disks.IsObservable (D.state disk) → result.status ≡ Status.Done → slice_index (D.state disk).bytes 0 ≢ 72 }
-    ensures format_refused { (p : Parameters) → request_today words.now ≡ Some (Format p) → disks.IsObservable (D.state disk) → IsRefusedDisk result.status → IsUntouched (D.state disk) (D.state result.disk) }
+    ensures format_refused { (p : Parameters) → request_today words.now ≡ Some (Format p) → disks.IsObservable (D.state disk) → IsRefusedDisk result.status → IsUnwritten (D.state disk) (D.state result.disk) }
+    ensures format_keeps { (p : Parameters) → request_today words.now ≡ Some (Format p) → disks.IsObservable (D.state disk) → slice_index (D.state disk).bytes 0 ≡ 72 → IsUnwritten (D.state disk) (D.state result.disk) }
     ensures formatted { (p : Parameters) → request_today words.now ≡ Some (Format p) → disks.IsObservable (D.state disk) → result.status ≡ Status.Done → Stands (D.state result.disk) [] p }
+    // Once it has found that the disk is to be formatted, what a crash at any moment leaves is no image, or that of the
+    // empty tree, if nothing was pending before; and so is what is read after a fault.
+    ensures format_reads { (p : Parameters) → request_today words.now ≡ Some (Format p) → disks.IsObservable (D.state disk) → IsBlank (D.state disk) p → IsEmptyOrNone p (D.state result.disk).bytes }
+    ensures format_crash { (p : Parameters) → request_today words.now ≡ Some (Format p) → disks.IsObservable (D.state disk) → IsBlank (D.state disk) p → disks.IsDurable (D.state disk)
+        → LeavesOnly (D.state disk) (D.state result.disk) (IsEmptyOrNone p) }
 
     // `run`: the image that it is given.
-    ensures not_image { request_today words.now ≡ Some Run → disks.IsObservable (D.state disk) → result.status ≡ Status.NotImage → (p : Parameters) → NamesToday (D.state disk).bytes p → ⊥ }
-    ensures image { request_today words.now ≡ Some Run → disks.IsObservable (D.state disk) → IsPastHeader result.status → (p : Parameters) × NamesToday (D.state disk).bytes p }
-    ensures damaged { request_today words.now ≡ Some Run → disks.IsObservable (D.state disk) → result.status ≡ Status.Damaged → (t : Tree) (p : Parameters) → IsTopLayout (D.state disk).bytes t p → ⊥ }
+    ensures not_image { request_today words.now ≡ Some Run → disks.IsObservable (D.state disk) → result.status ≡ Status.NotImage → (p : Parameters) → NamesServed (D.state disk).bytes p → ⊥ }
+    ensures image { request_today words.now ≡ Some Run → disks.IsObservable (D.state disk) → IsPastHeader result.status → (p : Parameters) × NamesServed (D.state disk).bytes p }
+    ensures damaged { request_today words.now ≡ Some Run → disks.IsObservable (D.state disk) → result.status ≡ Status.Damaged → (t : Tree) (p : Parameters) → IsServedImage (D.state disk).bytes t p → ⊥ }
     ensures run_refused { request_today words.now ≡ Some Run → IsRefusedImage result.status → (result.done ≡ 0) × (result.source ≡ source) × (result.sink ≡ sink) }
-    ensures run_untouched { request_today words.now ≡ Some Run → disks.IsObservable (D.state disk) → IsRefusedImage result.status → IsUntouched (D.state disk) (D.state result.disk) }
+    ensures run_unwritten { request_today words.now ≡ Some Run → disks.IsObservable (D.state disk) → IsRefusedImage result.status → IsUnwritten (D.state disk) (D.state result.disk) }
+
+    // `run`: `sized` holds of every disk. An image that represents no tree that is served is left as it is, and so are the
+    // source and the sink.
+    ensures sized { request_today words.now ≡ Some Run → IsPastHeader result.status → (p : Parameters) × IsServed p × ((D.state disk).size ≡ model.image_len p.slots) }
+    ensures served { request_today words.now ≡ Some Run → disks.IsObservable (D.state disk) → IsBetweenLines result.status → (t : Tree) × (p : Parameters) × IsServedImage (D.state disk).bytes t p }
+    ensures unserved_image { request_today words.now ≡ Some Run → disks.IsObservable (D.state disk) → ((t : Tree) (p : Parameters) → IsServedImage (D.state disk).bytes t p → ⊥)
+        → (result.done ≡ 0) × (result.source ≡ source) × (result.sink ≡ sink) × IsUnwritten (D.state disk) (D.state result.disk) }
 
     // `run`: the script.
-    ensures limit { request_today words.now ≡ Some Run → sources.IsObservable (R.state source) → KeepsLimit result.status (R.state source) }
+    ensures limit { request_today words.now ≡ Some Run → sources.IsObservable (R.state source) → KeepsLimit result.status (R.state source) (R.state result.source) }
     ensures replies { request_today words.now ≡ Some Run
         → disks.IsObservable (D.state disk) → sources.IsObservable (R.state source) → sinks.IsObservable (W.state sink)
-        → (t : Tree) (p : Parameters) → IsTopLayout (D.state disk).bytes t p
+        → (t : Tree) (p : Parameters) → IsServedImage (D.state disk).bytes t p
         → RepliesKept result.status result.done (run_replies t (R.state source).left p) (R.state source) (R.state result.source) (W.state sink) (W.state result.sink) }
+    // Lines that are all refused write nothing.
+    ensures quiet { request_today words.now ≡ Some Run → disks.IsObservable (D.state disk) → sources.IsObservable (R.state source)
+        → (t : Tree) (p : Parameters) → IsServedImage (D.state disk).bytes t p → HasEmptyJournal p.slots (D.state disk).bytes → (result.status ≡ Status.DiskFault → ⊥)
+        → AllByRecursion IsRefused (take result.done (run_replies t (R.state source).left p)) → IsUnwritten (D.state disk) (D.state result.disk) }
+    ensures crashes { request_today words.now ≡ Some Run → disks.IsObservable (D.state disk) → sources.IsObservable (R.state source)
+        → (t : Tree) (p : Parameters) → MayLeaveServed (D.state disk) t p
+        → PromisesCrashes result.status result.done (run_trees t (R.state source).left p) (D.state disk) (D.state result.disk) p }
     ensures kept_image { request_today words.now ≡ Some Run
         → disks.IsObservable (D.state disk) → sources.IsObservable (R.state source)
-        → (t : Tree) (p : Parameters) → IsTopLayout (D.state disk).bytes t p → disks.IsDurable (D.state disk) → (result.status ≡ Status.DiskFault → ⊥)
+        → (t : Tree) (p : Parameters) → IsServedImage (D.state disk).bytes t p
         → PromisesImage result.status result.done (run_trees t (R.state source).left p) (D.state disk) (D.state result.disk) p }
 {
     let Some(request) = words.request() else {

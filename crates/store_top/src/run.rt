@@ -1,28 +1,33 @@
-//! The words `run`: answers a script, line after line.
+//! The word `run`: answers a script, line after line.
 
-ghost use Rattle.std.specs.Prelude.{◌≡◌, ℕ, List, [], true, false, length, IfOk, OnOk, OnErr, IsErrOf, Ok, Err, ◌≤◌, Bool};
+ghost use Rattle.std.specs.Prelude.{◌≡◌, ℕ, List, [], true, false, length, take, IfOk, OnOk, OnErr, IsErrOf, Ok, Err, ◌≤◌, ◌+◌, ◌⊎◌, Bool};
+ghost use Rattle.std.specs.List.{AllByRecursion};
 ghost use Rattle.store_base.specs.Counts.{Rose};
 ghost use Rattle.store_model.specs.Scripts.{line_limit};
 ghost use Rattle.disk_model.specs.DiskState as disks;
+ghost use Rattle.disk_model.specs.DiskCalls.{LeavesOnly};
 ghost use Rattle.script_lines.specs.SourceState as sources;
 ghost use Rattle.script_lines.specs.SinkState as sinks;
 ghost use Rattle.script_lines.specs.Parsing.{command_of, reading_of};
 ghost use Rattle.script_lines.specs.Replies.{reply_of};
-ghost use Rattle.store_top.specs.Disks.{KeepsDisk, IsUntouched, Stands};
-ghost use Rattle.store_model.specs.Parameters.{Parameters};
+ghost use Rattle.gate_journal.specs.Phases.{HasEmptyJournal};
+ghost use Rattle.store_top.specs.Disks.{KeepsDisk, IsUnwritten, Stands};
+ghost use Rattle.store_model.specs.Parameters.{Parameters, image_len};
 ghost use Rattle.store_model.specs.Trees.{Tree};
-ghost use Rattle.store_top.specs.OneSlot.{tree_of, NamesToday, IsTopLayout};
+ghost use Rattle.store_model.specs.Images.{Represents};
+ghost use Rattle.store_top.specs.TodayWords.{IsServed};
+ghost use Rattle.store_top.specs.Directories.{tree_of, NamesServed, IsServedImage, MayLeaveServed, IsStore};
 ghost use Rattle.store_top.specs.Outcomes.{IsRunStatus, IsPastHeader, IsRefusedImage};
-ghost use Rattle.store_top.specs.Steps.{fault_status, attach_status};
+ghost use Rattle.store_top.specs.Steps.{fault_status, attach_status, IsRefused};
 ghost use Rattle.store_top.specs.TodayLines as today;
 ghost use Rattle.store_top.specs.TodayLines.{reading_today, answer_today};
-ghost use Rattle.store_top.specs.Promises.{PromisesImage};
+ghost use Rattle.store_top.specs.Promises.{PromisesImage, PromisesCrashes, IsBetweenLines};
 ghost use Rattle.store_top.specs.Runs.{IsLine, IsEndOfRun, KeepsSource, KeepsSink, RepliesKept, KeepsLimit, run_replies, run_trees};
 
-use crate::one_slot::{AttachFault, OneSlot};
+use crate::attach::AttachFault;
 use crate::outcome::Outcome;
-use crate::slot::is_top;
 use crate::status::Status;
+use crate::store::DirectoryStore;
 use disk_model::Disk;
 use script_lines::{
     Command, Line, LineFault, LineReader, MAX_SCRIPT, Reply, Sink, Source, parse_command,
@@ -44,14 +49,21 @@ pub struct Answered {
 fn is_served(command: &Command) -> bool
     ensures { result ≡ today.is_served (command_of command.now) }
 {
-    match command {
-        Command::Make(path) => is_top(path),
-        Command::List(path) => path.is_root(),
-        _ => false,
-    }
+    matches!(
+        command,
+        Command::Make(_) | Command::List(_) | Command::Space
+    )
 }
 
-/// What a text asks for; `Syntax` where it spells no command that is served.
+/// Whether a text begins as a command that is served and has a path.
+fn has_served_word(text: &[u8]) -> bool
+    ensures { result ≡ today.has_served_word text.now }
+{
+    text.starts_with(b"make ") || text.starts_with(b"list ")
+}
+
+/// What a text asks for; `Syntax` where it spells no command that is served, and `Path` where a path of such a
+/// command is too long.
 fn read_text(text: &[u8]) -> Result<Command, Refusal>
     requires { length text.now ≤ line_limit }
     ensures reading { reading_of result ≡ reading_today text.now }
@@ -65,11 +77,12 @@ fn read_text(text: &[u8]) -> Result<Command, Refusal>
                 Err(Refusal::Syntax)
             }
         }
+        Err(refusal) if has_served_word(text) => Err(refusal),
         Err(_) => Err(Refusal::Syntax),
     }
 }
 
-/// What a line asks for.
+/// What a line asks for; `Long` where it is longer than a line may be.
 fn read_line(line: Line, shown: &[u8]) -> Result<Command, Refusal>
     requires { length shown.now ≤ line_limit }
     ensures reading { (text : List ℕ) → IsLine line shown.now text → reading_of result ≡ reading_today text }
@@ -77,22 +90,34 @@ fn read_line(line: Line, shown: &[u8]) -> Result<Command, Refusal>
 {
     match line {
         Line::Text => read_text(shown),
-        _ => Err(Refusal::Syntax),
+        _ => Err(Refusal::Long),
     }
 }
 
 /// Carries out a line. A fault leaves the tree as it was.
-fn answer_line<D: Disk>(store: &mut OneSlot<D>, line: Line, shown: &[u8]) -> Result<Reply, Fault>
-    requires { length shown.now ≤ line_limit }
+fn answer_line<D: Disk>(
+    store: &mut DirectoryStore<D>,
+    line: Line,
+    shown: &[u8],
+) -> Result<Reply, Fault>
+    requires shown { length shown.now ≤ line_limit }
+    requires store { IsStore store.old.params store.old.paths.items store.old.layout }
+    requires stands { disks.IsObservable (D.state store.old.disk) → Stands (D.state store.old.disk) (tree_of store.old.paths.items) store.old.params }
     ensures keeps { KeepsDisk (D.state store.old.disk) (D.state store.new.disk) }
     ensures cause { IsErrOf result Fault.Disk → Rose (D.state store.old.disk).faults (D.state store.new.disk).faults }
     ensures params { store.new.params ≡ store.old.params }
+    ensures kept { IsStore store.new.params store.new.paths.items store.new.layout }
     ensures reply { (text : List ℕ) → IsLine line shown.now text → IfOk result (λ reply. reply_of reply ≡ (answer_today (tree_of store.old.paths.items) text store.old.params).reply) }
     ensures tree { (text : List ℕ) → IsLine line shown.now text → OnOk result (tree_of store.new.paths.items ≡ (answer_today (tree_of store.old.paths.items) text store.old.params).tree) }
     ensures fault { OnErr result (store.new.paths.items ≡ store.old.paths.items) }
     ensures no_memory { IsErrOf result Fault.NoMemory → store.new.disk ≡ store.old.disk }
-    ensures stands { disks.IsObservable (D.state store.old.disk) → Stands (D.state store.old.disk) (tree_of store.old.paths.items) store.old.params
-        → OnOk result (Stands (D.state store.new.disk) (tree_of store.new.paths.items) store.new.params) }
+    ensures refused { IfOk result (λ reply. IsRefused (reply_of reply) → store.new.disk ≡ store.old.disk) }
+    ensures new_stands { disks.IsObservable (D.state store.old.disk) → OnOk result (Stands (D.state store.new.disk) (tree_of store.new.paths.items) store.new.params) }
+    ensures crash { (text : List ℕ) → IsLine line shown.now text → disks.IsObservable (D.state store.old.disk) → LeavesOnly (D.state store.old.disk) (D.state store.new.disk)
+        (λ image. Represents image (tree_of store.old.paths.items) store.old.params ⊎ Represents image (answer_today (tree_of store.old.paths.items) text store.old.params).tree store.old.params) }
+    ensures after_fault { (text : List ℕ) → IsLine line shown.now text → disks.IsObservable (D.state store.old.disk) → IsErrOf result Fault.Disk
+        → Represents (D.state store.new.disk).bytes (tree_of store.old.paths.items) store.old.params
+        ⊎ Represents (D.state store.new.disk).bytes (answer_today (tree_of store.old.paths.items) text store.old.params).tree store.old.params }
 {
     match read_line(line, shown) {
         Ok(command) => store.apply(&command),
@@ -110,13 +135,15 @@ fn status_of(fault: Fault) -> Status
     }
 }
 
-/// Answers the lines that are to come. Each reply is written before more of the script is taken.
+/// Answers the lines that are to come.
 fn answer_lines<D: Disk, R: Source, W: Sink>(
     reader: &mut LineReader<R>,
-    store: &mut OneSlot<D>,
+    store: &mut DirectoryStore<D>,
     sink: &mut W,
 ) -> Answered
-    requires { reader.old ≡ record { source = reader.old.source; held = []; taken = 0; limit = MAX_SCRIPT; is_ended = false; is_live = true; text = [] } }
+    requires store { IsStore store.old.params store.old.paths.items store.old.layout }
+    requires stands { disks.IsObservable (D.state store.old.disk) → Stands (D.state store.old.disk) (tree_of store.old.paths.items) store.old.params }
+    requires reader { reader.old ≡ record { source = reader.old.source; held = []; taken = 0; limit = MAX_SCRIPT; is_ended = false; is_live = true; text = [] } }
     ensures end { IsEndOfRun result.status }
     ensures params { store.new.params ≡ store.old.params }
     ensures disk { KeepsDisk (D.state store.old.disk) (D.state store.new.disk) }
@@ -125,14 +152,23 @@ fn answer_lines<D: Disk, R: Source, W: Sink>(
     ensures disk_cause { result.status ≡ Status.DiskFault → Rose (D.state store.old.disk).faults (D.state store.new.disk).faults }
     ensures source_cause { result.status ≡ Status.SourceFault → Rose (R.state reader.old.source).faults (R.state reader.new.source).faults }
     ensures sink_cause { result.status ≡ Status.SinkFault → Rose (W.state sink.old).faults (W.state sink.new).faults }
-    ensures limit { sources.IsObservable (R.state reader.old.source) → KeepsLimit result.status (R.state reader.old.source) }
+    // Lines that are all refused call the disk not at all.
+    ensures quiet { sources.IsObservable (R.state reader.old.source) → (result.status ≡ Status.DiskFault → ⊥)
+        → AllByRecursion IsRefused (take result.done (run_replies (tree_of store.old.paths.items) (R.state reader.old.source).left store.old.params))
+        → store.new.disk ≡ store.old.disk }
+    ensures limit { sources.IsObservable (R.state reader.old.source) → KeepsLimit result.status (R.state reader.old.source) (R.state reader.new.source) }
     ensures replies { sources.IsObservable (R.state reader.old.source) → sinks.IsObservable (W.state sink.old)
         → RepliesKept result.status result.done (run_replies (tree_of store.old.paths.items) (R.state reader.old.source).left store.old.params)
         (R.state reader.old.source) (R.state reader.new.source) (W.state sink.old) (W.state sink.new) }
     ensures image { sources.IsObservable (R.state reader.old.source) → disks.IsObservable (D.state store.old.disk)
-        → Stands (D.state store.old.disk) (tree_of store.old.paths.items) store.old.params
         → (result.status ≡ Status.DiskFault → ⊥)
         → Stands (D.state store.new.disk) (run_trees (tree_of store.old.paths.items) (R.state reader.old.source).left store.old.params result.done) store.old.params }
+    ensures crashes { sources.IsObservable (R.state reader.old.source) → disks.IsObservable (D.state store.old.disk)
+        → PromisesCrashes result.status result.done (run_trees (tree_of store.old.paths.items) (R.state reader.old.source).left store.old.params) (D.state store.old.disk) (D.state store.new.disk) store.old.params }
+    ensures after_fault { sources.IsObservable (R.state reader.old.source) → disks.IsObservable (D.state store.old.disk)
+        → result.status ≡ Status.DiskFault
+        → Represents (D.state store.new.disk).bytes (run_trees (tree_of store.old.paths.items) (R.state reader.old.source).left store.old.params result.done) store.old.params
+        ⊎ Represents (D.state store.new.disk).bytes (run_trees (tree_of store.old.paths.items) (R.state reader.old.source).left store.old.params (result.done + 1)) store.old.params }
 {
     let mut done = 0;
     while done < u64::MAX {
@@ -203,17 +239,27 @@ pub fn run<D: Disk, R: Source, W: Sink>(
     ensures disk_cause { result.status ≡ Status.DiskFault → Rose (D.state disk).faults (D.state result.disk).faults }
     ensures source_cause { result.status ≡ Status.SourceFault → Rose (R.state source).faults (R.state result.source).faults }
     ensures sink_cause { result.status ≡ Status.SinkFault → Rose (W.state sink).faults (W.state result.sink).faults }
-    ensures not_image { disks.IsObservable (D.state disk) → result.status ≡ Status.NotImage → (p : Parameters) → NamesToday (D.state disk).bytes p → ⊥ }
-    ensures image { disks.IsObservable (D.state disk) → IsPastHeader result.status → (p : Parameters) × NamesToday (D.state disk).bytes p }
-    ensures damaged { disks.IsObservable (D.state disk) → result.status ≡ Status.Damaged → (t : Tree) (p : Parameters) → IsTopLayout (D.state disk).bytes t p → ⊥ }
+    ensures not_image { disks.IsObservable (D.state disk) → result.status ≡ Status.NotImage → (p : Parameters) → NamesServed (D.state disk).bytes p → ⊥ }
+    ensures image { disks.IsObservable (D.state disk) → IsPastHeader result.status → (p : Parameters) × NamesServed (D.state disk).bytes p }
+    ensures damaged { disks.IsObservable (D.state disk) → result.status ≡ Status.Damaged → (t : Tree) (p : Parameters) → IsServedImage (D.state disk).bytes t p → ⊥ }
     ensures refused { IsRefusedImage result.status → (result.done ≡ 0) × (result.source ≡ source) × (result.sink ≡ sink) }
-    ensures untouched { disks.IsObservable (D.state disk) → IsRefusedImage result.status → IsUntouched (D.state disk) (D.state result.disk) }
-    ensures limit { sources.IsObservable (R.state source) → KeepsLimit result.status (R.state source) }
+    ensures unwritten { disks.IsObservable (D.state disk) → IsRefusedImage result.status → IsUnwritten (D.state disk) (D.state result.disk) }
+    ensures sized { IsPastHeader result.status → (p : Parameters) × IsServed p × ((D.state disk).size ≡ image_len p.slots) }
+    ensures served { disks.IsObservable (D.state disk) → IsBetweenLines result.status → (t : Tree) × (p : Parameters) × IsServedImage (D.state disk).bytes t p }
+    ensures unserved { disks.IsObservable (D.state disk) → ((t : Tree) (p : Parameters) → IsServedImage (D.state disk).bytes t p → ⊥)
+        → (result.done ≡ 0) × (result.source ≡ source) × (result.sink ≡ sink) × IsUnwritten (D.state disk) (D.state result.disk) }
+    ensures quiet { disks.IsObservable (D.state disk) → sources.IsObservable (R.state source)
+        → (t : Tree) (p : Parameters) → IsServedImage (D.state disk).bytes t p → HasEmptyJournal p.slots (D.state disk).bytes → (result.status ≡ Status.DiskFault → ⊥)
+        → AllByRecursion IsRefused (take result.done (run_replies t (R.state source).left p)) → IsUnwritten (D.state disk) (D.state result.disk) }
+    ensures limit { sources.IsObservable (R.state source) → KeepsLimit result.status (R.state source) (R.state result.source) }
     ensures replies { disks.IsObservable (D.state disk) → sources.IsObservable (R.state source) → sinks.IsObservable (W.state sink)
-        → (t : Tree) (p : Parameters) → IsTopLayout (D.state disk).bytes t p
+        → (t : Tree) (p : Parameters) → IsServedImage (D.state disk).bytes t p
         → RepliesKept result.status result.done (run_replies t (R.state source).left p) (R.state source) (R.state result.source) (W.state sink) (W.state result.sink) }
+    ensures crashes { disks.IsObservable (D.state disk) → sources.IsObservable (R.state source)
+        → (t : Tree) (p : Parameters) → MayLeaveServed (D.state disk) t p
+        → PromisesCrashes result.status result.done (run_trees t (R.state source).left p) (D.state disk) (D.state result.disk) p }
     ensures kept_image { disks.IsObservable (D.state disk) → sources.IsObservable (R.state source)
-        → (t : Tree) (p : Parameters) → IsTopLayout (D.state disk).bytes t p → disks.IsDurable (D.state disk) → (result.status ≡ Status.DiskFault → ⊥)
+        → (t : Tree) (p : Parameters) → IsServedImage (D.state disk).bytes t p
         → PromisesImage result.status result.done (run_trees t (R.state source).left p) (D.state disk) (D.state result.disk) p }
 {
     let mut reader = match LineReader::new(alloc, source) {
@@ -228,7 +274,7 @@ pub fn run<D: Disk, R: Source, W: Sink>(
             };
         }
     };
-    let mut store = match OneSlot::attach(alloc, disk) {
+    let mut store = match DirectoryStore::attach(alloc, disk) {
         Ok(store) => store,
         Err((fault, disk)) => {
             return Outcome {

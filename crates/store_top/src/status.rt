@@ -19,9 +19,9 @@ pub enum Status {
     /// As many bytes were taken as a script may have, and one more came. The image is the layout of the tree
     /// after the answered lines.
     TooLong,
-    /// The header names no parameters, or the length is not theirs. Nothing was written.
+    /// The header names no parameters that are served, or the length is not theirs. Nothing was written.
     NotImage,
-    /// The image is the layout of no tree. Nothing was written.
+    /// What recovery would leave is the layout of no tree that is served. Nothing was written.
     Damaged,
     /// Memory ran out.
     NoMemory,

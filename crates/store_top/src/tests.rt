@@ -11,10 +11,10 @@ use std::test::Fail;
 const LEN: usize = 20_480;
 
 /// The room of a disk's record.
-const ROOM: usize = 262_144;
+const ROOM: usize = 4_194_304;
 
 /// The words that make the least image.
-const FORMAT: [&str; 5] = [
+pub const FORMAT: [&str; 5] = [
     "format",
     "1",
     "1",
@@ -26,7 +26,7 @@ const FORMAT: [&str; 5] = [
 type MemOutcome = Outcome<MemDisk, MemSource, MemSink>;
 
 /// The image of so many bytes that has these at their places and zeros elsewhere.
-fn image(alloc: Global, len: usize, bytes: &[(usize, u8)]) -> Result<Vec<u8>, Fail> {
+pub fn image(alloc: Global, len: usize, bytes: &[(usize, u8)]) -> Result<Vec<u8>, Fail> {
     let mut image = vec![in alloc; 0; len]?;
     for (at, byte) in bytes {
         if *at < image.len() {
@@ -37,7 +37,7 @@ fn image(alloc: Global, len: usize, bytes: &[(usize, u8)]) -> Result<Vec<u8>, Fa
 }
 
 /// The header: the text `HSTORE01`, one slot, one level, the draw `ruler`, version 1.
-const HEADER: [(usize, u8); 11] = [
+pub const HEADER: [(usize, u8); 11] = [
     (0, 0x48),
     (1, 0x53),
     (2, 0x54),
@@ -52,7 +52,7 @@ const HEADER: [(usize, u8); 11] = [
 ];
 
 /// The slot of `/a`: a page, one cell, the key, the value's length and the value.
-const SLOT_A: [(usize, u8); 5] = [
+pub const SLOT_A: [(usize, u8); 5] = [
     (16_384, 1),
     (16_515, 1),
     (16_516, 0x61),
@@ -61,12 +61,12 @@ const SLOT_A: [(usize, u8); 5] = [
 ];
 
 /// The image of the empty tree.
-fn empty_image(alloc: Global) -> Result<Vec<u8>, Fail> {
+pub fn empty_image(alloc: Global) -> Result<Vec<u8>, Fail> {
     image(alloc, LEN, &HEADER)
 }
 
 /// The image with the directory `/a`.
-fn image_with_a(alloc: Global) -> Result<Vec<u8>, Fail> {
+pub fn image_with_a(alloc: Global) -> Result<Vec<u8>, Fail> {
     let mut image = empty_image(alloc)?;
     for (at, byte) in SLOT_A {
         if at < image.len() {
@@ -93,7 +93,7 @@ fn call(
 }
 
 /// A call whose script comes in one piece, and whose sink never fails.
-fn call_with(
+pub fn call_with(
     alloc: Global,
     texts: &[&str],
     bytes: &[u8],
@@ -127,8 +127,10 @@ fn format_refuses_other_disks(rt: HostRuntime) -> Result<(), Fail> {
     let again = call_with(alloc, &FORMAT, &old, b"")?;
     assert_eq!(rt; again.status.code(), 10);
     assert_eq!(rt; again.disk.write_count(), 0);
-    let short = vec![in alloc; 0; 45_056]?;
-    assert_eq!(rt; call_with(alloc, &FORMAT, &short, b"")?.status.code(), 11);
+    let long = vec![in alloc; 0; 45_056]?;
+    assert_eq!(rt; call_with(alloc, &FORMAT, &long, b"")?.status.code(), 11);
+    let short = call_with(alloc, &["format", "4", "2", "ruler", FORMAT[4]], &old, b"")?;
+    assert_eq!(rt; short.status.code(), 11);
     Ok(())
 }
 
@@ -141,8 +143,9 @@ fn run_makes_and_lists(rt: HostRuntime) -> Result<(), Fail> {
     assert_eq!(rt; ran.done, 2);
     assert_eq!(rt; ran.sink.written(), b"ok\nd a\nend\n".as_slice());
     assert!(rt; ran.disk.bytes() == image_with_a(alloc)?.as_slice());
-    assert_eq!(rt; ran.disk.write_count(), 1);
-    assert_eq!(rt; ran.disk.sync_count(), 1);
+    // One slot changes: seven writes and five syncs, behind the two syncs of opening the image.
+    assert_eq!(rt; ran.disk.write_count(), 7);
+    assert_eq!(rt; ran.disk.sync_count(), 7);
     Ok(())
 }
 
@@ -171,7 +174,7 @@ fn the_eleventh_directory_is_too_many(rt: HostRuntime) -> Result<(), Fail> {
     assert_eq!(rt; ran.status.code(), 0);
     assert_eq!(rt; ran.done, 13);
     assert_eq!(rt; ran.sink.written(), replies.as_slice());
-    assert_eq!(rt; ran.disk.write_count(), 10);
+    assert_eq!(rt; ran.disk.write_count(), 70);
     // Other orders lead to the same image.
     let sorted =
         b"make /a\nmake /b\nmake /c\nmake /d\nmake /e\nmake /f\nmake /g\nmake /h\nmake /i\nmake /k\nmake /l\n";
@@ -186,7 +189,7 @@ fn the_eleventh_directory_is_too_many(rt: HostRuntime) -> Result<(), Fail> {
     )?;
     assert_eq!(rt;
         again.sink.written(),
-        b"no exists\nno full 2 1\nno syntax\nno syntax\n".as_slice()
+        b"no exists\nno full 2 1\nno root\nspace 1 1\n".as_slice()
     );
     Ok(())
 }
@@ -262,8 +265,22 @@ fn words_tell_the_file_that_they_need(rt: HostRuntime) -> Result<(), Fail> {
         format.push(text)?;
     }
     assert_eq!(rt; wanted_len(&format)?, Wanted::Fresh(20_480));
-    let usage = call_with(alloc, &["format", "0", "1", "ruler", FORMAT[4]], b"", b"")?;
-    assert_eq!(rt; usage.status.code(), 2);
-    assert_eq!(rt; usage.done, 0);
+    let mut largest = Words::new(alloc);
+    for text in ["format", "16384", "8", "ruler", FORMAT[4]] {
+        largest.push(text)?;
+    }
+    assert_eq!(rt; wanted_len(&largest)?, Wanted::Fresh(134_246_400));
+    for (slots, height, kind) in [
+        ("0", "1", "ruler"),
+        ("16385", "1", "ruler"),
+        ("4", "9", "ruler"),
+        ("4", "0", "ruler"),
+        ("04", "1", "ruler"),
+        ("4", "1", "sha256"),
+    ] {
+        let usage = call_with(alloc, &["format", slots, height, kind, FORMAT[4]], b"", b"")?;
+        assert_eq!(rt; usage.status.code(), 2);
+        assert_eq!(rt; usage.done, 0);
+    }
     Ok(())
 }

@@ -1,11 +1,13 @@
 //! The command line behind the image's path, and what it asks for.
 
-ghost use Rattle.std.specs.Prelude.{◌≡◌, ◌∷◌, [], length, IfOk, IfSome, OnOk, OnErr};
+ghost use Rattle.std.specs.Prelude.{◌≡◌, ◌∷◌, [], length, codes, IfOk, IfSome, OnOk, OnErr};
 ghost use Rattle.std.specs.Option.{option_map};
 ghost use Rattle.store_model.specs.Words.{seed_of_word};
-ghost use Rattle.store_top.specs.TodayWords.{request_today, request_seen, wanted_of, IsTodayRequest};
+ghost use Rattle.store_model.specs.Words.Request.{Format};
+ghost use Rattle.store_top.specs.TodayWords.{request_today, request_seen, wanted_of, IsServed, IsTodayRequest};
 
 use hex::FromHex;
+use script_lines::parse_number;
 use std::alloc::Global;
 use std::marker::Model;
 use store_base::{NoMemory, Params, image_len};
@@ -97,12 +99,23 @@ fn format_request(word: &str, slots: &str, height: &str, draw: &str, seed: &str)
     ensures value { option_map request_seen result ≡ request_today (word.now ∷ slots.now ∷ height.now ∷ draw.now ∷ seed.now ∷ []) }
     ensures valid { IfSome result IsTodayRequest }
 {
-    if word != "format" || slots != "1" || height != "1" || draw != "ruler" {
+    if word != "format" || draw != "ruler" {
         return None;
     }
+    Some(Request::Format(ruler_params(slots, height, seed)?))
+}
+
+/// The parameters that the numbers of slots and levels and the seed make with the draw `ruler`; `None`
+/// exactly where a word spells nothing in its range.
+fn ruler_params(slots: &str, height: &str, seed: &str) -> Option<Params>
+    ensures value { option_map Format result ≡ request_today (codes "format" ∷ slots.now ∷ height.now ∷ codes "ruler" ∷ seed.now ∷ []) }
+    ensures valid { IfSome result IsServed }
+{
+    let slots = parse_number(slots.as_bytes())?;
+    let height = parse_number(height.as_bytes())?;
+    let height = u8::try_from(height).ok()?;
     let seed = seed_of(seed)?;
-    let params = Params::new(1, 1, DrawKind::Ruler, seed).ok()?;
-    Some(Request::Format(params))
+    Params::new(slots, height, DrawKind::Ruler, seed).ok()
 }
 
 /// The 32 bytes that 64 hexadecimal digits of either case spell.

@@ -1,10 +1,13 @@
-use Rattle.std.proofs.Common.{◌≡◌, sym, ap, ◌∙◌, IfOk, OnOk}
+use Rattle.std.proofs.Common.{◌≡◌, sym, ap, subst, ◌∙◌, ◌⊎◌}
 use Rattle.std.proofs.lemmas.Result.{IfOk-weaker, on_ok_weaker}
+use Rattle.store_model.specs.Images.{Represents}
 use Rattle.store_model.specs.Steps.{Step, step}
 use Rattle.script_lines.specs.Parsing.{command_of}
 use Rattle.script_lines.specs.Replies.{reply_of}
-use Rattle.store_top.specs.OneSlot.{tree_of}
+use Rattle.store_top.specs.Directories.{tree_of}
 use Rattle.store_top.specs.TodayLines.{answer_today}
+use Rattle.disk_model.specs.DiskCalls.{LeavesOnly}
+use Rattle.store_top.proofs.CommitLemmas.{still_leaves}
 use Rattle.store_top.proofs.LineAnswers.{answer_ok, answer_err}
 use Rattle.store_top.proofs.run.answer_line.Goals as goal
 
@@ -30,3 +33,25 @@ returns-in-Err-clause-reply g c text is =
 pub returns-in-Err-clause-tree : goal.returns-in-Err-clause-tree
 returns-in-Err-clause-tree g c text is =
     sym (ap (λ (s : Step). s.tree) (answer_err (tree_of c.args.store.now.paths.items) text c.args.store.now.params c.in-Err.refusal (c.in-Err.ensures.reading text is)))
+
+pub returns-in-Ok-clause-after_fault : goal.returns-in-Ok-clause-after_fault
+returns-in-Ok-clause-after_fault g c text is observed failed =
+    let t = tree_of c.args.store.now.paths.items in
+    let p = c.args.store.now.params in
+    let same = answer_ok t text p (command_of c.in-Ok.command) (c.in-Ok.ensures.reading text is) in
+    let disk = (g.D.Disk.state c.apply.new.self.disk).bytes in
+    subst (λ (s : Step). Represents disk t p ⊎ Represents disk s.tree p) (sym same) (c.apply.ensures.after_fault observed failed)
+
+pub returns-in-Ok-clause-crash : goal.returns-in-Ok-clause-crash
+returns-in-Ok-clause-crash g c text is observed =
+    let t = tree_of c.args.store.now.paths.items in
+    let p = c.args.store.now.params in
+    let same = answer_ok t text p (command_of c.in-Ok.command) (c.in-Ok.ensures.reading text is) in
+    let old = g.D.Disk.state c.args.store.now.disk in
+    let new = g.D.Disk.state c.apply.new.self.disk in
+    subst (λ (s : Step). LeavesOnly old new (λ image. Represents image t p ⊎ Represents image s.tree p)) (sym same) (c.apply.ensures.crash observed)
+
+pub returns-in-Err-clause-crash : goal.returns-in-Err-clause-crash
+returns-in-Err-clause-crash g c text is observed =
+    let store = c.args.store.now in
+    still_leaves store.paths.items store.params store.layout (answer_today (tree_of store.paths.items) text store.params).tree (g.D.Disk.state store.disk) c.requires.store (g.met.D.Disk.sound store.disk observed) (c.requires.stands observed)

@@ -1,17 +1,20 @@
-use Rattle.std.proofs.Common.{◌≡◌, ℕ, List, [], refl, sym, ap, ap₂, ◌∙◌, subst, inl, inr, ⊎_elim, IsTrue}
+use Rattle.std.proofs.Common.{◌≡◌, take, refl, sym, ap, ◌∙◌, subst, inl, inr, ⊎_elim, IsTrue}
 use Rattle.store_model.specs.Parameters.{Parameters}
 use Rattle.store_model.specs.Trees.{Tree}
-use Rattle.store_model.specs.Images.{layout}
+use Rattle.disk_model.specs.DiskState.{DiskState}
 use Rattle.script_lines.specs.LineState.{LineState}
 use Rattle.script_lines.specs.SourceState.{SourceState}
-use Rattle.script_lines.specs.SinkState.{SinkState}
-use Rattle.store_top.specs.declared.status.Status.{Status}
 use Rattle.store_top.specs.declared.status.Status.TheVariants as statuses
-use Rattle.store_top.specs.declared.one_slot.AttachFault.TheVariants as faults
-use Rattle.store_top.specs.OneSlot.{tree_of}
-use Rattle.store_top.specs.Disks.{Stands}
-use Rattle.store_top.specs.Runs.{RepliesKept, run_replies, run_trees}
-use Rattle.store_top.proofs.TopTrees.{HasPaths, paths_of_tree, layout_named, layout_shown, none_answered, attach_fault, damaged_by}
+use Rattle.std.specs.List.{AllByRecursion}
+use Rattle.store_top.specs.Directories.{tree_of}
+use Rattle.store_top.specs.Disks.{IsUnwritten}
+use Rattle.store_top.specs.Steps.{IsRefused, attach_status}
+use Rattle.store_model.specs.Images.{Represents}
+use Rattle.disk_model.proofs.Crashes.{LeavesOnly-refl}
+use Rattle.store_top.specs.Promises.{PromisesImage, PromisesCrashes}
+use Rattle.store_top.proofs.CrashLemmas.{crashes_refused, crashes_behind, opened_represents, reads_served}
+use Rattle.store_top.specs.Runs.{RepliesKept, KeepsLimit, run_replies, run_trees}
+use Rattle.store_top.proofs.RunEnds.{no_line, not_between, names, one_tree, same_parameters, image_refused, image_left, image_answered, none_answered, none_taken, attach_fault, damaged_by}
 use Rattle.store_top.proofs.run.run.Goals as goal
 
 pub returns-in-Err-clause-replies : goal.returns-in-Err-clause-replies
@@ -19,28 +22,41 @@ returns-in-Err-clause-replies g c disk source sink t p shows =
     none_answered statuses.NoMemory (inl refl) (run_replies t (g.R.Source.state c.args.source).left p) (g.R.Source.state c.args.source) (g.R.Source.state c.in-Err.source) (g.W.Sink.state c.args.sink)
     (ap g.R.Source.state c.in-Err.ensures.err)
 
+pub returns-in-Err-clause-kept_image : goal.returns-in-Err-clause-kept_image
+returns-in-Err-clause-kept_image g c disk source t p shows =
+    image_left t (g.R.Source.state c.args.source).left (g.D.Disk.state c.args.disk) p
+
 pub returns-in-Err-attach-clause-damaged : goal.returns-in-Err-attach-clause-damaged
 returns-in-Err-attach-clause-damaged g c disk status t p shows =
-    let has = paths_of_tree t p shows.today shows.tree shows.fits in
-    let only = c.in-Err-attach.ensures.only disk has.paths p (layout_named _ t p shows) (layout_shown _ t p shows has) in
-    only.0 (damaged_by c.in-Err-attach.fault (sym c.refusal_of.ensures ∙ status))
+    c.in-Err-attach.ensures.only disk t p shows (damaged_by c.in-Err-attach.fault (sym c.refusal_of.ensures ∙ status))
 
 pub returns-in-Err-attach-clause-replies : goal.returns-in-Err-attach-clause-replies
 returns-in-Err-attach-clause-replies g c disk source sink t p shows =
-    let has = paths_of_tree t p shows.today shows.tree shows.fits in
-    let named = layout_named _ t p shows in
-    let only = c.in-Err-attach.ensures.only disk has.paths p named (layout_shown _ t p shows has) in
-    let cause = attach_fault c.in-Err-attach.fault (c.in-Err-attach.ensures.only_named disk p named) only.0 in
+    let cause = attach_fault c.in-Err-attach.fault (c.in-Err-attach.ensures.only_named disk p (names _ t p shows)) (c.in-Err-attach.ensures.only disk t p shows) in
     none_answered c.refusal_of.result (⊎_elim (λ m. inl (c.refusal_of.ensures ∙ m)) (λ d. inr (c.refusal_of.ensures ∙ d)) cause)
     (run_replies t (g.R.Source.state c.args.source).left p) (g.R.Source.state c.args.source) (g.R.Source.state c.into_source.result) (g.W.Sink.state c.args.sink)
     (ap g.R.Source.state (c.into_source.ensures ∙ ap (λ (r : LineState g.row.R.Denot). r.source) c.in-Ok.ensures.ok))
 
+pub returns-in-Err-attach-clause-limit : goal.returns-in-Err-attach-clause-limit
+returns-in-Err-attach-clause-limit g c source =
+    let old = g.R.Source.state c.args.source in
+    let new = g.R.Source.state c.into_source.result in
+    subst (λ s. KeepsLimit s old new) (sym c.refusal_of.ensures)
+    (none_taken c.in-Err-attach.fault old new (ap g.R.Source.state (c.into_source.ensures ∙ ap (λ (r : LineState g.row.R.Denot). r.source) c.in-Ok.ensures.ok)))
+
+pub returns-in-Err-attach-clause-kept_image : goal.returns-in-Err-attach-clause-kept_image
+returns-in-Err-attach-clause-kept_image g c disk source t p shows =
+    let script = (g.R.Source.state c.args.source).left in
+    let old = g.D.Disk.state c.args.disk in
+    let new = g.D.Disk.state c.in-Err-attach.disk in
+    subst (λ s. PromisesImage s 0 (run_trees t script p) old new p) (sym c.refusal_of.ensures)
+    (image_refused c.in-Err-attach.fault t script old new p (c.in-Err-attach.ensures.unwritten disk) (c.in-Err-attach.ensures.after_fault disk t p shows))
+
 pub returns-clause-replies : goal.returns-clause-replies
 returns-clause-replies g c disk source sink t p shows =
-    let has = paths_of_tree t p shows.today shows.tree shows.fits in
-    let only = c.in-Ok-attach.ensures.only disk has.paths p (layout_named _ t p shows) (layout_shown _ t p shows has) in
-    let tree_is : tree_of c.in-Ok-attach.store.paths.items ≡ t = ap tree_of only.1.1 ∙ has.is in
-    let params_are : c.in-Ok-attach.store.params ≡ p = only.1.0 in
+    let found = c.in-Ok-attach.ensures.found disk in
+    let tree_is : tree_of c.in-Ok-attach.store.paths.items ≡ t = one_tree _ _ t _ p found shows in
+    let params_are : c.in-Ok-attach.store.params ≡ p = same_parameters _ _ t _ p found shows in
     let source_is : c.in-Ok.reader.source ≡ c.args.source = ap (λ (r : LineState g.row.R.Denot). r.source) c.in-Ok.ensures.ok in
     let state_is = ap g.R.Source.state source_is in
     let observable = subst (λ (s : SourceState). IsTrue s.is_observable) (sym state_is) source in
@@ -55,29 +71,87 @@ returns-clause-replies g c disk source sink t p shows =
     subst (λ (s : SourceState). RepliesKept result.status result.done (run_replies t (g.R.Source.state c.args.source).left p) (g.R.Source.state c.args.source) s sink_old sink_new) (sym (ap g.R.Source.state c.into_source-2.ensures)) d
 
 pub returns-clause-kept_image : goal.returns-clause-kept_image
-returns-clause-kept_image g c disk source t p shows durable whole =
-    let has = paths_of_tree t p shows.today shows.tree shows.fits in
-    let only = c.in-Ok-attach.ensures.only disk has.paths p (layout_named _ t p shows) (layout_shown _ t p shows has) in
-    let tree_is : tree_of c.in-Ok-attach.store.paths.items ≡ t = ap tree_of only.1.1 ∙ has.is in
-    let params_are : c.in-Ok-attach.store.params ≡ p = only.1.0 in
+returns-clause-kept_image g c disk source t p shows =
+    let found = c.in-Ok-attach.ensures.found disk in
+    let u = tree_of c.in-Ok-attach.store.paths.items in
+    let q = c.in-Ok-attach.store.params in
+    let tree_is : u ≡ t = one_tree _ u t _ p found shows in
+    let params_are : q ≡ p = same_parameters _ u t q p found shows in
     let source_is : c.in-Ok.reader.source ≡ c.args.source = ap (λ (r : LineState g.row.R.Denot). r.source) c.in-Ok.ensures.ok in
     let state_is = ap g.R.Source.state source_is in
     let observable = subst (λ (s : SourceState). IsTrue s.is_observable) (sym state_is) source in
-    let untouched = c.in-Ok-attach.ensures.untouched disk in
-    let stands : Stands (g.D.Disk.state c.in-Ok-attach.store.disk) (tree_of c.in-Ok-attach.store.paths.items) c.in-Ok-attach.store.params = record {
-      layout_is = untouched.bytes ∙ shows.layout_is ∙ ap₂ layout (sym tree_is) (sym params_are);
-      durable = λ image left. durable image ((untouched.crash image).0 left) ∙ sym untouched.bytes;
-    } in
     let disk_observable = c.in-Ok-attach.ensures.keeps.observable ∙ disk in
-    let kept = c.answer_lines-status.ensures.image observable disk_observable stands whole in
+    let status = c.answer_lines-status.result.status in
+    let done = c.answer_lines-status.result.done in
+    let old = g.D.Disk.state c.args.disk in
+    let new = g.D.Disk.state c.answer_lines-status.new.store.disk in
+    let script = (g.R.Source.state c.in-Ok.reader.source).left in
+    let kept = image_answered status done (run_trees u script q) old new q (c.answer_lines-status.ensures.image observable disk_observable) (c.answer_lines-status.ensures.after_fault observable disk_observable) in
+    let a = subst (λ (s : SourceState). PromisesImage status done (run_trees u s.left q) old new q) state_is kept in
+    let b = subst (λ (v : Tree). PromisesImage status done (run_trees v (g.R.Source.state c.args.source).left q) old new q) tree_is a in
+    let d = subst (λ (r : Parameters). PromisesImage status done (run_trees t (g.R.Source.state c.args.source).left r) old new r) params_are b in
+    subst (λ (x : DiskState). PromisesImage status done (run_trees t (g.R.Source.state c.args.source).left p) old x p) (sym (ap g.D.Disk.state c.into_disk.ensures)) d
+
+pub returns-in-Err-attach-clause-quiet : goal.returns-in-Err-attach-clause-quiet
+returns-in-Err-attach-clause-quiet g c disk source t p shows empty whole all =
+    c.in-Err-attach.ensures.unwritten disk (λ e. whole (c.refusal_of.ensures ∙ ap attach_status e))
+
+pub returns-clause-quiet : goal.returns-clause-quiet
+returns-clause-quiet g c disk source t p shows empty whole all =
+    let found = c.in-Ok-attach.ensures.found disk in
+    let u = tree_of c.in-Ok-attach.store.paths.items in
+    let q = c.in-Ok-attach.store.params in
+    let tree_is : u ≡ t = one_tree _ u t _ p found shows in
+    let params_are : q ≡ p = same_parameters _ u t q p found shows in
+    let source_is : c.in-Ok.reader.source ≡ c.args.source = ap (λ (r : LineState g.row.R.Denot). r.source) c.in-Ok.ensures.ok in
+    let state_is = ap g.R.Source.state source_is in
+    let observable = subst (λ (s : SourceState). IsTrue s.is_observable) (sym state_is) source in
+    let done = c.answer_lines-status.result.done in
+    let a = subst (λ (r : Parameters). AllByRecursion IsRefused (take done (run_replies t (g.R.Source.state c.args.source).left r))) (sym params_are) all in
+    let b = subst (λ (v : Tree). AllByRecursion IsRefused (take done (run_replies v (g.R.Source.state c.args.source).left q))) (sym tree_is) a in
+    let d = subst (λ (s : SourceState). AllByRecursion IsRefused (take done (run_replies u s.left q))) (sym state_is) b in
+    let same = c.into_disk.ensures ∙ c.answer_lines-status.ensures.quiet observable whole d in
+    subst (λ (x : g.row.D.Denot). IsUnwritten (g.D.Disk.state c.args.disk) (g.D.Disk.state x)) (sym same) (c.in-Ok-attach.ensures.quiet disk t p shows empty)
+
+pub returns-in-Err-clause-crashes : goal.returns-in-Err-clause-crashes
+returns-in-Err-clause-crashes g c disk source t p may =
+    let old = g.D.Disk.state c.args.disk in
+    let sound = g.met.D.Disk.sound c.args.disk disk in
+    let script = (g.R.Source.state c.args.source).left in
+    crashes_refused statuses.NoMemory (run_trees t script p) old old p t (λ b. b) sound (LeavesOnly-refl old (λ image. Represents image t p) sound may.represents) (no_line t script p)
+
+pub returns-in-Err-attach-clause-crashes : goal.returns-in-Err-attach-clause-crashes
+returns-in-Err-attach-clause-crashes g c disk source t p may =
+    let old = g.D.Disk.state c.args.disk in
+    let new = g.D.Disk.state c.in-Err-attach.disk in
+    let script = (g.R.Source.state c.args.source).left in
+    let served = reads_served old t p (g.met.D.Disk.sound c.args.disk disk) may in
+    let sound = g.met.D.Disk.sound c.in-Err-attach.disk (c.in-Err-attach.ensures.kept.observable ∙ disk) in
+    subst (λ s. PromisesCrashes s 0 (run_trees t script p) old new p) (sym c.refusal_of.ensures)
+    (crashes_refused (attach_status c.in-Err-attach.fault) (run_trees t script p) old new p t (not_between c.in-Err-attach.fault) sound
+    (opened_represents old new t p may.represents (c.in-Err-attach.ensures.crash_refused disk t p served)) (no_line t script p))
+
+pub returns-clause-crashes : goal.returns-clause-crashes
+returns-clause-crashes g c disk source t p may =
+    let old = g.D.Disk.state c.args.disk in
+    let mid = g.D.Disk.state c.in-Ok-attach.store.disk in
+    let served = reads_served old t p (g.met.D.Disk.sound c.args.disk disk) may in
+    let found = c.in-Ok-attach.ensures.found disk in
+    let u = tree_of c.in-Ok-attach.store.paths.items in
+    let q = c.in-Ok-attach.store.params in
+    let tree_is : u ≡ t = one_tree _ u t _ p found served in
+    let params_are : q ≡ p = same_parameters _ u t q p found served in
+    let source_is : c.in-Ok.reader.source ≡ c.args.source = ap (λ (r : LineState g.row.R.Denot). r.source) c.in-Ok.ensures.ok in
+    let state_is = ap g.R.Source.state source_is in
+    let observable = subst (λ (s : SourceState). IsTrue s.is_observable) (sym state_is) source in
+    let disk_observable = c.in-Ok-attach.ensures.keeps.observable ∙ disk in
+    let status = c.answer_lines-status.result.status in
     let done = c.answer_lines-status.result.done in
     let new = g.D.Disk.state c.answer_lines-status.new.store.disk in
-    let a = subst (λ (s : SourceState). Stands new (run_trees (tree_of c.in-Ok-attach.store.paths.items) s.left c.in-Ok-attach.store.params done) c.in-Ok-attach.store.params) state_is kept in
-    let b = subst (λ (u : Tree). Stands new (run_trees u (g.R.Source.state c.args.source).left c.in-Ok-attach.store.params done) c.in-Ok-attach.store.params) tree_is a in
-    let d = subst (λ (q : Parameters). Stands new (run_trees t (g.R.Source.state c.args.source).left q done) q) params_are b in
-    let here = subst (λ (x : g.row.D.Denot). Stands (g.D.Disk.state x) (run_trees t (g.R.Source.state c.args.source).left p done) p) (sym c.into_disk.ensures) d in
-    record {
-      between = λ between. here;
-      no_memory = λ e. inl here;
-      fault = λ e. absurd (whole e);
-    }
+    let script = (g.R.Source.state c.args.source).left in
+    let kept = c.answer_lines-status.ensures.crashes observable disk_observable in
+    let a = subst (λ (s : SourceState). PromisesCrashes status done (run_trees u s.left q) mid new q) state_is kept in
+    let b = subst (λ (v : Tree). PromisesCrashes status done (run_trees v script q) mid new q) tree_is a in
+    let d = subst (λ (r : Parameters). PromisesCrashes status done (run_trees t script r) mid new r) params_are b in
+    let behind = crashes_behind status done (run_trees t script p) old mid new p t (opened_represents old mid t p may.represents (c.in-Ok-attach.ensures.crash disk t p served)) (no_line t script p) d in
+    subst (λ (x : DiskState). PromisesCrashes status done (run_trees t script p) old x p) (sym (ap g.D.Disk.state c.into_disk.ensures)) behind

@@ -1,4 +1,4 @@
-use Rattle.std.proofs.Common.{sym, ◌∙◌, ap, refl}
+use Rattle.std.proofs.Common.{refl}
 use Rattle.store_top.proofs.WordsLemmas.{single_word}
 use Rattle.store_top.proofs.words.run_request.Goals as goal
 
