@@ -1,0 +1,119 @@
+//! How long the layout of many pairs takes.
+
+ghost use Rattle.std.specs.Prelude.{◌≡◌, ◌<◌, map, length, IsTrue, IfOk};
+ghost use Rattle.std.specs.List.Sorted.{IsStrictlySortedBy};
+ghost use Rattle.store_model.specs.Paths.{key_cmp};
+
+use crate::ratio;
+use layout_scratch::build;
+use node_pages::PairList;
+use std::alloc::Global;
+use std::cmp::Ordering;
+use std::io;
+use std::time::Instant;
+use store_base::{DrawKind, Key, NoMemory, Params, Value};
+
+/// The most cells on a page of level 0.
+const PAGE_ROOM: u32 = 10;
+
+/// The most pairs that a layout may have.
+const MOST_PAIRS: u32 = 268_435_456;
+
+/// A key with sixteen letters that follow from the state, and the next state.
+fn next_key(state: u64) -> (Key, u64) {
+    let state = state
+        .wrapping_mul(6_364_136_223_846_793_005)
+        .wrapping_add(1_442_695_040_888_963_407);
+    let mut bytes = [0; 124];
+    for (i, byte) in bytes[..16].iter_mut().enumerate() {
+        *byte = b'a' + (state.rotate_left(4 * i as u32) % 16) as u8;
+    }
+    (Key::new(bytes), state)
+}
+
+/// So many pairs, in no order.
+fn make_pairs(alloc: Global, count: u32) -> Result<PairList, NoMemory> {
+    let mut pairs = PairList::new(alloc);
+    let mut state = 7;
+    for _ in 0..count {
+        let (key, next) = next_key(state);
+        pairs.push((key, Value::new(&[1])))?;
+        state = next;
+    }
+    Ok(pairs)
+}
+
+/// The keys of the pairs, as they come.
+fn keys_of(alloc: Global, pairs: &PairList) -> Result<Vec<Key>, NoMemory>
+    ensures { IfOk result (λ keys. keys.items ≡ map (λ pair. pair.0) pairs.now) }
+{
+    let mut keys = Vec::new(alloc);
+    for pair in pairs.as_slice() {
+        keys.push(pair.0)?;
+    }
+    Ok(keys)
+}
+
+/// Whether each key is above the one before it.
+fn rise(keys: &[Key]) -> bool
+    ensures { IsTrue result → IsStrictlySortedBy key_cmp keys.now }
+{
+    for i in 1..keys.len() {
+        if keys[i - 1].cmp(&keys[i]) != Ordering::Less {
+            return false;
+        }
+    }
+    true
+}
+
+/// Lays the pairs out under a draw, in a table of just so many slots as they have pages, and prints the time.
+fn measure_draw(rt: &HostRuntime, pages: u32, kind: DrawKind, pairs: &PairList) -> io::Result<()> {
+    let alloc = rt.alloc();
+    let Ok(params) = Params::new(pages, 1, kind, [0; 32]) else {
+        return Err(io::ErrorKind::InvalidInput.into());
+    };
+    let Ok(mut keys) = keys_of(alloc, pairs) else {
+        return Err(no_memory(NoMemory));
+    };
+    let start = Instant::now(rt)?;
+    keys.sort().map_err(|_| no_memory(NoMemory))?;
+    let sorting = start.elapsed(rt)?;
+    if !rise(&keys) || pairs.len() > MOST_PAIRS {
+        return Err(io::ErrorKind::InvalidData.into());
+    }
+    let start = Instant::now(rt)?;
+    let layout = build(alloc, &params, pairs).map_err(|_| no_memory(NoMemory))?;
+    let building = start.elapsed(rt)?;
+    println!(rt;
+        "{} pages are laid out under {}",
+        layout.used(),
+        name_of(kind)
+    )?;
+    eprintln!(rt;
+        "build {} us, sort of the same keys {} us, in hundredths of that {}",
+        building.as_micros(),
+        sorting.as_micros(),
+        ratio(building, sorting)
+    )
+}
+
+/// The word for a draw.
+fn name_of(kind: DrawKind) -> &'static str {
+    match kind {
+        DrawKind::Ruler => "ruler",
+        DrawKind::Sha256 => "sha256",
+    }
+}
+
+/// Want of memory as an error of the program.
+fn no_memory(_: NoMemory) -> io::Error {
+    io::ErrorKind::OutOfMemory.into()
+}
+
+/// Lays out the pairs of so many full pages, at most 16,384 of them, under both draws.
+pub fn measure(rt: &HostRuntime, pages: u32) -> io::Result<()> {
+    let pages = pages.clamp(1, 16_384);
+    let pairs = make_pairs(rt.alloc(), pages * PAGE_ROOM).map_err(no_memory)?;
+    measure_draw(rt, pages, DrawKind::Ruler, &pairs)?;
+    measure_draw(rt, pages, DrawKind::Sha256, &pairs)
+}

@@ -1,0 +1,100 @@
+//! How long a run takes that makes many directories.
+
+use crate::ratio;
+use disk_model::{Disk, MemDisk};
+use script_lines::{MemSink, MemSource};
+use std::alloc::Global;
+use std::io;
+use std::time::{Duration, Instant};
+use store_base::NoMemory;
+use store_top::{Words, top};
+
+/// The length of an image with 1,024 slots.
+const LEN: usize = 8_400_896;
+
+/// The room of a disk's record.
+const ROOM: usize = 67_108_864;
+
+/// The words that make the image.
+const FORMAT: [&str; 5] = [
+    "format",
+    "1024",
+    "3",
+    "ruler",
+    "0000000000000000000000000000000000000000000000000000000000000000",
+];
+
+/// Want of memory as an error of the program.
+fn no_memory(_: NoMemory) -> io::Error {
+    io::ErrorKind::OutOfMemory.into()
+}
+
+/// These words.
+fn words_of(alloc: Global, texts: &[&str]) -> Result<Words, NoMemory> {
+    let mut words = Words::new(alloc);
+    for text in texts {
+        words.push(text)?;
+    }
+    Ok(words)
+}
+
+/// A script that makes so many directories below the root, one in seven of which leads groups.
+fn make_script(alloc: Global, lines: u32) -> io::Result<Vec<u8>> {
+    let mut script = Vec::new(alloc);
+    for i in 0..lines {
+        let name = format!(in alloc;
+            "make /{}{}\n",
+            if i % 7 == 0 { "U" } else { "d" },
+            u64::from(i) * 7919 % 1009
+        )?;
+        script.extend_from_slice(name.as_bytes())?;
+    }
+    Ok(script)
+}
+
+/// How long so many writes of a block and so many syncs take, made bare on a disk of the same make.
+fn bare(rt: &HostRuntime, writes: u64, syncs: u64) -> io::Result<Duration> {
+    let zeros = vec![in rt.alloc(); 0; LEN]?;
+    let mut disk = MemDisk::new(rt.alloc(), &zeros, ROOM).map_err(no_memory)?;
+    let start = Instant::now(rt)?;
+    for at in 0..writes {
+        let place = at % 2048 * 4096;
+        if place + 4096 <= disk.len() {
+            let _ = disk.write_at(place, &[1; 4096]);
+        }
+    }
+    for _ in 0..syncs {
+        let _ = disk.sync();
+    }
+    start.elapsed(rt)
+}
+
+/// Runs a script of so many lines, at most 1,000, over a disk in memory with an image of 1,024 slots and height 3.
+pub fn measure(rt: &HostRuntime, lines: u32) -> io::Result<()> {
+    let alloc = rt.alloc();
+    let zeros = vec![in alloc; 0; LEN]?;
+    let disk = MemDisk::new(alloc, &zeros, ROOM).map_err(no_memory)?;
+    let sink = MemSink::new(alloc, 65_536, Vec::new(alloc)).map_err(no_memory)?;
+    let none = MemSource::new(Vec::new(alloc), Vec::new(alloc), Vec::new(alloc));
+    let words = words_of(alloc, &FORMAT).map_err(no_memory)?;
+    let made = top(alloc, &words, disk, none, sink);
+    let disk = MemDisk::new(alloc, made.disk.bytes(), ROOM).map_err(no_memory)?;
+    let script = make_script(alloc, lines.min(1000))?;
+    let source = MemSource::new(script, Vec::new(alloc), Vec::new(alloc));
+    let words = words_of(alloc, &["run"]).map_err(no_memory)?;
+    let start = Instant::now(rt)?;
+    let ran = top(alloc, &words, disk, source, made.sink);
+    let running = start.elapsed(rt)?;
+    let (writes, syncs) = (ran.disk.write_count(), ran.disk.sync_count());
+    println!(rt;
+        "{} lines are answered, with {writes} writes and {syncs} syncs",
+        ran.done
+    )?;
+    let floor = bare(rt, writes, syncs)?;
+    eprintln!(rt;
+        "run {} us, its writes and syncs made bare {} us, in hundredths of that {}",
+        running.as_micros(),
+        floor.as_micros(),
+        ratio(running, floor)
+    )
+}
