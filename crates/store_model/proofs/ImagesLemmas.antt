@@ -14,6 +14,7 @@ use Rattle.store_model.specs.Labels.Lead.{Start, Leader}
 use Rattle.store_model.specs.Pages.{Cell, IsCell, IsCellValue, Page, IsPage, Fits, pages}
 use Rattle.store_model.specs.Placement.{Table, place, pages_in}
 use Rattle.store_model.specs.Images.{header, value_bytes, cell_bytes, page_bytes, slot_bytes, table_bytes, journal_len, layout, bytes_at, is_flag_set, is_marked, recovered_slot, recovered, Represents}
+use Rattle.store_model.proofs.ListsLemmas.{all_weaker}
 use Rattle.store_model.proofs.PagesLemmasSizes.{tree_pages_are_pages}
 use Rattle.store_model.proofs.PlacementLemmas.{length-numbers_from, length-place, IsPermutation-place}
 use Rattle.store_model.proofs.PlacementLemmasDraws.{IsLawful-draw_of}
@@ -48,11 +49,6 @@ pub length-flat_map_same : {X : Type 0} (f : X → List ℕ) (n : ℕ) (xs : Lis
 length-flat_map_same f n [] all = omega arith
 length-flat_map_same f n (x ∷ xs) all = omega (arith, length-append (f x) (flat_map f xs), length-flat_map_same f n xs all.1, all.0)
 
--- what holds of each element, where it follows at each
-pub AllByRecursion-weaker : {X : Type 0} (P Q : X → Type 0) → ((x : X) → P x → Q x) → (xs : List X) → AllByRecursion P xs → AllByRecursion Q xs
-AllByRecursion-weaker P Q f [] all = tt
-AllByRecursion-weaker P Q f (x ∷ xs) all = (f x all.0, AllByRecursion-weaker P Q f xs all.1)
-
 -- the bytes that a cell of a level needs at most
 abbrev cell_room : ℕ → ℕ
 cell_room level = if level == 0 then 382 else 124
@@ -84,7 +80,7 @@ length-page_bytes page is = length-zero_filled 4096 _ (omega (
   arith,
   length-append (label_bytes page.label) (length page.cells ∷ flat_map cell_bytes page.cells),
   length-label_bytes page.label is.label,
-  length-flat_map-le cell_bytes (cell_room page.label.level) page.cells (AllByRecursion-weaker _ _ (length-cell_bytes page.label.level) page.cells is.cells),
+  length-flat_map-le cell_bytes (cell_room page.label.level) page.cells (all_weaker _ _ (length-cell_bytes page.label.level) page.cells is.cells),
   cells_fit (page.label.level == 0) (length page.cells) is.room,
 ))
 
@@ -100,7 +96,7 @@ length-slot_bytes None is = length-replicate {A = ℕ} 4096 0
 length-slot_bytes (Some page) is = length-page_bytes page is
 
 -- where each page of a table is a page, each slot is a slot
-AllByRecursion-slots : (table : Table) → AllByRecursion IsPage (pages_in table) → AllByRecursion IsSlot table
+pub AllByRecursion-slots : (table : Table) → AllByRecursion IsPage (pages_in table) → AllByRecursion IsSlot table
 unfolding pages_in
 AllByRecursion-slots [] all = tt
 AllByRecursion-slots (None ∷ table) all = (tt, AllByRecursion-slots table all)
@@ -113,14 +109,14 @@ slots-place d ps law room all = AllByRecursion-slots (place d ps) (recursion_fro
 -- a table of slots is as many blocks
 pub length-table_bytes : (table : Table) → AllByRecursion IsSlot table → length (table_bytes table) ≡ 4096 * length table
 unfolding table_bytes
-length-table_bytes table all = length-flat_map_same slot_bytes 4096 table (AllByRecursion-weaker IsSlot _ length-slot_bytes table all)
+length-table_bytes table all = length-flat_map_same slot_bytes 4096 table (all_weaker IsSlot _ length-slot_bytes table all)
 
 -- the table of a tree is as many blocks as it has slots
 pub length-place_bytes : (d : Draw) (ps : List Page) → IsLawful d → length ps ≤ d.slots → AllByRecursion IsPage ps → length (table_bytes (place d ps)) ≡ 4096 * d.slots
 length-place_bytes d ps law room all = length-table_bytes (place d ps) (slots-place d ps law room all) ∙ ap (λ n. 4096 * n) (length-place d ps)
 
 -- a header, zeros and a table make an image's length
-length-areas : (slots : ℕ) (head table : List ℕ) → length head ≡ 4096 → length table ≡ 4096 * slots → length (head ++ zeros (journal_len slots) ++ table) ≡ image_len slots
+pub length-areas : (slots : ℕ) (head table : List ℕ) → length head ≡ 4096 → length table ≡ 4096 * slots → length (head ++ zeros (journal_len slots) ++ table) ≡ image_len slots
 unfolding journal_len image_len
 length-areas slots head table h t = omega (arith, length-append (head ++ zeros (journal_len slots)) table, length-append head (zeros (journal_len slots)), length-replicate {A = ℕ} (journal_len slots) 0)
 
@@ -130,7 +126,7 @@ unfolding layout draw_of
 length-layout t p is tree fits = length-areas p.slots (header p) (table_bytes (place (draw_of p) (pages t p))) (length-header p is) (length-place_bytes (draw_of p) (pages t p) (IsLawful-draw_of p is) fits (tree_pages_are_pages t p is tree fits))
 
 -- runs of n elements, one after another from a run on, make the list from there on
-runs_join : (n first count : ℕ) (xs : List ℕ) → length xs ≡ n * (first + count) → flat_map (λ i. take n (drop (n * i) xs)) (numbers_from first count) ≡ drop (n * first) xs
+pub runs_join : (n first count : ℕ) (xs : List ℕ) → length xs ≡ n * (first + count) → flat_map (λ i. take n (drop (n * i) xs)) (numbers_from first count) ≡ drop (n * first) xs
 unfolding numbers_from
 runs_join n first zero xs h = sym (drop_all (n * first) xs (omega arith))
 runs_join n first (suc count) xs h =
@@ -144,11 +140,11 @@ zero_behind n zero head rest h some = absurd (omega arith)
 zero_behind n (suc m) head rest h some = ap (λ (xs : List ℕ). get_or xs n 0) (append_assoc head (0 ∷ zeros m) rest) ∙ get_or_at head 0 (zeros m ++ rest) 0 n h
 
 -- what stands in front of zeros and a table
-take_head : (n m : ℕ) (head rest : List ℕ) → length head ≡ n → take n (head ++ zeros m ++ rest) ≡ head
+pub take_head : (n m : ℕ) (head rest : List ℕ) → length head ≡ n → take n (head ++ zeros m ++ rest) ≡ head
 take_head n m head rest h = ap (take n) (append_assoc head (zeros m) rest) ∙ take_at head (zeros m ++ rest) n h
 
 -- what stands m behind the front of a list
-drop_past : (front rest : List ℕ) (n m at : ℕ) → length front ≡ n → at ≡ n + m → drop at (front ++ rest) ≡ drop m rest
+pub drop_past : (front rest : List ℕ) (n m at : ℕ) → length front ≡ n → at ≡ n + m → drop at (front ++ rest) ≡ drop m rest
 drop_past front rest n m at h e = ap (λ (k : ℕ). drop k (front ++ rest)) e ∙ sym (drop-drop m n (front ++ rest)) ∙ ap (drop m) (drop_at front rest n h)
 
 -- there are bytes between header and table
@@ -171,11 +167,15 @@ pub recovered_slot-at_rest : (slots : ℕ) (image : List ℕ) (i : ℕ) → is_f
 unfolding recovered_slot
 recovered_slot-at_rest slots image i rest = ap (λ (b : Bool). bytes_at image (if b && is_marked image i then shadow_at slots i else table_at slots i) 4096) rest
 
--- slot i of an image with zeros between its header and its table
-slot_of_table : (slots : ℕ) (head table : List ℕ) (i : ℕ) → length head ≡ 4096 → recovered_slot slots (head ++ zeros (journal_len slots) ++ table) i ≡ take 4096 (drop (4096 * i) table)
+-- slot i of an image is block i of its table
+pub block_of_table : (slots : ℕ) (head table : List ℕ) (i : ℕ) → length head ≡ 4096 → bytes_at (head ++ zeros (journal_len slots) ++ table) (table_at slots i) 4096 ≡ take 4096 (drop (4096 * i) table)
+block_of_table slots head table i h =
+    ap (take 4096) (drop_past (head ++ zeros (journal_len slots)) table (4096 + journal_len slots) (4096 * i) (table_at slots i) (omega (arith, length-append head (zeros (journal_len slots)), length-replicate {A = ℕ} (journal_len slots) 0)) (table_at_is slots i))
+
+-- and so is what recovery leaves of it, with zeros between header and table
+pub slot_of_table : (slots : ℕ) (head table : List ℕ) (i : ℕ) → length head ≡ 4096 → recovered_slot slots (head ++ zeros (journal_len slots) ++ table) i ≡ take 4096 (drop (4096 * i) table)
 slot_of_table slots head table i h =
-    recovered_slot-at_rest slots (head ++ zeros (journal_len slots) ++ table) i (not_raised (journal_len slots) head table h (journal_some slots))
-    ∙ ap (take 4096) (drop_past (head ++ zeros (journal_len slots)) table (4096 + journal_len slots) (4096 * i) (table_at slots i) (omega (arith, length-append head (zeros (journal_len slots)), length-replicate {A = ℕ} (journal_len slots) 0)) (table_at_is slots i))
+    recovered_slot-at_rest slots (head ++ zeros (journal_len slots) ++ table) i (not_raised (journal_len slots) head table h (journal_some slots)) ∙ block_of_table slots head table i h
 
 -- recovery leaves an image with zeros between its header and its table as it is
 pub recovered-at_rest : (slots : ℕ) (head table : List ℕ) → length head ≡ 4096 → length table ≡ 4096 * slots → recovered slots (head ++ zeros (journal_len slots) ++ table) ≡ head ++ zeros (journal_len slots) ++ table
@@ -225,7 +225,7 @@ unfolding table_at image_len
 table_in_image slots i h = omega arith
 
 -- what recovery leaves in a slot is a block
-length-recovered_slot : (slots : ℕ) (image : List ℕ) (i : ℕ) → length image ≡ image_len slots → i < slots → length (recovered_slot slots image i) ≡ 4096
+pub length-recovered_slot : (slots : ℕ) (image : List ℕ) (i : ℕ) → length image ≡ image_len slots → i < slots → length (recovered_slot slots image i) ≡ 4096
 unfolding recovered_slot
 length-recovered_slot slots image i h lt = either (is_flag_set image && is_marked image i)
   where
@@ -234,19 +234,19 @@ length-recovered_slot slots image i h lt = either (is_flag_set image && is_marke
     either false = length-bytes_at image (table_at slots i) 4096 (omega (arith, table_in_image slots i lt))
 
 -- what holds of each number of a range holds of each of its list
-AllByRecursion-numbers_from : (P : ℕ → Type 0) (first count : ℕ) → ((i : ℕ) → i < first + count → P i) → AllByRecursion P (numbers_from first count)
+pub AllByRecursion-numbers_from : (P : ℕ → Type 0) (first count : ℕ) → ((i : ℕ) → i < first + count → P i) → AllByRecursion P (numbers_from first count)
 unfolding numbers_from
 AllByRecursion-numbers_from P first zero f = tt
 AllByRecursion-numbers_from P first (suc count) f = (f first (omega arith), AllByRecursion-numbers_from P (suc first) count (λ i h. f i (omega arith)))
 
 -- the slots that recovery leaves are as many blocks
-length-recovered_slots : (slots : ℕ) (image : List ℕ) → length image ≡ image_len slots → length (flat_map (recovered_slot slots image) (numbers_from 0 slots)) ≡ 4096 * slots
+pub length-recovered_slots : (slots : ℕ) (image : List ℕ) → length image ≡ image_len slots → length (flat_map (recovered_slot slots image) (numbers_from 0 slots)) ≡ 4096 * slots
 length-recovered_slots slots image h =
     length-flat_map_same (recovered_slot slots image) 4096 (numbers_from 0 slots) (AllByRecursion-numbers_from (λ i. length (recovered_slot slots image i) ≡ 4096) 0 slots (λ i lt. length-recovered_slot slots image i h (omega arith)))
     ∙ ap (λ n. 4096 * n) (length-numbers_from 0 slots)
 
 -- the header lies in the image
-header_in_image : (slots : ℕ) → 4096 ≤ image_len slots
+pub header_in_image : (slots : ℕ) → 4096 ≤ image_len slots
 unfolding image_len
 header_in_image slots = omega arith
 
@@ -256,7 +256,7 @@ unfolding recovered
 length-recovered slots image h = length-areas slots (take 4096 image) (flat_map (recovered_slot slots image) (numbers_from 0 slots)) (length-take-le 4096 image (omega (arith, header_in_image slots))) (length-recovered_slots slots image h)
 
 -- the areas that recovery leaves
-recovered_areas : (slots : ℕ) (image : List ℕ) → recovered slots image ≡ take 4096 image ++ zeros (journal_len slots) ++ flat_map (recovered_slot slots image) (numbers_from 0 slots)
+pub recovered_areas : (slots : ℕ) (image : List ℕ) → recovered slots image ≡ take 4096 image ++ zeros (journal_len slots) ++ flat_map (recovered_slot slots image) (numbers_from 0 slots)
 unfolding recovered
 recovered_areas slots image = refl
 

@@ -248,7 +248,7 @@ all_filter P test (x ∷ xs) h =
     elim (test x) as (λ b. AllByRecursion P (cond b (x ∷ filter test xs) (filter test xs))) [ true ↦ (h.0, rest) | false ↦ rest ]
 
 -- each element, from each that a map gives
-all_from_map : {X Y : Type 0} (Q : Y → Type 0) (f : X → Y) (xs : List X) → AllByRecursion Q (map f xs) → AllByRecursion (λ x. Q (f x)) xs
+pub all_from_map : {X Y : Type 0} (Q : Y → Type 0) (f : X → Y) (xs : List X) → AllByRecursion Q (map f xs) → AllByRecursion (λ x. Q (f x)) xs
 all_from_map Q f [] h = tt
 all_from_map Q f (x ∷ xs) h = (h.0, all_from_map Q f xs h.1)
 

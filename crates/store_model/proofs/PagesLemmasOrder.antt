@@ -143,13 +143,13 @@ leads_onto_part d level x y part parts = go (leads_group d level y) refl
     go false e = ap (λ l. l ∷ map (lead_of d level) parts) (lead_of-cons d level x (y ∷ part))
 
 -- cutting a list that begins with x gives a first part that does
-record IsCutFrom (x : Cell) (parts : List (List Cell)) : Type 0 where
-  part : List Cell
-  rest : List (List Cell)
-  is : parts ≡ (x ∷ part) ∷ rest
+pub record IsCutFrom (x : Cell) (parts : List (List Cell)) : Type 0 where
+  pub part : List Cell
+  pub rest : List (List Cell)
+  pub is : parts ≡ (x ∷ part) ∷ rest
 
 -- the parts of a list that begins with x
-cut_from : (cuts : Cell → Bool) (x : Cell) (xs : List Cell) → IsCutFrom x (cut_before cuts (x ∷ xs))
+pub cut_from : (cuts : Cell → Bool) (x : Cell) (xs : List Cell) → IsCutFrom x (cut_before cuts (x ∷ xs))
 unfolding cut_before onto_part
 cut_from cuts x xs = go (cut_before cuts xs)
   where

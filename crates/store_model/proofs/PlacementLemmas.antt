@@ -2,8 +2,7 @@
 use Rattle.std.proofs.Common.{◌≡◌, ℕ, zero, suc, ◌+◌, ◌-◌, ◌%◌, ◌<◌, ◌≤◌, List, [], ◌∷◌, ◌++◌, Bool, true, false, cond, Option, Some, None, length, map, get_or, replicate, slice_get, slice_set, refl, ap, sym, subst, ◌∙◌, ⊎_elim, arith, length-set}
 use Rattle.std.specs.List.{find, IsDistinct, AllByRecursion, Contains}
 use Rattle.std.specs.List.Sorted.{IsPermutation}
-use Rattle.std.specs.declared.cmp.Ordering.{Ordering}
-use Rattle.std.specs.Ordering.{is_gt, is_eq, eq_by_cmp}
+use Rattle.std.specs.Ordering.{is_eq, eq_by_cmp}
 use Rattle.std.specs.Cmp.{IsTotalOrder}
 use Rattle.std.proofs.Math.Nat.{mod-eq_of_lt, add-mod_left}
 use Rattle.std.proofs.lemmas.Bool.{cases_lt, false≢true}
@@ -12,17 +11,14 @@ use Rattle.std.proofs.lemmas.Map.Keys.{IsDistinct-head, IsDistinct-tail, IsDisti
 use Rattle.std.proofs.lemmas.Option.{same_Some}
 use Rattle.std.proofs.lemmas.List.{length-map, length-replicate, get_or-map, append-nil}
 use Rattle.std.proofs.lemmas.List.Sorted.{IsPermutation-refl, IsPermutation-sym, IsPermutation-trans, IsPermutation-cons, IsPermutation-middle, IsPermutation-append_right, IsPermutation-map, length_permutation, Contains-permutation}
-use Rattle.store_model.specs.Lists.{numbers_from, numbers_below, insert_in_order, in_order}
+use Rattle.store_model.specs.Lists.{numbers_from, numbers_below, in_order}
 use Rattle.store_model.specs.Labels.{Label, label_bytes, label_cmp}
 use Rattle.store_model.specs.Draws.{Draw, IsLawful}
 use Rattle.store_model.specs.Pages.{Page}
 use Rattle.store_model.specs.Placement.{Table, probe, probes, holds_nothing, is_free, put_at, put_first_free, put_all, page_cmp, place, pages_in, HoldsPage}
-
--- count numbers, one after another, are that many
-pub length-numbers_from : (first count : ℕ) → length (numbers_from first count) ≡ count
-unfolding numbers_from
-length-numbers_from first zero = refl
-length-numbers_from first (suc count) = ap suc (length-numbers_from (suc first) count)
+pub use Rattle.store_model.proofs.ListsLemmas.{length-numbers_from}
+use Rattle.store_model.proofs.ListsLemmasOrder.{IsPermutation-first_two}
+pub use Rattle.store_model.proofs.ListsLemmasOrder.{IsPermutation-insert_in_order, IsPermutation-in_order}
 
 -- number i of those is i above the first
 pub get_or-numbers_from : (first count i d : ℕ) → i < count → get_or (numbers_from first count) i d ≡ first + i
@@ -30,30 +26,6 @@ unfolding numbers_from
 get_or-numbers_from first zero i d h = absurd (omega arith)
 get_or-numbers_from first (suc count) zero d h = omega arith
 get_or-numbers_from first (suc count) (suc i) d h = omega (arith, get_or-numbers_from (suc first) count i d (omega arith))
-
--- the first two of a list change places
-IsPermutation-first_two : {X : Type 0} (x y : X) (xs : List X) → IsPermutation (x ∷ y ∷ xs) (y ∷ x ∷ xs)
-IsPermutation-first_two x y xs = IsPermutation-middle (x ∷ []) y xs
-
--- the list that a test picks has the elements that both lists have
-IsPermutation-picked : {X : Type 0} (b : Bool) (xs ys zs : List X) → IsPermutation xs ys → IsPermutation xs zs → IsPermutation xs (cond b ys zs)
-IsPermutation-picked true xs ys zs p q = p
-IsPermutation-picked false xs ys zs p q = q
-
--- what is put in its place in a list joins its elements
-pub IsPermutation-insert_in_order : {X : Type 0} (cmp : X → X → Ordering) (x : X) (ys : List X) → IsPermutation (x ∷ ys) (insert_in_order cmp x ys)
-unfolding insert_in_order
-IsPermutation-insert_in_order cmp x [] = IsPermutation-refl (x ∷ [])
-IsPermutation-insert_in_order cmp x (y ∷ ys) =
-    IsPermutation-picked (is_gt (cmp x y)) (x ∷ y ∷ ys) (y ∷ insert_in_order cmp x ys) (x ∷ y ∷ ys)
-    (IsPermutation-trans (x ∷ y ∷ ys) (y ∷ x ∷ ys) (y ∷ insert_in_order cmp x ys) (IsPermutation-first_two x y ys) (IsPermutation-cons y (x ∷ ys) (insert_in_order cmp x ys) (IsPermutation-insert_in_order cmp x ys)))
-    (IsPermutation-refl (x ∷ y ∷ ys))
-
--- a list put in order has the same elements
-pub IsPermutation-in_order : {X : Type 0} (cmp : X → X → Ordering) (xs : List X) → IsPermutation xs (in_order cmp xs)
-unfolding in_order
-IsPermutation-in_order cmp [] = IsPermutation-refl []
-IsPermutation-in_order cmp (x ∷ xs) = IsPermutation-trans (x ∷ xs) (x ∷ in_order cmp xs) (insert_in_order cmp x (in_order cmp xs)) (IsPermutation-cons x xs (in_order cmp xs) (IsPermutation-in_order cmp xs)) (IsPermutation-insert_in_order cmp x (in_order cmp xs))
 
 -- a test that one element passes finds one that passes
 found : {X : Type 0} (test : X → Bool) (xs : List X) (i : ℕ) (d : X) → i < length xs → test (get_or xs i d) ≡ true → (x : X) × (find test xs ≡ Some x) × (test x ≡ true)

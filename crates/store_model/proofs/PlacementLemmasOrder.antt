@@ -3,87 +3,28 @@ use Rattle.std.proofs.Common.{◌≡◌, ◌≢◌, ℕ, zero, suc, ◌+◌, ◌
 use Rattle.std.specs.List.{find, IsDistinct, AllByRecursion, Contains}
 use Rattle.std.specs.List.Sorted.{IsPermutation, IsStrictlySortedBy}
 use Rattle.std.specs.declared.cmp.Ordering.{Ordering}
-use Rattle.std.specs.declared.cmp.Ordering.TheVariants.{Less, Equal, Greater}
-use Rattle.std.specs.Ordering.{is_gt, is_eq, eq_by_cmp, ordering_reverse}
+use Rattle.std.specs.declared.cmp.Ordering.TheVariants.{Less}
+use Rattle.std.specs.Ordering.{eq_by_cmp}
 use Rattle.std.specs.Cmp.{IsTotalOrder}
 use Rattle.std.proofs.Math.Nat.{mod-eq_of_lt, add-mod_left}
 use Rattle.std.proofs.lemmas.Bool.{cases_lt}
 use Rattle.std.proofs.lemmas.Cmp.{tied_itself, on_total, eq_by_cmp_equiv}
 use Rattle.std.proofs.lemmas.List.{length-map, length-replicate, get_or-map, get_or_default, ext_get_or}
-use Rattle.std.proofs.lemmas.List.Elements.{All-from_recursion, recursion_from_All}
-use Rattle.std.proofs.lemmas.List.Sorted.{All-permutation, length_permutation, Contains-permutation, IsPermutation-map, IsPermutation-sym, IsPermutation-trans}
+use Rattle.std.proofs.lemmas.List.Sorted.{length_permutation, Contains-permutation, IsPermutation-map, IsPermutation-sym, IsPermutation-trans}
 use Rattle.std.proofs.lemmas.Map.Keys.{IsDistinct-IsPermutation, Less-from_sorted}
 use Rattle.std.proofs.lemmas.Option.{same_Some, slice_get_within, slice_get-get_or}
-use Rattle.store_model.specs.Lists.{numbers_below, insert_in_order, in_order}
+use Rattle.store_model.specs.Lists.{numbers_below, in_order}
 use Rattle.store_model.specs.Labels.{Label, label_cmp}
 use Rattle.store_model.specs.Draws.{Draw, IsLawful}
 use Rattle.store_model.specs.Pages.{Page}
 use Rattle.store_model.specs.Placement.{Table, probe, probes, is_free, put_at, put_first_free, put_all, page_cmp, place, pages_in, HoldsPage, IsInOrder}
+use Rattle.store_model.proofs.ListsLemmas.{all_with, all_none}
+use Rattle.store_model.proofs.ListsLemmasOrder.{sorted_in_order, distinct_from_map}
 use Rattle.store_model.proofs.PlacementLemmas.{length-numbers_from, get_or-numbers_from, IsPermutation-in_order, probe_reaches, length-place, IsPermutation-place, label_cmp_total, first_free, one_slot, some_slot, IsDistinct-place, IsPermutation-put, pages_in-replicate}
 
 -- pages are in a total order, by their labels
-page_cmp_total : IsTotalOrder page_cmp
+pub page_cmp_total : IsTotalOrder page_cmp
 page_cmp_total = on_total (λ (page : Page). page.label) label_cmp_total
-
--- what holds of each element by two facts of each
-AllByRecursion-both : {X : Type 0} (P Q R : X → Type 0) → ((x : X) → P x → Q x → R x) → (xs : List X) → AllByRecursion P xs → AllByRecursion Q xs → AllByRecursion R xs
-AllByRecursion-both P Q R f [] p q = tt
-AllByRecursion-both P Q R f (x ∷ xs) p q = (f x p.0 q.0, AllByRecursion-both P Q R f xs p.1 q.1)
-
--- what holds of each image holds of each element by its image
-AllByRecursion-unmap : {X Y : Type 0} (P : Y → Type 0) (f : X → Y) (xs : List X) → AllByRecursion P (map f xs) → AllByRecursion (λ x. P (f x)) xs
-AllByRecursion-unmap P f [] all = tt
-AllByRecursion-unmap P f (x ∷ xs) all = (all.0, AllByRecursion-unmap P f xs all.1)
-
--- what holds of each element holds of each in another order
-AllByRecursion-permutation : {X : Type 0} (P : X → Type 0) (xs ys : List X) → IsPermutation xs ys → AllByRecursion P xs → AllByRecursion P ys
-AllByRecursion-permutation P xs ys moves all = recursion_from_All P ys (All-permutation P xs ys moves (All-from_recursion P xs all))
-
--- pages with distinct labels are distinct in the order of pages
-distinct_pages : (pages : List Page) → IsDistinct (eq_by_cmp label_cmp) (map (λ page. page.label) pages) → IsDistinct (eq_by_cmp page_cmp) pages
-unfolding IsDistinct
-distinct_pages [] distinct = tt
-distinct_pages (page ∷ pages) distinct = (AllByRecursion-unmap (λ l. eq_by_cmp label_cmp page.label l ≡ false) (λ p. p.label) pages distinct.0, distinct_pages pages distinct.1)
-
--- what is greater one way is less the other way round
-less_from_greater : (o : Ordering) → is_gt o ≡ true → ordering_reverse o ≡ Less
-less_from_greater Less e = cc
-less_from_greater Equal e = cc
-less_from_greater Greater e = refl
-
--- what is neither greater nor equal is less
-less_from_others : (o : Ordering) → is_gt o ≡ false → is_eq o ≡ false → o ≡ Less
-less_from_others Less e f = refl
-less_from_others Equal e f = cc
-less_from_others Greater e f = cc
-
--- what holds of an element and of each of a list holds of each of the list with the element in its place
-AllByRecursion-insert_in_order : {X : Type 0} (cmp : X → X → Ordering) (P : X → Type 0) (x : X) (ys : List X) → P x → AllByRecursion P ys → AllByRecursion P (insert_in_order cmp x ys)
-unfolding insert_in_order
-AllByRecursion-insert_in_order cmp P x [] p all = (p, tt)
-AllByRecursion-insert_in_order {X} cmp P x (y ∷ ys) p all = picked (is_gt (cmp x y)) (AllByRecursion-insert_in_order cmp P x ys p all.1)
-  where
-    picked : (b : Bool) → AllByRecursion P (insert_in_order cmp x ys) → AllByRecursion P (cond b (y ∷ insert_in_order cmp x ys) (x ∷ y ∷ ys))
-    picked true rest = (all.0, rest)
-    picked false rest = (p, all)
-
--- what rises still rises with an element in its place that ties with none
-sorted_insert_in_order : {X : Type 0} (cmp : X → X → Ordering) → IsTotalOrder cmp → (x : X) (ys : List X) → AllByRecursion (λ y. eq_by_cmp cmp x y ≡ false) ys → IsStrictlySortedBy cmp ys → IsStrictlySortedBy cmp (insert_in_order cmp x ys)
-unfolding insert_in_order IsStrictlySortedBy
-sorted_insert_in_order cmp o x [] apart up = (tt, tt)
-sorted_insert_in_order {X} cmp o x (y ∷ ys) apart up = picked (is_gt (cmp x y)) refl (sorted_insert_in_order cmp o x ys apart.1 up.1)
-  where
-    picked : (b : Bool) → is_gt (cmp x y) ≡ b → IsStrictlySortedBy cmp (insert_in_order cmp x ys) → IsStrictlySortedBy cmp (cond b (y ∷ insert_in_order cmp x ys) (x ∷ y ∷ ys))
-    picked true e rest = (AllByRecursion-insert_in_order cmp (λ z. cmp y z ≡ Less) x ys (o.antisymm y x ∙ less_from_greater (cmp x y) e) up.0, rest)
-    picked false e rest =
-        let below : cmp x y ≡ Less = less_from_others (cmp x y) e apart.0 in
-        ((below, AllByRecursion-both (λ z. cmp y z ≡ Less) (λ z. cmp y z ≡ Less) (λ z. cmp x z ≡ Less) (λ z p q. o.trans x y z below p) ys up.0 up.0), up)
-
--- elements that are distinct rise once put in order
-sorted_in_order : {X : Type 0} (cmp : X → X → Ordering) → IsTotalOrder cmp → (xs : List X) → IsDistinct (eq_by_cmp cmp) xs → IsStrictlySortedBy cmp (in_order cmp xs)
-unfolding in_order IsStrictlySortedBy IsDistinct
-sorted_in_order cmp o [] distinct = tt
-sorted_in_order cmp o (x ∷ xs) distinct = sorted_insert_in_order cmp o x (in_order cmp xs) (AllByRecursion-permutation (λ y. eq_by_cmp cmp x y ≡ false) xs (in_order cmp xs) (IsPermutation-in_order cmp xs) distinct.0) (sorted_in_order cmp o xs distinct.1)
 
 -- what is found is the first that passes
 record IsFirst {X : Type 0} (test : X → Bool) (xs : List X) (x : X) (i : ℕ) : Type 0 where
@@ -227,13 +168,8 @@ put_all_in_order d table (page ∷ pages) law is room up smaller order =
     let moved : length (pages_in (slice_set table f.0 (Some page))) ≡ suc (length (pages_in table)) = length_permutation (page ∷ pages_in table) (pages_in (slice_set table f.0 (Some page))) put in
     subst (λ (o : Option ℕ). IsInOrder d (put_all d (put_at table page o) pages)) (sym f.2.at)
     (put_all_in_order d (slice_set table f.0 (Some page)) pages law (length-set table f.0 (Some page) ∙ is) (omega arith) up.1
-    (AllByRecursion-both (λ p. page_cmp page p ≡ Less) (AllSmaller table) (AllSmaller (slice_set table f.0 (Some page))) (smaller_after_put table f.0 page) pages up.0 smaller.1)
+    (all_with (λ p. page_cmp page p ≡ Less) (AllSmaller table) (AllSmaller (slice_set table f.0 (Some page))) (smaller_after_put table f.0 page) pages up.0 smaller.1)
     (put_in_order d table page f.0 f.1 law f.2 smaller.0 order))
-
--- what holds of everything holds of each element
-AllByRecursion-always : {X : Type 0} (P : X → Type 0) → ((x : X) → P x) → (xs : List X) → AllByRecursion P xs
-AllByRecursion-always P f [] = tt
-AllByRecursion-always P f (x ∷ xs) = (f x, AllByRecursion-always P f xs)
 
 -- an empty table holds no page
 nothing_held : (n slot : ℕ) (page : Page) → HoldsPage (replicate n None) slot page → ⊥
@@ -247,8 +183,8 @@ unfolding place
 IsInOrder-place d pages law room distinct =
     put_all_in_order d (replicate d.slots None) (in_order page_cmp pages) law (length-replicate d.slots None)
     (omega (arith, length_permutation pages (in_order page_cmp pages) (IsPermutation-in_order page_cmp pages), ap length (pages_in-replicate d.slots)))
-    (sorted_in_order page_cmp page_cmp_total pages (distinct_pages pages distinct))
-    (AllByRecursion-always (AllSmaller (replicate d.slots None)) (λ p slot other held. absurd (nothing_held d.slots slot other held)) (in_order page_cmp pages))
+    (sorted_in_order page_cmp page_cmp_total pages (distinct_from_map label_cmp (λ page. page.label) pages distinct))
+    (all_none (AllSmaller (replicate d.slots None)) (λ p slot other held. absurd (nothing_held d.slots slot other held)) (in_order page_cmp pages))
     (λ p i within held k below. absurd (nothing_held d.slots (probe d.slots (d.start p.label) i) p held))
 
 -- two tables in order, with the same pages, whose labels are distinct
@@ -267,14 +203,14 @@ abbrev AgreesAt : Table → Table → Page → Type 0
 AgreesAt a b page = (slot : ℕ) → HoldsPage a slot page → HoldsPage b slot page
 
 -- no page is smaller than itself
-not_below_itself : (page other : Page) → label_cmp other.label page.label ≡ Less → other ≡ page → ⊥
+pub not_below_itself : (page other : Page) → label_cmp other.label page.label ≡ Less → other ≡ page → ⊥
 not_below_itself page other less same =
     let less' : page_cmp page page ≡ Less = subst (λ (p : Page). page_cmp p page ≡ Less) same less in
     let tied = tied_itself page_cmp_total page in
     cc
 
 -- one slot holds one page
-one_page : (table : Table) (slot : ℕ) (p q : Page) → HoldsPage table slot p → HoldsPage table slot q → p ≡ q
+pub one_page : (table : Table) (slot : ℕ) (p q : Page) → HoldsPage table slot p → HoldsPage table slot q → p ≡ q
 one_page table slot p q g h = cc
 
 -- two tables agree at a page, where they do at each smaller one
@@ -316,7 +252,7 @@ agree_step d a b h page smaller slot held = by_places (cases_lt j.0 i.0) (cases_
         subst (λ (s : ℕ). HoldsPage b s page) (sym j.2 ∙ ap (probe d.slots (d.start page.label)) e ∙ i.2) o.1
 
 -- what a slot holds is a page of the table
-held_contained : (table : Table) (slot : ℕ) (page : Page) → HoldsPage table slot page → Contains (pages_in table) page
+pub held_contained : (table : Table) (slot : ℕ) (page : Page) → HoldsPage table slot page → Contains (pages_in table) page
 unfolding pages_in
 held_contained [] slot page e = cc
 held_contained (None ∷ table) zero page e = cc
@@ -372,22 +308,31 @@ same_slot d a b h agree slot None (Some page) p q =
     let r : HoldsPage a slot page = subst (λ (n : ℕ). HoldsPage a n page) e s.1 in
     cc
 
--- a table in order is the only one in order with its pages
-pub one_table_in_order : (d : Draw) (a b : Table) → IsLawful d → length a ≡ d.slots → length b ≡ d.slots → IsDistinct (eq_by_cmp label_cmp) (map (λ page. page.label) (pages_in a))
-    → IsPermutation (pages_in a) (pages_in b) → IsInOrder d a → IsInOrder d b → a ≡ b
-one_table_in_order d a b law length_a length_b distinct moves order_a order_b =
+-- two tables in order of the same pages, with distinct labels, are one
+pub one_table_of_pages : (d : Draw) (a b : Table) → IsLawful d → length a ≡ d.slots → length b ≡ d.slots → IsDistinct (eq_by_cmp label_cmp) (map (λ page. page.label) (pages_in a)) → IsDistinct (eq_by_cmp label_cmp) (map (λ page. page.label) (pages_in b))
+    → ((page : Page) → Contains (pages_in a) page → Contains (pages_in b) page) → ((page : Page) → Contains (pages_in b) page → Contains (pages_in a) page) → IsInOrder d a → IsInOrder d b → a ≡ b
+one_table_of_pages d a b law length_a length_b distinct_a distinct_b there back order_a order_b =
     let h : HoldSame d a b = record {
       law = law;
       length_a = length_a;
       length_b = length_b;
-      distinct_b = IsDistinct-IsPermutation (eq_by_cmp label_cmp) (eq_by_cmp_equiv label_cmp_total).symm (map (λ page. page.label) (pages_in a)) (map (λ page. page.label) (pages_in b)) (IsPermutation-map (λ (page : Page). page.label) (pages_in a) (pages_in b) moves) distinct;
-      in_b = λ slot page held. some_slot b page (Contains-permutation (pages_in a) (pages_in b) page moves (held_contained a slot page held));
-      in_a = λ slot page held. some_slot a page (Contains-permutation (pages_in b) (pages_in a) page (IsPermutation-sym (pages_in a) (pages_in b) moves) (held_contained b slot page held));
+      distinct_b = distinct_b;
+      in_b = λ slot page held. some_slot b page (there page (held_contained a slot page held));
+      in_a = λ slot page held. some_slot a page (back page (held_contained b slot page held));
       order_a = order_a;
       order_b = order_b;
     } in
-    let agree = agree_everywhere d a b h (sorted_in_order page_cmp page_cmp_total (pages_in a) (distinct_pages (pages_in a) distinct)) in
+    let agree = agree_everywhere d a b h (sorted_in_order page_cmp page_cmp_total (pages_in a) (distinct_from_map label_cmp (λ page. page.label) (pages_in a) distinct_a)) in
     ext_get_or None a b (length_a ∙ sym length_b) (λ i within. same_slot d a b h agree i (get_or a i None) (get_or b i None) (slice_get-get_or a i None within) (slice_get-get_or b i None (omega arith)))
+
+-- a table in order is the only one in order with its pages
+pub one_table_in_order : (d : Draw) (a b : Table) → IsLawful d → length a ≡ d.slots → length b ≡ d.slots → IsDistinct (eq_by_cmp label_cmp) (map (λ page. page.label) (pages_in a))
+    → IsPermutation (pages_in a) (pages_in b) → IsInOrder d a → IsInOrder d b → a ≡ b
+one_table_in_order d a b law length_a length_b distinct moves =
+    one_table_of_pages d a b law length_a length_b distinct
+    (IsDistinct-IsPermutation (eq_by_cmp label_cmp) (eq_by_cmp_equiv label_cmp_total).symm (map (λ page. page.label) (pages_in a)) (map (λ page. page.label) (pages_in b)) (IsPermutation-map (λ (page : Page). page.label) (pages_in a) (pages_in b) moves) distinct)
+    (λ page held. Contains-permutation (pages_in a) (pages_in b) page moves held)
+    (λ page held. Contains-permutation (pages_in b) (pages_in a) page (IsPermutation-sym (pages_in a) (pages_in b) moves) held)
 
 -- a table has no more pages than slots
 pub length-pages_in-le : (table : Table) → length (pages_in table) ≤ length table

@@ -7,16 +7,17 @@ use Rattle.store_model.specs.Parameters.{Parameters, IsParameters}
 use Rattle.store_model.specs.Trees.{Tree, IsTree}
 use Rattle.store_model.specs.Draws.{draw_of}
 use Rattle.store_model.specs.Pages.{Page, Fits, pages}
-use Rattle.store_model.specs.Placement.{Table, place, pages_in, HoldsPage, IsInOrder}
-use Rattle.store_model.proofs.PagesLemmasSizes.{distinct_tree_labels}
+use Rattle.store_model.specs.Placement.{Table, place, pages_in, HoldsPage, IsInOrder, IsOrderedTable}
+use Rattle.store_model.proofs.PagesLemmasSizes.{distinct_tree_labels, tree_pages_are_pages}
 use Rattle.store_model.proofs.PlacementLemmas.{exactly_one_slot}
 use Rattle.store_model.proofs.PlacementLemmasDraws.{IsLawful-draw_of}
-use Rattle.store_model.proofs.PlacementLemmasOrder.{IsInOrder-place, place_is_the_only_order, length-pages_in-le}
+use Rattle.store_model.proofs.PlacementLemmasTables.{IsOrderedTable-place}
+use Rattle.store_model.proofs.PlacementLemmasOrder.{place_is_the_only_order, length-pages_in-le}
 
--- the table of a tree is in order
-pub IsInOrder-tree : (t : Tree) (p : Parameters) → IsParameters p → IsTree t → Fits t p → IsInOrder (draw_of p) (place (draw_of p) (pages t p))
+-- the table of a tree is an ordered table
+pub IsOrderedTable-tree : (t : Tree) (p : Parameters) → IsParameters p → IsTree t → Fits t p → IsOrderedTable (draw_of p) (place (draw_of p) (pages t p))
 unfolding draw_of
-IsInOrder-tree t p is tree fits = IsInOrder-place (draw_of p) (pages t p) (IsLawful-draw_of p is) fits (distinct_tree_labels t p is tree fits)
+IsOrderedTable-tree t p is tree fits = IsOrderedTable-place (draw_of p) (pages t p) (IsLawful-draw_of p is) fits (distinct_tree_labels t p is tree fits) (tree_pages_are_pages t p is tree fits)
 
 -- each page of a tree stands in exactly one slot
 pub one_slot_in_tree : (t : Tree) (p : Parameters) → IsParameters p → IsTree t → Fits t p → (page : Page) → Contains (pages t p) page

@@ -1,15 +1,17 @@
 -- What a refusal leaves, and lines that run one after another.
-use Rattle.std.proofs.Common.{◌≡◌, ℕ, List, [], ◌∷◌, ◌++◌, Bool, true, false, ◌&&◌, nat_lt, Option, Some, None, Result, Ok, Err, length, refl, ap, if◌then◌else◌}
+use Rattle.std.proofs.Common.{◌≡◌, ℕ, List, [], ◌∷◌, ◌++◌, Bool, true, false, ◌&&◌, nat_lt, codes, Option, Some, None, Result, Ok, Err, length, refl, ap, if◌then◌else◌}
 use Rattle.store_model.specs.declared.refusal.Refusal.{Refusal}
 use Rattle.store_model.specs.Parameters.{Parameters}
 use Rattle.store_model.specs.Trees.{Tree}
 use Rattle.store_model.specs.Pages.{page_count}
+use Rattle.sha2.specs.Sha256.{sha256}
+use Rattle.store_model.specs.Images.{layout}
 use Rattle.store_model.specs.Commands.{Command}
 use Rattle.store_model.specs.Commands.Command.{Make, Write, Cut, Rename, Remove, Prune, ListChildren, Read, Space, Digest}
-use Rattle.store_model.specs.Commands.Reply.{Refused}
-use Rattle.store_model.specs.Steps.{Step, step, step_to, step_by, reply_of, refusal_of, next_tree, may_fill}
-use Rattle.store_model.specs.Scripts.{answer, answer_by, line_limit, replies_by, tree_by, replies, tree_after}
-use Rattle.store_model.specs.Grammar.{parse}
+use Rattle.store_model.specs.Commands.Reply.{Refused, ImageDigest}
+use Rattle.store_model.specs.Steps.{Step, step, step_to, step_by, first_refusal, conditions, reply_of, refusal_of, next_tree, may_fill}
+use Rattle.store_model.specs.Scripts.{answer, answer_by, line_limit, answers_by, state_by, by_step, replies_by, tree_by, replies, tree_after}
+use Rattle.store_model.specs.Grammar.{command_of_fields, command_of, has_short_paths, parse}
 
 -- a command that is carried out is not refused
 reply_of-not_refused : (t : Tree) (c : Command) (p : Parameters) (r : Refusal) → reply_of t c p ≡ Refused r → ⊥
@@ -55,17 +57,26 @@ pub refused_answer_keeps : (t : Tree) (text : List ℕ) (p : Parameters) (r : Re
 unfolding answer
 refused_answer_keeps t text p r = picked_keeps (nat_lt line_limit (length text)) _ _ t r (λ e. refl) (answer_by_keeps t (parse text) p r)
 
--- the replies to questions and then to more questions, whatever answers them
+-- the answers to questions and then to more questions, whatever answers them
+pub answers_by-append : {S Q A : Type 0} (answered : S → Q → A × S) (s : S) (a b : List Q) → answers_by answered s (a ++ b) ≡ answers_by answered s a ++ answers_by answered (state_by answered s a) b
+unfolding answers_by state_by
+answers_by-append answered s [] b = refl
+answers_by-append answered s (question ∷ a) b = ap (λ xs. (answered s question).0 ∷ xs) (answers_by-append answered (answered s question).1 a b)
+
+-- the state after questions and then after more questions
+pub state_by-append : {S Q A : Type 0} (answered : S → Q → A × S) (s : S) (a b : List Q) → state_by answered s (a ++ b) ≡ state_by answered (state_by answered s a) b
+unfolding state_by
+state_by-append answered s [] b = refl
+state_by-append answered s (question ∷ a) b = state_by-append answered (answered s question).1 a b
+
+-- the same for replies and trees
 pub replies_by-append : {Q : Type 0} (answered : Tree → Q → Step) (t : Tree) (a b : List Q) → replies_by answered t (a ++ b) ≡ replies_by answered t a ++ replies_by answered (tree_by answered t a) b
 unfolding replies_by tree_by
-replies_by-append answered t [] b = refl
-replies_by-append answered t (question ∷ a) b = ap (λ rs. (answered t question).reply ∷ rs) (replies_by-append answered (answered t question).tree a b)
+replies_by-append answered t a b = answers_by-append (by_step answered) t a b
 
--- the tree after questions and then after more questions
 pub tree_by-append : {Q : Type 0} (answered : Tree → Q → Step) (t : Tree) (a b : List Q) → tree_by answered t (a ++ b) ≡ tree_by answered (tree_by answered t a) b
 unfolding tree_by
-tree_by-append answered t [] b = refl
-tree_by-append answered t (question ∷ a) b = tree_by-append answered (answered t question).tree a b
+tree_by-append answered t a b = state_by-append (by_step answered) t a b
 
 -- the replies to lines and then to more lines
 pub replies-append : (t : Tree) (a b : List (List ℕ)) (p : Parameters) → replies t (a ++ b) p ≡ replies t a p ++ replies (tree_after t a p) b p
@@ -76,3 +87,8 @@ replies-append t a b p = replies_by-append (λ u text. answer u text p) t a b
 pub tree_after-append : (t : Tree) (a b : List (List ℕ)) (p : Parameters) → tree_after t (a ++ b) p ≡ tree_after (tree_after t a p) b p
 unfolding tree_after
 tree_after-append t a b p = tree_by-append (λ u text. answer u text p) t a b
+
+-- the reply to the line `digest`
+pub digest_of_layout : (t : Tree) (p : Parameters) → (answer t (codes "digest") p).reply ≡ ImageDigest (sha256 (layout t p))
+unfolding answer parse command_of command_of_fields has_short_paths step first_refusal conditions reply_of may_fill
+digest_of_layout t p = refl

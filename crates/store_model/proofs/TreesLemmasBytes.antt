@@ -141,7 +141,7 @@ no_zeros zero xs e = cc
 no_zeros (suc n) xs e = let first : ◌≡◌ {A = ℕ} 0 1 = heads_same e in omega arith
 
 -- the bytes of a slot tell it
-slots_same : (a b : Option Page) → IsSlot a → IsSlot b → slot_bytes a ≡ slot_bytes b → a ≡ b
+pub slots_same : (a b : Option Page) → IsSlot a → IsSlot b → slot_bytes a ≡ slot_bytes b → a ≡ b
 unfolding slot_bytes page_bytes zero_filled
 slots_same None None h g e = refl
 slots_same None (Some page) h g e = absurd (no_zeros 4096 _ e)

@@ -1,7 +1,7 @@
 -- Lemmas on layouts: they tell trees and parameters apart.
-use Rattle.std.proofs.Common.{◌≡◌, ℕ, zero, suc, ◌+◌, ◌≤◌, List, [], ◌∷◌, ◌++◌, map, length, take, Some, Bool, true, false, ◌⊎◌, inl, inr, cond, ◌==◌, IsTrue, Contains, Ordering, Less, refl, sym, ap, ap₂, subst, ◌∙◌, arith, ne_eqb}
+use Rattle.std.proofs.Common.{◌≡◌, ℕ, zero, suc, ◌+◌, ◌≤◌, List, [], ◌∷◌, ◌++◌, map, length, take, Some, Bool, true, false, cond, ◌==◌, IsTrue, refl, sym, ap, ap₂, subst, ◌∙◌, arith, ne_eqb}
 use Rattle.std.specs.Ordering.{ordering_then}
-use Rattle.std.specs.Cmp.{IsTotalOrder, tied_itself}
+use Rattle.std.specs.Cmp.{tied_itself}
 use Rattle.std.specs.Cmp.Lexicographic.{nat_list_cmp_total}
 use Rattle.std.specs.List.{AllByRecursion, filter, flat_map, enumerate_from}
 use Rattle.std.specs.List.Sorted.{IsStrictlySortedBy, IsPermutation}
@@ -19,80 +19,19 @@ use Rattle.store_model.specs.Draws.{Draw, IsLawful, draw_of}
 use Rattle.store_model.specs.Pages.{Cell, Page, cell_on, lead_of, groups, group_pages, level_pages, pages_of_pairs, page_room, Fits, pages}
 use Rattle.store_model.specs.Placement.{place, pages_in, page_cmp}
 use Rattle.store_model.specs.Images.{header, table_bytes, journal_len, layout, recovered, Represents}
-use Rattle.store_model.proofs.ListsLemmas.{all_none, all_weaker, all_map, all_flat_map, all_numbers_from, then-Equal, nat_cmp-eq, rising_head, rising_tail, length-runs}
+use Rattle.store_model.proofs.ListsLemmas.{all_none, all_weaker, all_map, all_flat_map, all_numbers_from, then-Equal, nat_cmp-eq, length-runs}
+use Rattle.store_model.proofs.ListsLemmasOrder.{same_rising}
 use Rattle.store_model.proofs.ListsLemmasCuts.{flat_map-runs}
 use Rattle.store_model.proofs.PathsLemmas.{order_of_keys}
 use Rattle.store_model.proofs.PagesLemmas.{cells_of_level_0}
 use Rattle.store_model.proofs.PagesLemmasOrder.{page_of, rising_pages}
 use Rattle.store_model.proofs.PagesLemmasSizes.{keyed, pair_list_of_tree, tree_pages_are_pages}
-use Rattle.store_model.proofs.PlacementLemmas.{length-place, IsPermutation-place, label_cmp_total}
+use Rattle.store_model.proofs.PlacementLemmas.{length-place, IsPermutation-place}
+use Rattle.store_model.proofs.PlacementLemmasOrder.{page_cmp_total}
 use Rattle.store_model.proofs.PlacementLemmasDraws.{IsLawful-draw_of}
 use Rattle.store_model.proofs.ImagesLemmas.{header-layout, slots-place}
 use Rattle.store_model.proofs.TreesLemmasPaths.{same_from_tie}
 use Rattle.store_model.proofs.TreesLemmasBytes.{fronts_same, heads_same, tails_same, four_bytes_same, headers_same, tables_same}
-
--- ---- lists that rise and have the same elements
-
--- what a list holds is its first element or stands behind it
-held_cases : {X : Type 0} (y : X) (ys : List X) (x : X) → Contains (y ∷ ys) x → (y ≡ x) ⊎ Contains ys x
-held_cases y ys x (zero, l, e) = inl e
-held_cases y ys x (suc k, l, e) = inr (k, omega arith, e)
-
--- the first element is held
-held_first : {X : Type 0} (y : X) (ys : List X) → Contains (y ∷ ys) y
-held_first y ys = (0, omega arith, refl)
-
--- and so is what stands behind it
-held_later : {X : Type 0} (y : X) (ys : List X) (x : X) → Contains ys x → Contains (y ∷ ys) x
-held_later y ys x (k, l, e) = (suc k, omega arith, e)
-
--- what holds of each element holds of what is held
-held_all : {X : Type 0} (P : X → Type 0) (ys : List X) (x : X) → AllByRecursion P ys → Contains ys x → P x
-held_all P [] x h (k, l, e) = absurd (omega arith)
-held_all P (y ∷ ys) x h c = by_case (held_cases y ys x c) (held_all P ys x h.1)
-  where
-    by_case : (y ≡ x) ⊎ Contains ys x → (Contains ys x → P x) → P x
-    by_case (inl e) later = subst P e h.0
-    by_case (inr c) later = later c
-
--- lists that rise and hold the same elements are the same
-same_rising : {X : Type 0} {c : X → X → Ordering} (o : IsTotalOrder c) (xs ys : List X) → IsStrictlySortedBy c xs → IsStrictlySortedBy c ys → ((z : X) → Contains xs z → Contains ys z) → ((z : X) → Contains ys z → Contains xs z) → xs ≡ ys
-same_rising o [] [] h g to from = refl
-same_rising o [] (y ∷ ys) h g to from = no_element (from y (held_first y ys))
-  where
-    no_element : Contains [] y → [] ≡ y ∷ ys
-    no_element (k, l, e) = absurd (omega arith)
-same_rising o (x ∷ xs) [] h g to from = no_element (to x (held_first x xs))
-  where
-    no_element : Contains [] x → x ∷ xs ≡ []
-    no_element (k, l, e) = absurd (omega arith)
-same_rising {X} {c} o (x ∷ xs) (y ∷ ys) h g to from = ap₂ (λ z zs. z ∷ zs) first (same_rising o xs ys (rising_tail c x xs h) (rising_tail c y ys g) (λ z held. behind x xs y ys first (rising_head c x xs h) z (to z (held_later x xs z held)) held) (λ z held. behind y ys x xs (sym first) (rising_head c y ys g) z (from z (held_later y ys z held)) held))
-  where
-    not_below_itself : (z : X) → c z z ≡ Less → ⊥
-    not_below_itself z l = let tied = tied_itself o z in cc
-
-    first_by : (y ≡ x) ⊎ Contains ys x → (x ≡ y) ⊎ Contains xs y → x ≡ y
-    first_by (inl e) d = sym e
-    first_by (inr a) (inl e) = e
-    first_by (inr a) (inr b) = absurd (not_below_itself x (o.trans x y x (held_all (λ z. c x z ≡ Less) xs y (rising_head c x xs h) b) (held_all (λ z. c y z ≡ Less) ys x (rising_head c y ys g) a)))
-
-    first : x ≡ y
-    first = first_by (held_cases y ys x (to x (held_first x xs))) (held_cases x xs y (from y (held_first y ys)))
-
-    behind : (a : X) (us : List X) (b : X) (vs : List X) → a ≡ b → AllByRecursion (λ z. c a z ≡ Less) us → (z : X) → Contains (b ∷ vs) z → Contains us z → Contains vs z
-    behind a us b vs e below z held own = by_place (held_cases b vs z held)
-      where
-        by_place : (b ≡ z) ⊎ Contains vs z → Contains vs z
-        by_place (inl f) = absurd (not_below_itself z (subst (λ w. c w z ≡ Less) (e ∙ f) (held_all (λ w. c a w ≡ Less) us z below own)))
-        by_place (inr later) = later
-
--- pages are in a total order
-page_cmp_total : IsTotalOrder page_cmp
-page_cmp_total = record {
-  antisymm = λ a b. label_cmp_total.antisymm a.label b.label;
-  trans = λ a b c. label_cmp_total.trans a.label b.label c.label;
-  congr = λ a b c. label_cmp_total.congr a.label b.label c.label;
-}
 
 -- lists of pages that rise and have one table are the same
 pub same_placement : (d : Draw) (ps qs : List Page) → IsLawful d → length ps ≤ d.slots → length qs ≤ d.slots → IsStrictlySortedBy page_cmp ps → IsStrictlySortedBy page_cmp qs → place d ps ≡ place d qs → ps ≡ qs
@@ -105,7 +44,7 @@ same_placement d ps qs law la lb h g e =
 -- ---- the pages of a list of pairs tell it
 
 -- the pages of a level are of that level
-pages_on_level : (d : Draw) (s : List Pair) (level : ℕ) → AllByRecursion (λ page. page.label.level ≡ level) (level_pages d s level)
+pub pages_on_level : (d : Draw) (s : List Pair) (level : ℕ) → AllByRecursion (λ page. page.label.level ≡ level) (level_pages d s level)
 unfolding level_pages group_pages
 pages_on_level d s level =
     all_flat_map (λ cells. Unit {0}) (λ page. page.label.level ≡ level) (λ cells. group_pages level (lead_of d level cells) cells)

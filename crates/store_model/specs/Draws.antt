@@ -6,6 +6,7 @@ use Rattle.sha2.specs.Sha256.{sha256}
 use Rattle.store_model.specs.declared.draw_kind.DrawKind.{DrawKind}
 use Rattle.store_model.specs.declared.draw_kind.DrawKind.TheVariants.{Ruler, Sha256}
 use Rattle.store_model.specs.Parameters.{Parameters}
+use Rattle.store_model.specs.Paths.{field_limit}
 use Rattle.store_model.specs.Labels.{Label, label_bytes}
 
 -- the number of slots, the height, the start of a label and the level of a key
@@ -22,10 +23,10 @@ pub record IsLawful (d : Draw) : Type 0 where
 
 -- the field of a key, and its block number
 abbrev pub key_field : List ℕ → List ℕ
-key_field k = take 120 k
+key_field k = take field_limit k
 
 abbrev pub key_block : List ℕ → ℕ
-key_block k = from_be_bytes w32 (drop 120 k)
+key_block k = from_be_bytes w32 (drop field_limit k)
 
 -- `ruler`: the sum of the label's bytes, round the table
 unfoldable pub ruler_start : ℕ → Label → ℕ

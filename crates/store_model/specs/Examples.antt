@@ -4,7 +4,8 @@ use Prim.Native.String.{String}
 use Rattle.std.specs.List.{flat_map}
 use Rattle.store_model.specs.declared.draw_kind.DrawKind.TheVariants.{Ruler}
 use Rattle.store_model.specs.Lists.{zeros, zero_filled}
-use Rattle.store_model.specs.Parameters.{Parameters}
+use Rattle.store_model.specs.Parameters.{Parameters, seed_len}
+use Rattle.store_model.specs.Paths.{key_len}
 use Rattle.store_model.specs.Trees.{Tree, empty_tree}
 use Rattle.store_model.specs.Labels.{Label}
 use Rattle.store_model.specs.Labels.Lead.{Start, Leader}
@@ -16,7 +17,7 @@ use Rattle.store_model.specs.Scripts.{lines, replies, tree_after, replies_text}
 
 -- the parameters of `format SLOTS HEIGHT ruler` and 64 zeros
 abbrev pub ruler : ℕ → ℕ → Parameters
-ruler slots height = record { slots = slots; height = height; kind = Ruler; seed = zeros 32 }
+ruler slots height = record { slots = slots; height = height; kind = Ruler; seed = zeros seed_len }
 
 -- a text of lines, each ended by LF
 abbrev pub text : List String → List ℕ
@@ -38,7 +39,7 @@ table p script = place (draw_of p) (page_list p script)
 
 -- the key with these bytes in front
 abbrev pub key_of : List ℕ → List ℕ
-key_of front = zero_filled 124 front
+key_of front = zero_filled key_len front
 
 abbrev pub start_label : ℕ → ℕ → Label
 start_label level index = record { level = level; lead = Start; index = index }

@@ -57,9 +57,9 @@ abbrev pub ◌>>=◌ : {A B : Type 0} → Option A → (A → Option B) → Opti
 None >>= f = None
 (Some x) >>= f = f x
 
--- the command, where the word is the one wanted
-abbrev pub on_word : List ℕ → List ℕ → Option Command → Option Command → Option Command
-on_word word wanted command other = if same_bytes word wanted then command else other
+-- what a word asks for, where it is the one wanted, and else the other
+abbrev pub on_word : {A : Type 0} → List ℕ → List ℕ → Option A → Option A → Option A
+on_word word wanted here other = if same_bytes word wanted then here else other
 
 -- the command that the fields of a line spell: by their number, and then by the word
 unfoldable pub command_of_fields : List (List ℕ) → Option Command

@@ -1,5 +1,5 @@
 -- The bytes of an image: header, slots, layout, and what recovery makes of an image.
-use Rattle.std.specs.Prelude.{◌≡◌, ℕ, ◌+◌, ◌*◌, List, [], ◌∷◌, ◌++◌, length, take, drop, Bool, not, ◌&&◌, Option, Some, None, slice_index, ◌==◌, if◌then◌else◌, codes}
+use Rattle.std.specs.Prelude.{◌≡◌, ℕ, ◌+◌, ◌*◌, List, [], ◌∷◌, ◌++◌, map, length, take, drop, Bool, not, ◌&&◌, Option, Some, None, slice_index, ◌==◌, if◌then◌else◌, codes}
 use Rattle.std.specs.Int.{w16, w32, to_be_bytes}
 use Rattle.std.specs.List.{flat_map}
 use Rattle.store_model.specs.declared.draw_kind.DrawKind.{DrawKind}
@@ -7,10 +7,15 @@ use Rattle.store_model.specs.declared.draw_kind.DrawKind.TheVariants.{Ruler, Sha
 use Rattle.store_model.specs.Lists.{zeros, zero_filled, numbers_below}
 use Rattle.store_model.specs.Parameters.{Parameters, IsParameters, block_len, gate_at, mark_blocks, mark_at, shadow_at, table_at, image_len}
 use Rattle.store_model.specs.Trees.{Tree, IsTree}
+use Rattle.store_model.specs.Pairs.{value_limit}
 use Rattle.store_model.specs.Labels.{label_bytes}
 use Rattle.store_model.specs.Draws.{draw_of}
 use Rattle.store_model.specs.Pages.{Cell, Page, Fits, pages}
 use Rattle.store_model.specs.Placement.{Table, place}
+
+-- the first byte of an image, an H: a disk that begins otherwise is no image
+abbrev pub first_byte : ℕ
+first_byte = 72
 
 abbrev pub kind_byte : DrawKind → ℕ
 kind_byte Ruler = 0
@@ -22,7 +27,7 @@ header p = zero_filled block_len (codes "HSTORE01" ++ to_be_bytes w32 p.slots ++
 
 abbrev pub value_bytes : Option (List ℕ) → List ℕ
 value_bytes None = []
-value_bytes (Some v) = to_be_bytes w16 (length v) ++ zero_filled 256 v
+value_bytes (Some v) = to_be_bytes w16 (length v) ++ zero_filled value_limit v
 
 -- the key, and at level 0 the value's length and the value, zero-filled
 unfoldable pub cell_bytes : Cell → List ℕ
@@ -36,6 +41,10 @@ page_bytes page = zero_filled block_len (1 ∷ label_bytes page.label ++ length 
 unfoldable pub slot_bytes : Option Page → List ℕ
 slot_bytes None = zeros block_len
 slot_bytes (Some page) = page_bytes page
+
+-- the slots of a table, each as its bytes
+abbrev pub slots_of : Table → List (List ℕ)
+slots_of table = map slot_bytes table
 
 -- the table as bytes
 unfoldable pub table_bytes : Table → List ℕ
@@ -74,9 +83,13 @@ recovered_slot slots image i = bytes_at image (if is_flag_set image && is_marked
 unfoldable pub recovered : ℕ → List ℕ → List ℕ
 recovered slots image = take block_len image ++ zeros (journal_len slots) ++ flat_map (recovered_slot slots image) (numbers_below slots)
 
--- what scrubbing leaves in slot i: zeros where byte 0 of what recovery leaves is 0, and else that
+-- what scrubbing makes of a slot: zeros where its byte 0 is 0, and else what it was
+unfoldable pub scrubbed_block : List ℕ → List ℕ
+scrubbed_block bytes = if slice_index bytes 0 == 0 then zeros block_len else bytes
+
+-- what scrubbing leaves in slot i, of what recovery leaves
 unfoldable pub scrubbed_slot : ℕ → List ℕ → ℕ → List ℕ
-scrubbed_slot slots image i = if slice_index (recovered_slot slots image i) 0 == 0 then zeros block_len else recovered_slot slots image i
+scrubbed_slot slots image i = scrubbed_block (recovered_slot slots image i)
 
 -- what scrubbing leaves of an image: the recovered image, with the slots whose byte 0 is 0 made zero
 unfoldable pub scrubbed : ℕ → List ℕ → List ℕ

@@ -5,6 +5,7 @@ use Rattle.std.specs.declared.cmp.Ordering.{Ordering}
 use Rattle.std.specs.Ordering.{nat_cmp}
 use Rattle.std.specs.Cmp.Lexicographic.{slice_cmp}
 use Rattle.store_model.specs.Lists.{IsBytes, zeros}
+use Rattle.store_model.specs.Paths.{key_len}
 
 -- what leads a group of pages: the start of the list, or a key
 pub data Lead : Type 0 where
@@ -20,7 +21,7 @@ pub record Label : Type 0 where
 -- a leader is a key of 124 bytes
 abbrev pub IsLead : Lead → Type 0
 IsLead Start = Unit {0}
-IsLead (Leader k) = (length k ≡ 124) × IsBytes k
+IsLead (Leader k) = (length k ≡ key_len) × IsBytes k
 
 pub record IsLabel (l : Label) : Type 0 where
   pub level : l.level < 256
@@ -29,7 +30,7 @@ pub record IsLabel (l : Label) : Type 0 where
 
 -- 0 and zeros for the start, 1 and the key for a leader
 abbrev pub lead_bytes : Lead → List ℕ
-lead_bytes Start = 0 ∷ zeros 124
+lead_bytes Start = 0 ∷ zeros key_len
 lead_bytes (Leader k) = 1 ∷ k
 
 -- the 130 bytes of a label

@@ -8,6 +8,7 @@ pub mod Draws
 pub mod Pages
 pub mod Placement
 pub mod Images
+pub mod PageMaps
 pub mod Commands
 pub mod Steps
 pub mod Grammar

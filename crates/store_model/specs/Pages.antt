@@ -4,7 +4,7 @@ use Rattle.std.specs.List.{filter, flat_map, enumerate_from, AllByRecursion}
 use Rattle.std.specs.List.Sorted.{IsStrictlySortedBy}
 use Rattle.store_model.specs.Lists.{IsBytes, runs, cut_before, numbers_below}
 use Rattle.store_model.specs.Parameters.{Parameters}
-use Rattle.store_model.specs.Paths.{key_cmp}
+use Rattle.store_model.specs.Paths.{key_len, key_cmp}
 use Rattle.store_model.specs.Pairs.{Pair, IsValue, pairs}
 use Rattle.store_model.specs.Trees.{Tree}
 use Rattle.store_model.specs.Labels.{Lead, Label, IsLabel}
@@ -86,7 +86,7 @@ IsCellValue level (Some v) = (level ≡ 0) × IsValue v
 IsCellValue level None = 0 < level
 
 pub record IsCell (level : ℕ) (cell : Cell) : Type 0 where
-  pub key_length : length cell.key ≡ 124
+  pub key_length : length cell.key ≡ key_len
   pub key_bytes : IsBytes cell.key
   pub value : IsCellValue level cell.value
 

@@ -5,7 +5,7 @@ use Rattle.std.specs.List.{flat_map, enumerate_from, AllByRecursion}
 use Rattle.std.specs.FinMap.{is_sorted}
 use Rattle.store_model.specs.Lists.{IsBytes, runs}
 use Rattle.store_model.specs.Parameters.{Parameters}
-use Rattle.store_model.specs.Paths.{Path, key, key_cmp}
+use Rattle.store_model.specs.Paths.{Path, key_len, key, key_cmp}
 use Rattle.store_model.specs.Trees.{Tree, Node}
 use Rattle.store_model.specs.Trees.Node.{Directory, File}
 
@@ -13,9 +13,13 @@ use Rattle.store_model.specs.Trees.Node.{Directory, File}
 abbrev pub Pair : Type 0
 Pair = List ℕ × List ℕ
 
--- the bytes of a file in one pair
+-- the longest value
+abbrev pub value_limit : ℕ
+value_limit = 256
+
+-- the bytes of a file in one pair: as many as a value has at most
 abbrev pub file_block : ℕ
-file_block = 256
+file_block = value_limit
 
 -- the value of a directory's one pair, and of the first pair of a file with n bytes
 abbrev pub directory_value : List ℕ
@@ -35,11 +39,11 @@ pairs t p = flat_map (λ e. node_pairs e.0 e.1 p) t
 
 -- what a value may be: 1 to 256 bytes
 abbrev pub IsValue : List ℕ → Type 0
-IsValue v = (1 ≤ length v) × (length v ≤ 256) × IsBytes v
+IsValue v = (1 ≤ length v) × (length v ≤ value_limit) × IsBytes v
 
 -- a pair has a key of 124 bytes and a value
 pub record IsPair (pair : Pair) : Type 0 where
-  pub key_length : length pair.0 ≡ 124
+  pub key_length : length pair.0 ≡ key_len
   pub key_bytes : IsBytes pair.0
   pub value : IsValue pair.1
 

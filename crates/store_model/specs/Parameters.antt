@@ -10,13 +10,23 @@ pub record Parameters : Type 0 where
   pub kind : DrawKind
   pub seed : List ℕ
 
--- the ranges: 1 to 16,384 slots, heights 1 to 8, a seed of 32 bytes
+-- the most slots, the greatest height, and the length of a seed
+abbrev pub slots_limit : ℕ
+slots_limit = 16384
+
+abbrev pub height_limit : ℕ
+height_limit = 8
+
+abbrev pub seed_len : ℕ
+seed_len = 32
+
+-- the ranges: at least one slot and one level
 pub record IsParameters (p : Parameters) : Type 0 where
   pub some_slot : 1 ≤ p.slots
-  pub slots_in_range : p.slots ≤ 16384
+  pub slots_in_range : p.slots ≤ slots_limit
   pub some_level : 1 ≤ p.height
-  pub height_in_range : p.height ≤ 8
-  pub seed_length : length p.seed ≡ 32
+  pub height_in_range : p.height ≤ height_limit
+  pub seed_length : length p.seed ≡ seed_len
   pub seed_bytes : IsBytes p.seed
 
 -- the bytes of a block, and of a slot

@@ -33,9 +33,16 @@ name_bytes p = flat_map (λ n. n ++ 0 ∷ []) p
 abbrev pub field_len : Path → ℕ
 field_len p = length (name_bytes p)
 
+-- the bytes of a path's field in a key, and of a key
+abbrev pub field_limit : ℕ
+field_limit = 120
+
+abbrev pub key_len : ℕ
+key_len = 124
+
 -- whether the field holds the path
 abbrev pub fits_field : Path → Bool
-fits_field p = nat_le (field_len p) 120
+fits_field p = nat_le (field_len p) field_limit
 
 -- a path is made of names and its field has at most 120 bytes
 abbrev pub is_path : Path → Bool
@@ -83,7 +90,7 @@ replanted old new p = new ++ drop (length old) p
 
 -- the 120 bytes of a path in a key
 unfoldable pub field : Path → List ℕ
-field p = zero_filled 120 (name_bytes p)
+field p = zero_filled field_limit (name_bytes p)
 
 -- the 124 bytes of a key: the path's field and a block number
 unfoldable pub key : Path → ℕ → List ℕ

@@ -50,6 +50,7 @@ page_cmp a b = label_cmp a.label b.label
 unfoldable pub place : Draw → List Page → Table
 place d pages = put_all d (replicate d.slots None) (in_order page_cmp pages)
 
+-- what a slot holds, as it is
 abbrev pub option_identity : Option Page → Option Page
 option_identity o = o
 

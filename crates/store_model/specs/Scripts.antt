@@ -30,15 +30,30 @@ answer_by t (Ok c) p = step t c p
 unfoldable pub answer : Tree → List ℕ → Parameters → Step
 answer t text p = if nat_lt line_limit (length text) then (record { reply = Refused refusals.Long; tree = t }) else answer_by t (parse text) p
 
--- the replies to questions, one after another from a tree, where each is answered by a step from the tree before it
+-- the answers to questions, one after another from a state, where each is answered from the state that those before
+-- it left. What answers a question gives the answer and the state after it
+unfoldable pub answers_by : {S Q A : Type 0} → (S → Q → A × S) → S → List Q → List A
+answers_by answered s [] = []
+answers_by answered s (question ∷ questions) = (answered s question).0 ∷ answers_by answered (answered s question).1 questions
+
+-- the state after them
+unfoldable pub state_by : {S Q A : Type 0} → (S → Q → A × S) → S → List Q → S
+state_by answered s [] = s
+state_by answered s (question ∷ questions) = state_by answered (answered s question).1 questions
+
+-- a reply and the tree after it, as an answer and a state
+abbrev pub by_step : {Q : Type 0} → (Tree → Q → Step) → Tree → Q → Reply × Tree
+by_step answered t question = ((answered t question).reply, (answered t question).tree)
+
+-- the replies to questions that steps from a tree answer
 unfoldable pub replies_by : {Q : Type 0} → (Tree → Q → Step) → Tree → List Q → List Reply
-replies_by answered t [] = []
-replies_by answered t (question ∷ questions) = (answered t question).reply ∷ replies_by answered (answered t question).tree questions
+unfolding answers_by
+replies_by answered t questions = answers_by (by_step answered) t questions
 
 -- the tree after them
 unfoldable pub tree_by : {Q : Type 0} → (Tree → Q → Step) → Tree → List Q → Tree
-tree_by answered t [] = t
-tree_by answered t (question ∷ questions) = tree_by answered (answered t question).tree questions
+unfolding state_by
+tree_by answered t questions = state_by (by_step answered) t questions
 
 -- the replies to the lines of a script, and the tree after them
 unfoldable pub replies : Tree → List (List ℕ) → Parameters → List Reply

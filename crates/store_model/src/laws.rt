@@ -2,8 +2,10 @@
 //! expect of them, proved for all values.
 
 pub mod images;
+pub mod page_maps;
 pub mod pages;
 pub mod pairs;
+pub mod paths;
 pub mod placement;
 pub mod scripts;
 pub mod trees;

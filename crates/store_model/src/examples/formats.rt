@@ -1,11 +1,12 @@
 //! Lengths of images, the header, and the bytes of slots.
 #![tactic(auto, unfolding(crate::specs::Compute::everything))]
 
-ghost use Rattle.std.specs.Prelude.{◌≡◌, ℕ, ◌+◌, ◌-◌, List, [], ◌∷◌, ◌++◌, codes, take, drop, length, Some, None};
-ghost use Rattle.store_model.specs.Lists.{zeros, zero_filled};
-ghost use Rattle.store_model.specs.Parameters.{image_len};
+ghost use Rattle.std.specs.Prelude.{◌≡◌, ℕ, ◌+◌, ◌-◌, List, [], ◌∷◌, ◌++◌, codes, take, drop, length, replicate, Some, None};
+ghost use Rattle.store_model.specs.declared.draw_kind.DrawKind.TheVariants.{Sha256};
+ghost use Rattle.store_model.specs.Lists.{zeros, zero_filled, numbers_below};
+ghost use Rattle.store_model.specs.Parameters.{mark_at, shadow_at, table_at, image_len};
 ghost use Rattle.store_model.specs.Labels.{label_bytes};
-ghost use Rattle.store_model.specs.Images.{header, slot_bytes, recovered_slot, scrubbed_slot};
+ghost use Rattle.store_model.specs.Images.{first_byte, header, slot_bytes, recovered_slot, scrubbed_slot};
 ghost use Rattle.store_model.specs.Examples.{ruler, start_label, led_label, page, directory_cell, key_cell, key_of};
 
 /// The lengths of images.
@@ -17,11 +18,28 @@ pub fn image_lengths()
     ensures largest { image_len 16384 ≡ 134246400 }
 {}
 
+/// Where the second of two slots has its mark, its shadow block and its place in the table: behind those of the
+/// first. What recovery leaves in it goes by its own mark.
+pub fn areas_of_the_second_slot()
+    ensures mark { mark_at 1 ≡ 8193 }
+    ensures shadow { shadow_at 2 1 ≡ 16384 }
+    ensures slot { table_at 2 1 ≡ 24576 }
+    ensures redone { recovered_slot 2 (zeros 4096 ++ 1 ∷ zeros 4095 ++ 0 ∷ 1 ∷ zeros 4094 ++ replicate 4096 5 ++ replicate 4096 6 ++ replicate 4096 7 ++ replicate 4096 8) 1 ≡ replicate 4096 6 }
+    ensures not_redone { recovered_slot 2 (zeros 4096 ++ 1 ∷ zeros 4095 ++ 1 ∷ zeros 4095 ++ replicate 4096 5 ++ replicate 4096 6 ++ replicate 4096 7 ++ replicate 4096 8) 1 ≡ replicate 4096 8 }
+{}
+
 /// The header of `format 1 1 ruler` with a seed of zeros.
 pub fn header_of_one_slot()
     ensures front { take 16 (header (ruler 1 1)) ≡
         0x48 ∷ 0x53 ∷ 0x54 ∷ 0x4f ∷ 0x52 ∷ 0x45 ∷ 0x30 ∷ 0x31 ∷ 0 ∷ 0 ∷ 0 ∷ 1 ∷ 1 ∷ 0 ∷ 1 ∷ 0 ∷ [] }
     ensures behind { drop 16 (header (ruler 1 1)) ≡ zeros 4080 }
+    ensures first { take 1 (header (ruler 1 1)) ≡ first_byte ∷ [] }
+{}
+
+/// The header of `format 16384 8 sha256` with a seed of the numbers below 32.
+pub fn header_of_the_largest_table()
+    ensures { header (record { slots = 16384; height = 8; kind = Sha256; seed = numbers_below 32 }) ≡
+        codes "HSTORE01" ++ 0 ∷ 0 ∷ 0x40 ∷ 0 ∷ 8 ∷ 1 ∷ 1 ∷ 0 ∷ numbers_below 32 ++ zeros 4048 }
 {}
 
 /// The slot of the directory `/a` in a table of one slot.
@@ -55,6 +73,7 @@ pub fn slot_of_a_file()
 pub fn recovered_and_scrubbed_slots()
     ensures kept { recovered_slot 1 (zeros 16384 ++ 0 ∷ 0x7f ∷ zeros 4094) 0 ≡ 0 ∷ 0x7f ∷ zeros 4094 }
     ensures scrubbed { scrubbed_slot 1 (zeros 16384 ++ 0 ∷ 0x7f ∷ zeros 4094) 0 ≡ zeros 4096 }
+    ensures not_scrubbed { scrubbed_slot 1 (zeros 16384 ++ 2 ∷ 0x7f ∷ zeros 4094) 0 ≡ 2 ∷ 0x7f ∷ zeros 4094 }
     ensures redone { recovered_slot 1 (zeros 4096 ++ 0x7f ∷ zeros 4095 ++ 1 ∷ zeros 4095 ++ 1 ∷ 2 ∷ zeros 8190) 0 ≡ 1 ∷ 2 ∷ zeros 4094 }
     ensures not_redone { recovered_slot 1 (zeros 8192 ++ 1 ∷ zeros 4095 ++ 1 ∷ 2 ∷ zeros 8190) 0 ≡ zeros 4096 }
     ensures not_marked { recovered_slot 1 (zeros 4096 ++ 0x7f ∷ zeros 8191 ++ 1 ∷ 2 ∷ zeros 8190) 0 ≡ zeros 4096 }

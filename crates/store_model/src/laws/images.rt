@@ -1,17 +1,18 @@
 //! Laws of recovery and layouts.
 #![tactic(auto)]
 
-ghost use Rattle.std.specs.Prelude.{◌≡◌, ℕ, List, length, Some, None};
-ghost use Rattle.store_model.specs.Parameters.{Parameters, IsParameters, image_len};
+ghost use Rattle.std.specs.Prelude.{◌≡◌, ◌≢◌, ℕ, ◌<◌, List, length, slice_index, Some, None};
+ghost use Rattle.store_model.specs.Lists.{zeros};
+ghost use Rattle.store_model.specs.Parameters.{Parameters, IsParameters, block_len, table_at, image_len};
 ghost use Rattle.store_model.specs.Trees.{Tree, IsTree};
 ghost use Rattle.store_model.specs.Pages.{Page, IsPage, Fits};
-ghost use Rattle.store_model.specs.Images.{header, slot_bytes, layout, recovered, Represents};
+ghost use Rattle.store_model.specs.Images.{header, slot_bytes, layout, bytes_at, recovered_slot, recovered, scrubbed_slot, scrubbed, Represents};
 
 /// A header is a block of 4,096 bytes, and so is a slot, empty or with a page in it.
 pub fn blocks_have_one_length()
-    ensures header { (p : Parameters) → IsParameters p → length (header p) ≡ 4096 }
-    ensures empty_slot { length (slot_bytes None) ≡ 4096 }
-    ensures page { (page : Page) → IsPage page → length (slot_bytes (Some page)) ≡ 4096 }
+    ensures header { (p : Parameters) → IsParameters p → length (header p) ≡ block_len }
+    ensures empty_slot { length (slot_bytes None) ≡ block_len }
+    ensures page { (page : Page) → IsPage page → length (slot_bytes (Some page)) ≡ block_len }
 {}
 
 /// The layout of a tree that fits has the length of an image with its parameters.
@@ -38,4 +39,33 @@ pub fn recovery_twice_is_recovery_once()
         length (recovered slots image) ≡ image_len slots }
     ensures same { (slots : ℕ) (image : List ℕ) → length image ≡ image_len slots →
         recovered slots (recovered slots image) ≡ recovered slots image }
+{}
+
+/// What recovery leaves in a slot stands at its place in the recovered image, and what scrubbing leaves in the
+/// scrubbed one.
+pub fn slots_stand_in_their_places()
+    ensures recovered { (slots : ℕ) (image : List ℕ) (i : ℕ) → length image ≡ image_len slots → i < slots →
+        bytes_at (recovered slots image) (table_at slots i) block_len ≡ recovered_slot slots image i }
+    ensures scrubbed { (slots : ℕ) (image : List ℕ) (i : ℕ) → length image ≡ image_len slots → i < slots →
+        bytes_at (scrubbed slots image) (table_at slots i) block_len ≡ scrubbed_slot slots image i }
+{}
+
+/// Scrubbing makes each slot whose byte 0 is 0 zero and keeps the others as recovery leaves them, and the length
+/// of the image. It leaves a layout as it is, scrubbing twice is scrubbing once, and neither recovery before it nor
+/// recovery after it changes what it leaves.
+pub fn scrubbing_twice_is_scrubbing_once()
+    ensures zero { (slots : ℕ) (image : List ℕ) (i : ℕ) → slice_index (recovered_slot slots image i) 0 ≡ 0 →
+        scrubbed_slot slots image i ≡ zeros block_len }
+    ensures kept { (slots : ℕ) (image : List ℕ) (i : ℕ) → slice_index (recovered_slot slots image i) 0 ≢ 0 →
+        scrubbed_slot slots image i ≡ recovered_slot slots image i }
+    ensures length { (slots : ℕ) (image : List ℕ) → length image ≡ image_len slots →
+        length (scrubbed slots image) ≡ image_len slots }
+    ensures layout { (t : Tree) (p : Parameters) → IsParameters p → IsTree t → Fits t p →
+        scrubbed p.slots (layout t p) ≡ layout t p }
+    ensures twice { (slots : ℕ) (image : List ℕ) → length image ≡ image_len slots →
+        scrubbed slots (scrubbed slots image) ≡ scrubbed slots image }
+    ensures of_recovered { (slots : ℕ) (image : List ℕ) → length image ≡ image_len slots →
+        scrubbed slots (recovered slots image) ≡ scrubbed slots image }
+    ensures recovered { (slots : ℕ) (image : List ℕ) → length image ≡ image_len slots →
+        recovered slots (scrubbed slots image) ≡ scrubbed slots image }
 {}

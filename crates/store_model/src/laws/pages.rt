@@ -1,7 +1,7 @@
 //! Laws of lists of pairs and their pages.
 #![tactic(auto)]
 
-ghost use Rattle.std.specs.Prelude.{◌≡◌, ℕ, ◌≤◌, ◌^◌, List, map, length, ◌&&◌, IsTrue, nat_le, count_by, if◌then◌else◌, ◌-◌, drop};
+ghost use Rattle.std.specs.Prelude.{◌≡◌, ℕ, ◌<◌, ◌≤◌, ◌^◌, List, ◌∷◌, ◌++◌, map, length, ◌&&◌, IsTrue, nat_le, count_by, if◌then◌else◌, ◌-◌, drop};
 ghost use Rattle.std.specs.Ordering.{eq_by_cmp};
 ghost use Rattle.std.specs.List.{flat_map, list_any, AllByRecursion, IsDistinct};
 ghost use Rattle.std.specs.List.Sorted.{IsStrictlySortedBy};
@@ -63,4 +63,17 @@ pub fn groups_are_cut_at_higher_keys()
     ensures led { (d : Draw) (s : List Pair) (level : ℕ) → AllByRecursion (IsLedGroup d level) (drop 1 (groups d s level)) }
     ensures highest { (d : Draw) (s : List Pair) → IsLawful d → length (groups d s (d.height - 1)) ≤ 1 }
     ensures highest_lead { (d : Draw) (cells : List Cell) → IsLawful d → lead_of d (d.height - 1) cells ≡ Start }
+{}
+
+/// A key parts the groups and pages of each level below its own: those in front of it are those of the pairs in front,
+/// and those from it on are those of the pairs from it on. On each level above its own they are those without it.
+pub fn keys_part_the_levels_below()
+    ensures groups_below { (d : Draw) (s : List Pair) (y : Pair) (t : List Pair) (level : ℕ) → level < d.level y.0 →
+        groups d (s ++ y ∷ t) level ≡ groups d s level ++ groups d (y ∷ t) level }
+    ensures pages_below { (d : Draw) (s : List Pair) (y : Pair) (t : List Pair) (level : ℕ) → level < d.level y.0 →
+        level_pages d (s ++ y ∷ t) level ≡ level_pages d s level ++ level_pages d (y ∷ t) level }
+    ensures groups_above { (d : Draw) (s : List Pair) (y : Pair) (t : List Pair) (level : ℕ) → d.level y.0 < level →
+        groups d (s ++ y ∷ t) level ≡ groups d (s ++ t) level }
+    ensures pages_above { (d : Draw) (s : List Pair) (y : Pair) (t : List Pair) (level : ℕ) → d.level y.0 < level →
+        level_pages d (s ++ y ∷ t) level ≡ level_pages d (s ++ t) level }
 {}

@@ -2,15 +2,15 @@
 #![tactic(auto)]
 
 ghost use Rattle.std.specs.Prelude.{◌≡◌, ℕ, ◌≤◌, List, map, length};
-ghost use Rattle.std.specs.List.{Contains, IsDistinct};
+ghost use Rattle.std.specs.List.{AllByRecursion, Contains, IsDistinct};
 ghost use Rattle.std.specs.List.Sorted.{IsPermutation};
 ghost use Rattle.std.specs.Ordering.{eq_by_cmp};
 ghost use Rattle.store_model.specs.Parameters.{Parameters, IsParameters};
 ghost use Rattle.store_model.specs.Trees.{Tree, IsTree};
 ghost use Rattle.store_model.specs.Labels.{label_cmp};
 ghost use Rattle.store_model.specs.Draws.{Draw, IsLawful, draw_of};
-ghost use Rattle.store_model.specs.Pages.{Page, Fits, pages};
-ghost use Rattle.store_model.specs.Placement.{Table, place, pages_in, HoldsPage, IsInOrder};
+ghost use Rattle.store_model.specs.Pages.{Page, IsPage, Fits, pages};
+ghost use Rattle.store_model.specs.Placement.{Table, place, pages_in, HoldsPage, IsInOrder, IsOrderedTable};
 
 /// Under each kind of draw every start lies in the table and every level below the height.
 pub fn draws_are_lawful()
@@ -31,16 +31,26 @@ pub fn placement_keeps_every_page_once()
 {}
 
 /// The table of pages with different labels is in order: each slot from a page's start up to its own holds a
-/// page of smaller label.
+/// page of smaller label. Where each of them can stand in a slot, it is an ordered table.
 pub fn placement_is_in_order()
-    ensures { (d : Draw) (pages : List Page) → IsLawful d → length pages ≤ d.slots →
+    ensures in_order { (d : Draw) (pages : List Page) → IsLawful d → length pages ≤ d.slots →
         IsDistinct (eq_by_cmp label_cmp) (map (λ page. page.label) pages) →
         IsInOrder d (place d pages) }
+    ensures ordered_table { (d : Draw) (pages : List Page) → IsLawful d → length pages ≤ d.slots →
+        IsDistinct (eq_by_cmp label_cmp) (map (λ page. page.label) pages) → AllByRecursion IsPage pages →
+        IsOrderedTable d (place d pages) }
 {}
 
-/// Two tables in order that hold the same pages, with different labels, are the same table. So a table in
-/// order is the placement of its pages, however it came about.
+/// Two ordered tables that hold the same pages are the same table, and an ordered table is the placement of its
+/// pages, however it came about: no label stands in it twice. The same holds of tables in order of other pages
+/// whose labels differ.
 pub fn order_makes_the_table_unique()
+    ensures one_ordered_table { (d : Draw) (a b : Table) → IsLawful d → IsOrderedTable d a → IsOrderedTable d b →
+        ((page : Page) → Contains (pages_in a) page → Contains (pages_in b) page) →
+        ((page : Page) → Contains (pages_in b) page → Contains (pages_in a) page) → a ≡ b }
+    ensures its_placement { (d : Draw) (table : Table) → IsLawful d → IsOrderedTable d table → table ≡ place d (pages_in table) }
+    ensures distinct_labels { (d : Draw) (table : Table) → IsLawful d → IsOrderedTable d table →
+        IsDistinct (eq_by_cmp label_cmp) (map (λ page. page.label) (pages_in table)) }
     ensures one_table { (d : Draw) (a b : Table) → IsLawful d → length a ≡ d.slots → length b ≡ d.slots →
         IsDistinct (eq_by_cmp label_cmp) (map (λ page. page.label) (pages_in a)) →
         IsPermutation (pages_in a) (pages_in b) → IsInOrder d a → IsInOrder d b → a ≡ b }
@@ -49,11 +59,11 @@ pub fn order_makes_the_table_unique()
         IsPermutation pages (pages_in table) → IsInOrder d table → table ≡ place d pages }
 {}
 
-/// The table of a tree that fits is in order, and each of the tree's pages stands in exactly one of its slots.
+/// The table of a tree that fits is an ordered table, and each of the tree's pages stands in exactly one of its slots.
 /// It is the only table in order of these pages.
 pub fn tree_has_one_table()
-    ensures in_order { (t : Tree) (p : Parameters) → IsParameters p → IsTree t → Fits t p →
-        IsInOrder (draw_of p) (place (draw_of p) (pages t p)) }
+    ensures ordered { (t : Tree) (p : Parameters) → IsParameters p → IsTree t → Fits t p →
+        IsOrderedTable (draw_of p) (place (draw_of p) (pages t p)) }
     ensures one_slot_each { (t : Tree) (p : Parameters) → IsParameters p → IsTree t → Fits t p →
         (page : Page) → Contains (pages t p) page →
         (slot : ℕ) × HoldsPage (place (draw_of p) (pages t p)) slot page

@@ -1,12 +1,14 @@
 //! Laws of steps and scripts.
 #![tactic(auto)]
 
-ghost use Rattle.std.specs.Prelude.{◌≡◌, ℕ, List, ◌++◌};
+ghost use Rattle.std.specs.Prelude.{◌≡◌, ℕ, List, ◌++◌, codes};
 ghost use Rattle.store_model.specs.declared.refusal.Refusal.{Refusal};
 ghost use Rattle.store_model.specs.Parameters.{Parameters};
 ghost use Rattle.store_model.specs.Trees.{Tree};
+ghost use Rattle.sha2.specs.Sha256.{sha256};
+ghost use Rattle.store_model.specs.Images.{layout};
 ghost use Rattle.store_model.specs.Commands.{Command};
-ghost use Rattle.store_model.specs.Commands.Reply.{Refused};
+ghost use Rattle.store_model.specs.Commands.Reply.{Refused, ImageDigest};
 ghost use Rattle.store_model.specs.Steps.{step};
 ghost use Rattle.store_model.specs.Scripts.{answer, replies_by, tree_by, replies, tree_after};
 
@@ -16,6 +18,11 @@ pub fn refused_command_leaves_the_tree()
         (step t c p).reply ≡ Refused r → (step t c p).tree ≡ t }
     ensures line { (t : Tree) (text : List ℕ) (p : Parameters) (r : Refusal) →
         (answer t text p).reply ≡ Refused r → (answer t text p).tree ≡ t }
+{}
+
+/// The line `digest` is answered by the SHA-256 of the whole image of the tree.
+pub fn digest_is_of_the_whole_image()
+    ensures { (t : Tree) (p : Parameters) → (answer t (codes "digest") p).reply ≡ ImageDigest (sha256 (layout t p)) }
 {}
 
 /// Lines that are cut in two parts answer as the first part and then the second, from the tree that the first
