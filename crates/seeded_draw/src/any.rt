@@ -25,10 +25,8 @@ impl AnyDraw {
         ensures { any_draw result ≡ draw_of params.now }
     {
         match params.kind() {
-            DrawKind::Ruler => AnyDraw::Ruler(RulerDraw::new(params.slots(), params.height())),
-            DrawKind::Sha256 => {
-                AnyDraw::Sha256(ShaDraw::new(params.seed(), params.slots(), params.height()))
-            }
+            DrawKind::Ruler => AnyDraw::Ruler(RulerDraw::new(params)),
+            DrawKind::Sha256 => AnyDraw::Sha256(ShaDraw::new(params)),
         }
     }
 }

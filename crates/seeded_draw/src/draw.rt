@@ -1,6 +1,7 @@
 //! What every draw offers.
 
 ghost use Rattle.std.specs.Prelude.{◌≡◌};
+ghost use Rattle.store_model.specs.Labels.{IsLabel};
 ghost use Rattle.store_model.specs.Draws as draws;
 
 use store_base::{Key, Label};
@@ -21,7 +22,8 @@ pub trait Draw {
 
     /// The slot at which the probe sequence of the label starts, below `slots`.
     fn start(&self, label: &Label) -> u32
-        ensures { result ≡ (drawn self.now).start label.now };
+        ensures value { result ≡ (drawn self.now).start label.now }
+        ensures valid { IsLabel label.now };
 
     /// The highest level on which the key stands, below `height`.
     fn level(&self, key: &Key) -> u8

@@ -7,7 +7,7 @@ ghost use Rattle.seeded_draw.specs.Drawn.{ruler_draw};
 ghost use Rattle.seeded_draw.specs.Lawful.{ruler_is_lawful};
 
 use crate::draw::Draw;
-use store_base::{Key, Label};
+use store_base::{Key, Label, Params};
 
 /// The draw `ruler`: the start of a label is the sum of its bytes, and the level of a key the number of
 /// letters `U` in its path. Small images can be worked out by hand with it.
@@ -20,14 +20,15 @@ pub struct RulerDraw {
 }
 
 impl RulerDraw {
-    /// The draw of a table with this number of slots and lists of this height, both at least 1.
-    pub fn new(slots: u32, height: u8) -> Self
-        requires some_slot { 1 ≤ slots }
-        requires some_level { 1 ≤ height }
-        ensures slots { result.slots ≡ slots }
-        ensures height { result.height ≡ height }
+    /// The draw of the slots and the height of these parameters, whatever kind they name.
+    pub fn new(params: &Params) -> Self
+        ensures slots { result.slots ≡ params.now.slots }
+        ensures height { result.height ≡ params.now.height }
     {
-        RulerDraw { slots, height }
+        RulerDraw {
+            slots: params.slots(),
+            height: params.height(),
+        }
     }
 }
 

@@ -9,7 +9,7 @@ ghost use Rattle.store_model.specs.Draws.{start_of_digest, level_of_digest, hex_
 
 use crate::draw::Draw;
 use sha2::{Digest, Sha256};
-use store_base::{Key, Label};
+use store_base::{Key, Label, Params};
 
 /// The slot that a digest draws, below `slots`: the number in its first eight bytes, high byte first,
 /// modulo `slots`, which is at least 1.
@@ -61,18 +61,16 @@ pub struct ShaDraw {
 }
 
 impl ShaDraw {
-    /// The draw of a seed, a table with this number of slots and lists of this height, both at least 1.
-    pub fn new(seed: [u8; 32], slots: u32, height: u8) -> Self
-        requires some_slot { 1 ≤ slots }
-        requires some_level { 1 ≤ height }
-        ensures seed { result.seed ≡ seed }
-        ensures slots { result.slots ≡ slots }
-        ensures height { result.height ≡ height }
+    /// The draw of the seed, the slots and the height of these parameters, whatever kind they name.
+    pub fn new(params: &Params) -> Self
+        ensures seed { result.seed ≡ params.now.seed }
+        ensures slots { result.slots ≡ params.now.slots }
+        ensures height { result.height ≡ params.now.height }
     {
         ShaDraw {
-            seed,
-            slots,
-            height,
+            seed: params.seed(),
+            slots: params.slots(),
+            height: params.height(),
         }
     }
 

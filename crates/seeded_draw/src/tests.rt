@@ -39,10 +39,10 @@ fn starts_at<D: Draw>(rt: &impl Abort, draw: &D, label: &Label, start: u32) {
 }
 
 #[test]
-fn ruler_starts(rt: HostRuntime) {
-    let two = RulerDraw::new(2, 2);
-    let four = RulerDraw::new(4, 2);
-    let eight = RulerDraw::new(8, 2);
+fn ruler_starts(rt: HostRuntime) -> Result<(), Fail> {
+    let two = RulerDraw::new(&Params::new(2, 2, DrawKind::Ruler, [0; 32])?);
+    let four = RulerDraw::new(&Params::new(4, 2, DrawKind::Ruler, [0; 32])?);
+    let eight = RulerDraw::new(&Params::new(8, 2, DrawKind::Ruler, [0; 32])?);
     starts_at(&rt, &four, &led(b'U', b'U'), 3);
     starts_at(&rt, &four, &led(b'U', b'a'), 3);
     starts_at(&rt, &two, &led(b'U', b'a'), 1);
@@ -53,16 +53,18 @@ fn ruler_starts(rt: HostRuntime) {
     starts_at(&rt, &eight, &led(b'U', b'D'), 2);
     starts_at(&rt, &eight, &led(b'U', b'E'), 3);
     starts_at(&rt, &eight, &led(b'U', b'd'), 2);
+    Ok(())
 }
 
 #[test]
-fn ruler_levels(rt: HostRuntime) {
-    let low = RulerDraw::new(4, 2);
-    let high = RulerDraw::new(4, 8);
+fn ruler_levels(rt: HostRuntime) -> Result<(), Fail> {
+    let low = RulerDraw::new(&Params::new(4, 2, DrawKind::Ruler, [0; 32])?);
+    let high = RulerDraw::new(&Params::new(4, 8, DrawKind::Ruler, [0; 32])?);
     assert_eq!(rt; high.level(&key(b'U', b'U', 0)), 2);
     assert_eq!(rt; low.level(&key(b'U', b'U', 0)), 1);
     assert_eq!(rt; high.level(&key(b'U', b'U', 1)), 0);
     assert_eq!(rt; high.level(&key(b'a', b'b', 0)), 0);
+    Ok(())
 }
 
 #[test]

@@ -4,3 +4,5 @@ pub mod Keys
 pub mod Leads
 pub mod Areas
 pub mod SlotsState
+pub mod Faults
+pub mod Examples

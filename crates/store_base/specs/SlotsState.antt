@@ -1,8 +1,9 @@
 -- What slots mean at one moment, and what a call on them does.
-use Rattle.std.specs.Prelude.{◌≡◌, ℕ, ◌≤◌, Bool, IsTrue, List, Some, Result, OnOk, OnErr, IfErr, slice_get, slice_set}
+use Rattle.std.specs.Prelude.{◌≡◌, ⊤, ℕ, Bool, IsTrue, List, length, Some, Result, OnOk, OnErr, IfErr, slice_get, slice_set}
+use Rattle.store_model.specs.Parameters.{block_len}
 use Rattle.store_base.specs.declared.store_fault.Fault.{Fault}
 use Rattle.store_base.specs.declared.store_fault.Fault.TheVariants.{Disk, NoMemory}
-use Rattle.store_base.specs.Counts.{Rose}
+use Rattle.store_base.specs.Faults.{disk_faults_after}
 
 -- Slots at one moment. Only where they are observable does the list of slots mean anything.
 pub record SlotsState : Type 0 where
@@ -25,17 +26,27 @@ IsObservable state = IsTrue state.is_observable
 abbrev pub TakesNone : SlotsState → Type 0
 TakesNone state = IsTrue state.takes_none
 
--- What comes with a fault: a disk's, that the count of faults rose; want of memory, that calls may take memory.
-abbrev pub HasCause : SlotsState → SlotsState → Fault → Type 0
-HasCause old new Disk = Rose old.faults new.faults
-HasCause old new NoMemory = ¬ TakesNone old
+-- there are so many slots
+abbrev pub IsCounted : SlotsState → Type 0
+IsCounted state = length state.slots ≡ state.count
 
--- what no call changes, and that the count of faults never falls
-pub record Continues (old new : SlotsState) : Type 0 where
+-- each slot has the bytes of a block
+abbrev pub AreWhole : List (List ℕ) → Type 0
+AreWhole slots = (i : ℕ) (slot : List ℕ) → slice_get slots i ≡ Some slot → length slot ≡ block_len
+
+-- What comes with a fault: want of memory, that calls may take memory. That of the disk has its cause in the count of faults.
+abbrev pub HasCause : SlotsState → Fault → Type 0
+HasCause old Disk = ⊤
+HasCause old NoMemory = ¬ TakesNone old
+
+-- What a call on slots, or several of which the first fault is the last, ensures of all slots, whether or not they tell
+-- their bytes. The count of faults is the same after Ok and after want of memory, and one more after a fault of the disk.
+pub record AreSlotCalls {T : Type 0} (old new : SlotsState) (result : Result T Fault) : Type 0 where
   pub count : new.count ≡ old.count
   pub observable : new.is_observable ≡ old.is_observable
   pub takes_none : new.takes_none ≡ old.takes_none
-  pub faults : old.faults ≤ new.faults
+  pub faults : new.faults ≡ disk_faults_after old.faults result
+  pub cause : IfErr result (HasCause old)
 
 -- what a read of a slot into a buffer does to slots that tell their bytes
 pub record GetsSlot {T : Type 0} (old new : SlotsState) (at : ℕ) (buffer : List ℕ) (result : Result T Fault) : Type 0 where
@@ -49,12 +60,10 @@ pub record SetsSlot {T : Type 0} (old new : SlotsState) (at : ℕ) (slot : List 
 
 -- a read of the slot at this place into a buffer, which then holds its bytes
 pub record IsGet {T : Type 0} (old new : SlotsState) (at : ℕ) (buffer : List ℕ) (result : Result T Fault) : Type 0 where
-  pub continues : Continues old new
-  pub cause : IfErr result (HasCause old new)
+  pub calls : AreSlotCalls old new result
   pub observed : IsObservable old → GetsSlot old new at buffer result
 
 -- a write of these bytes to the slot at this place
 pub record IsSet {T : Type 0} (old new : SlotsState) (at : ℕ) (slot : List ℕ) (result : Result T Fault) : Type 0 where
-  pub continues : Continues old new
-  pub cause : IfErr result (HasCause old new)
+  pub calls : AreSlotCalls old new result
   pub observed : IsObservable old → SetsSlot old new at slot result

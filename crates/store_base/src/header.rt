@@ -5,13 +5,13 @@ ghost use Rattle.std.specs.Int.{w32, to_be_bytes};
 ghost use Rattle.store_model.specs.Parameters.{Parameters, IsParameters};
 ghost use Rattle.store_model.specs.Images.{kind_byte, header};
 
-use crate::Slot;
 use crate::params::Params;
+use crate::{BLOCK, FIRST_BYTE, Slot};
 use byteorder::{BigEndian, ByteOrder};
 use store_model::DrawKind;
 
 /// The text that begins an image.
-const MAGIC: [u8; 8] = *b"HSTORE01";
+const MAGIC: [u8; 8] = [FIRST_BYTE, b'S', b'T', b'O', b'R', b'E', b'0', b'1'];
 
 /// The version of the format.
 const VERSION: u8 = 1;
@@ -50,7 +50,7 @@ pub fn write_header(params: &Params, block: &mut Slot)
     front[13] = byte_of(params.kind());
     front[14] = VERSION;
     front[16..].copy_from_slice(&params.seed());
-    *block = [0; 4096];
+    *block = [0; BLOCK];
     block[..48].copy_from_slice(&front);
 }
 
@@ -66,7 +66,7 @@ pub fn read_header(block: &Slot) -> Option<Params>
     let kind = kind_of(block[13])?;
     let params = Params::new(u32::from_be_bytes(slots), block[12], kind, seed).ok()?;
     // Every other byte of a header is as it is written.
-    let mut written = [0; 4096];
+    let mut written = [0; BLOCK];
     write_header(&params, &mut written);
     if written == *block {
         Some(params)

@@ -26,8 +26,20 @@ pub use store_fault::Fault;
 pub use store_model::{DrawKind, Refusal};
 pub use value::{Bytes, Value};
 
+/// The most slots that a table has.
+pub const MAX_SLOTS: u32 = 16_384;
+
+/// The most levels that a list has.
+pub const MAX_HEIGHT: u8 = 8;
+
+/// How many bytes a block of an image has, and so a slot of the table.
+pub const BLOCK: usize = 4096;
+
+/// The byte that an image begins with.
+pub const FIRST_BYTE: u8 = 0x48;
+
 /// The bytes of a slot of the table, and of each other block of an image.
-pub type Slot = [u8; 4096];
+pub type Slot = [u8; BLOCK];
 
 /// What a call of the tree's layer answers where no fault came: a value, or why the command is refused.
 pub type Answer<T> = Result<T, Refusal>;

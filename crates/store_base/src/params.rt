@@ -1,5 +1,6 @@
 //! Parameters.
 
+use crate::{MAX_HEIGHT, MAX_SLOTS};
 use std::marker::Model;
 use store_model::DrawKind;
 use thiserror::Error;
@@ -43,7 +44,7 @@ impl Params {
             (λ p. p ≡ record { slots = slots; height = height; kind = kind; seed = seed }) }
         ensures valid { IfOk result IsParameters }
     {
-        if slots < 1 || slots > 16384 || height < 1 || height > 8 {
+        if slots < 1 || slots > MAX_SLOTS || height < 1 || height > MAX_HEIGHT {
             return Err(BadParams);
         }
         Ok(Params {

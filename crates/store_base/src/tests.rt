@@ -1,7 +1,9 @@
 //! What no clause says: values worked out by hand, texts, and each public call once.
 
-ghost use Rattle.std.specs.Prelude.{◌≡◌, ◌<◌, ◌∷◌, [], true, OnOk, IfErr, slice_get, refl};
-ghost use Rattle.store_base.specs.SlotsState.{IsObservable, HasCause};
+ghost use Rattle.std.specs.Prelude.{◌≡◌, ◌≢◌, ◌<◌, ◌∷◌, [], ℕ, true, length, OnOk, slice_get, refl};
+ghost use Rattle.std.proofs.Common.{◌∙◌};
+ghost use Rattle.store_base.specs.SlotsState.{IsObservable, AreSlotCalls};
+ghost use Rattle.store_base.specs.Examples.{two_whole};
 
 use super::*;
 use std::test::Fail;
@@ -12,6 +14,7 @@ struct TwoSlots {
     first: Slot,
     second: Slot,
     faults: u64,
+    ghost whole: { (length first ≡ 4096) × (length second ≡ 4096) },
 }
 
 impl ReadSlots for TwoSlots {
@@ -23,7 +26,15 @@ impl ReadSlots for TwoSlots {
       takes_none = true;
     } };
 
+    ghost follows = { λ old new. new.second ≡ old.second };
+
     ghost counted = { λ s observable. refl };
+
+    ghost whole = { λ s observable. two_whole s.first s.second s.whole };
+
+    ghost follows_refl = { λ s. refl };
+
+    ghost follows_trans = { λ old mid new first then. then ∙ first };
 
     fn get(&mut self, at: u32, into: &mut Slot) -> Result<(), Fault> {
         *into = if at == 0 { self.first } else { self.second };
@@ -50,7 +61,10 @@ fn copy_slot<S: Slots>(slots: &mut S, from: u32, to: u32) -> Result<(), Fault>
     ensures copied { IsObservable (S.ReadSlots.state slots.old)
         → OnOk result (slice_get (S.ReadSlots.state slots.new).slots to
         ≡ slice_get (S.ReadSlots.state slots.old).slots from) }
-    ensures cause { IfErr result (HasCause (S.ReadSlots.state slots.old) (S.ReadSlots.state slots.new)) }
+    ensures others { IsObservable (S.ReadSlots.state slots.old)
+        → (i : ℕ) → i ≢ to → slice_get (S.ReadSlots.state slots.new).slots i ≡ slice_get (S.ReadSlots.state slots.old).slots i }
+    ensures calls { AreSlotCalls (S.ReadSlots.state slots.old) (S.ReadSlots.state slots.new) result }
+    ensures follows { S.ReadSlots.follows slots.old slots.new }
 {
     let mut slot = [0; 4096];
     slots.get(from, &mut slot)?;
