@@ -1,5 +1,5 @@
 pub mod Copying
 pub mod Crashes
 pub mod Images
-pub mod Ranges
 pub mod Recording
+pub mod Faults

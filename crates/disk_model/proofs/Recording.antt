@@ -50,7 +50,7 @@ IsRead-after_read memory at buffer value fit read =
     let sound = memory_is_sound memory in
     let time = Elapses-refl (memory_state memory) sound in
     record {
-      call = record { size = refl; observable = refl; faults = omega arith; writes = omega arith; syncs = omega arith; last_fault = fit.faults; last_write = fit.writes; last_sync = fit.syncs; cause = tt };
+      call = record { size = refl; observable = refl; faults = refl; rise = omega arith; writes = omega arith; syncs = omega arith; last_fault = fit.faults; last_write = fit.writes; last_sync = fit.syncs };
       observed = λ _. record {
         time = record { later = time.later; since = time.since };
         read = read;
@@ -69,7 +69,7 @@ IsWrite-refused_write memory at bytes error fit =
     let sound = memory_is_sound memory in
     let time = Elapses-refl (memory_state memory) sound in
     record {
-      call = record { size = refl; observable = refl; faults = omega (arith, fit.faults); writes = omega (arith, fit.writes); syncs = omega arith; last_fault = omega arith; last_write = omega arith; last_sync = fit.syncs; cause = omega arith };
+      call = record { size = refl; observable = refl; faults = refl; rise = omega (arith, fit.faults); writes = omega (arith, fit.writes); syncs = omega arith; last_fault = omega arith; last_write = omega arith; last_sync = fit.syncs };
       observed = λ _. record {
         time = record { later = time.later; since = time.since };
         written = tt;
@@ -87,7 +87,7 @@ IsSync-refused_sync memory error fit =
     let sound = memory_is_sound memory in
     let time = Elapses-refl (memory_state memory) sound in
     record {
-      call = record { size = refl; observable = refl; faults = omega (arith, fit.faults); writes = omega arith; syncs = omega (arith, fit.syncs); last_fault = omega arith; last_write = fit.writes; last_sync = omega arith; cause = omega arith };
+      call = record { size = refl; observable = refl; faults = refl; rise = omega (arith, fit.faults); writes = omega arith; syncs = omega (arith, fit.syncs); last_fault = omega arith; last_write = fit.writes; last_sync = omega arith };
       observed = λ _. record {
         time = record { later = time.later; since = time.since };
         bytes = refl;
@@ -114,7 +114,7 @@ IsSync-flushed memory value fit =
     (λ (past : IsCrashImageSince memory.bytes calls replaced (length calls) image). only_now memory.bytes calls replaced (length calls) image (omega arith) past)
     (since_cases memory.bytes memory.bytes Sync calls replaced replaced refl refl (length calls) image left) in
     record {
-      call = record { size = refl; observable = refl; faults = omega arith; writes = omega arith; syncs = omega (arith, fit.syncs); last_fault = fit.faults; last_write = fit.writes; last_sync = omega arith; cause = tt };
+      call = record { size = refl; observable = refl; faults = refl; rise = omega arith; writes = omega arith; syncs = omega (arith, fit.syncs); last_fault = fit.faults; last_write = fit.writes; last_sync = omega arith };
       observed = λ _. record {
         time = record { later = omega arith; since = λ t image le. (splits t image le, joins t image le) };
         bytes = refl;
@@ -219,7 +219,7 @@ module _ (memory : Memory) (at : ℕ) (bytes : List ℕ) (within : at + length b
       let splits = since_splits after.bytes memory.bytes (Write at n) memory.calls after.replaced memory.replaced undone_written replaced_before_written in
       let joins = since_joins after.bytes memory.bytes (Write at n) memory.calls after.replaced memory.replaced undone_written replaced_before_written in
       record {
-        call = record { size = same.same_length; observable = refl; faults = omega arith; writes = omega (arith, fit.writes); syncs = omega arith; last_fault = fit.faults; last_write = omega arith; last_sync = fit.syncs; cause = tt };
+        call = record { size = same.same_length; observable = refl; faults = refl; rise = omega arith; writes = omega (arith, fit.writes); syncs = omega arith; last_fault = fit.faults; last_write = omega arith; last_sync = fit.syncs };
         observed = λ _. record {
           time = record { later = omega arith; since = λ t image le. (splits t image le, joins t image le) };
           written = refl;

@@ -1,7 +1,7 @@
 -- What one call of a disk does, and what several calls after one another may leave.
-use Rattle.std.specs.Prelude.{◌≡◌, ◌↔◌, ◌⊎◌, ℕ, ◌+◌, ◌-◌, ◌^◌, ◌<◌, ◌≤◌, min, List, ◌++◌, length, take, drop, slice_index, Result, OnOk, OnErr}
+use Rattle.std.specs.Prelude.{◌≡◌, ◌↔◌, ◌⊎◌, ℕ, ◌+◌, ◌^◌, ◌<◌, ◌≤◌, List, length, take, drop, slice_index, Result, OnOk, OnErr}
 pub use Rattle.store_model.specs.Lists.{overwrite}
-pub use Rattle.store_base.specs.Counts.{raised_by, raised, Rose}
+pub use Rattle.store_base.specs.Counts.{raised_by, raised, Rose, faults_after}
 use Rattle.disk_model.specs.DiskState.{DiskState, IsObservable, IsDurable}
 
 -- as many bytes, each outside the range of n bytes at this offset as it was, those in the range whatever they are
@@ -32,15 +32,15 @@ pub record LeavesOnly (old new : DiskState) (P : List ℕ → Type 0) : Type 0 w
 pub record IsCall {T E : Type 0} (old new : DiskState) (result : Result T E) : Type 0 where
   pub size : new.size ≡ old.size
   pub observable : new.is_observable ≡ old.is_observable
+  -- each failed call is counted, and no other
+  pub faults : new.faults ≡ faults_after old.faults result
   -- no count falls, and none passes the last value of a u64
-  pub faults : old.faults ≤ new.faults
+  pub rise : old.faults ≤ new.faults
   pub writes : old.writes ≤ new.writes
   pub syncs : old.syncs ≤ new.syncs
   pub last_fault : new.faults < 2 ^ 64
   pub last_write : new.writes < 2 ^ 64
   pub last_sync : new.syncs < 2 ^ 64
-  -- an error comes only where the count of faults rose
-  pub cause : OnErr result (Rose old.faults new.faults)
 
 -- what a read into a buffer does to a disk that tells its bytes
 pub record ReadsBytes {T E : Type 0} (old new : DiskState) (at : ℕ) (buffer : List ℕ) (result : Result T E) : Type 0 where

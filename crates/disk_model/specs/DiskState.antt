@@ -1,5 +1,5 @@
 -- What a disk means at one moment, and what is said of it there.
-use Rattle.std.specs.Prelude.{◌^◌, ◌<◌, ◌≡◌, ℕ, ◌≤◌, Bool, IsTrue, List, length}
+use Rattle.std.specs.Prelude.{◌≡◌, ℕ, ◌≤◌, Bool, IsTrue, List, length}
 
 -- A disk at one moment. Only where it is observable do its bytes, crash images, writes and syncs mean anything.
 pub record DiskState : Type 1 where
@@ -27,10 +27,6 @@ IsObservable disk = IsTrue disk.is_observable
 -- a crash leaves exactly what a read gives
 abbrev pub IsDurable : DiskState → Type 0
 IsDurable disk = (image : List ℕ) → disk.crash_images image → image ≡ disk.bytes
-
--- writes and syncs are far from the last value of a u64, so that their counts are exact for as many calls again
-abbrev pub CountsExactly : DiskState → Type 0
-CountsExactly disk = (disk.writes < 2 ^ 63) × (disk.syncs < 2 ^ 63)
 
 -- each image that a crash at this moment may leave has P
 abbrev pub MayLeaveOnly : DiskState → (List ℕ → Type 0) → Type 0

@@ -1,5 +1,5 @@
 //! One write that is durable before the next step: what a commit record needs.
-ghost use Rattle.std.specs.Prelude.{◌≡◌, ◌+◌, ◌≤◌, length, OnOk};
+ghost use Rattle.std.specs.Prelude.{◌≡◌, ◌⊎◌, ◌+◌, ◌≤◌, length, OnOk};
 ghost use Rattle.disk_model.specs.DiskState.{IsObservable, IsDurable};
 ghost use Rattle.disk_model.specs.DiskCalls.{LeavesOnly, SameOutside, IsCall, overwrite, raised};
 
@@ -26,6 +26,8 @@ pub fn write_durably<D: Disk>(disk: &mut D, at: u64, bytes: &[u8]) -> Result<(),
     ensures write_count { IsObservable (D.state disk.old) → (D.state disk.new).writes ≡ raised (D.state disk.old).writes }
     ensures sync_count { IsObservable (D.state disk.old) → OnOk result ((D.state disk.new).syncs ≡ raised (D.state disk.old).syncs) }
     ensures no_more_syncs { IsObservable (D.state disk.old) → (D.state disk.new).syncs ≤ raised (D.state disk.old).syncs }
+    // after a write that failed there is no sync
+    ensures synced_if_written { IsObservable (D.state disk.old) → ((D.state disk.new).syncs ≡ (D.state disk.old).syncs) ⊎ ((D.state disk.new).bytes ≡ overwrite (D.state disk.old).bytes at bytes.now) }
 {
     disk.write_at(at, bytes)?;
     disk.sync()

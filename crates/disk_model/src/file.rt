@@ -9,8 +9,7 @@ use std::os::unix::fs::FileExt;
 use store_base::DiskFault;
 
 /// An open file of fixed length as a disk. An interrupted call is made again; every other error of the system is a
-/// fault, and so is a read or a write that
-/// moves nothing. A sync is of the data alone: the length does not change.
+/// fault, and so is a read or a write that moves nothing. A sync is of the data alone: the length does not change.
 #[derive(Drop)]
 pub struct FileDisk {
     file: File,

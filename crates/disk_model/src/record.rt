@@ -32,9 +32,7 @@ pub fn note(calls: &mut Vec<Call>, call: Call)
     ensures items { calls.new.items ≡ calls.old.items ++ call ∷ [] }
     ensures capacity { vec_capacity calls.old ≤ vec_capacity calls.new }
 {
-    let Ok(()) = calls.push(call) else {
-        unreachable!()
-    };
+    calls.push_reserved(call);
 }
 
 /// Keeps bytes that a write is about to replace in the memory that was taken for them.

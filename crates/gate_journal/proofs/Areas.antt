@@ -38,6 +38,11 @@ pub table_blocks : (slots : ℕ) → 4096 * (table_at slots 0 / 4096) ≡ table_
 unfolding table_at
 table_blocks slots = omega arith
 
+-- the header, the gate block, and the blocks of marks and shadow
+pub blocks_before_table : (slots : ℕ) → table_at slots 0 ≡ 4096 * (2 + (mark_blocks slots + slots))
+unfolding table_at
+blocks_before_table slots = omega arith
+
 -- an image is whole blocks
 pub image_blocks : (slots : ℕ) → 4096 * (image_len slots / 4096) ≡ image_len slots
 unfolding image_len

@@ -1,10 +1,9 @@
 -- What several calls of a disk make together.
-use Rattle.std.proofs.Common.{◌≡◌, ℕ, ◌+◌, ◌≤◌, List, length, arith, Result, Ok, Err, OnOk, IsErr, refl, sym, subst, ◌∙◌}
+use Rattle.std.proofs.Common.{◌≡◌, ℕ, ◌+◌, ◌^◌, ◌<◌, ◌≤◌, List, length, arith, Result, Ok, Err, OnOk, IsErr, refl, sym, ap, subst, ◌∙◌}
 use Rattle.std.proofs.lemmas.Bool.{false≢true}
 use Rattle.disk_model.specs.DiskState.{DiskState, IsObservable, IsDurable, IsSound}
-use Rattle.disk_model.specs.DiskCalls.{raised_by, overwrite, IsCall, IsWrite, IsSync}
-use Rattle.store_base.proofs.Counts.{Rose-earlier}
-use Rattle.gate_journal.specs.Places.{IsApart, AreCalls, Made, Makes, Keeps, Reaches}
+use Rattle.disk_model.specs.DiskCalls.{raised_by, faults_after, overwrite, IsCall, IsWrite, IsSync}
+use Rattle.gate_journal.specs.Places.{IsApart, AreCalls, Made, Makes, Keeps, Reaches, ReadsOnly}
 use Rattle.gate_journal.proofs.Places.{Keeps-trans, Keeps-sync, Keeps-write}
 
 -- no call
@@ -12,10 +11,10 @@ pub AreCalls-none : {T E : Type 0} (disk : DiskState) (value : T) → AreCalls {
 AreCalls-none disk value = record {
   size = refl;
   observable = refl;
-  faults = omega arith;
+  faults = refl;
+  rise = omega arith;
   writes = omega arith;
   syncs = omega arith;
-  cause = tt;
 }
 
 -- one call
@@ -24,83 +23,65 @@ AreCalls-one old new result call = record {
   size = call.size;
   observable = call.observable;
   faults = call.faults;
+  rise = call.rise;
   writes = call.writes;
   syncs = call.syncs;
-  cause = call.cause;
 }
 
 -- some calls that answered Ok, and then others
-pub AreCalls-then : {T E U F : Type 0} (old mid new : DiskState) (first : Result U F) (result : Result T E) → AreCalls old mid first → AreCalls mid new result → AreCalls old new result
-AreCalls-then old mid new first (Ok value) before then = record {
+pub AreCalls-then : {T E U F : Type 0} (old mid new : DiskState) (value : U) (result : Result T E) → AreCalls {E = F} old mid (Ok value) → AreCalls mid new result → AreCalls old new result
+AreCalls-then old mid new value result before then = record {
   size = then.size ∙ before.size;
   observable = then.observable ∙ before.observable;
-  faults = omega (arith, before.faults, then.faults);
+  faults = then.faults ∙ ap (λ (n : ℕ). faults_after n result) before.faults;
+  rise = omega (arith, before.rise, then.rise);
   writes = omega (arith, before.writes, then.writes);
   syncs = omega (arith, before.syncs, then.syncs);
-  cause = tt;
 }
-AreCalls-then old mid new first (Err error) before then = record {
-  size = then.size ∙ before.size;
-  observable = then.observable ∙ before.observable;
-  faults = omega (arith, before.faults, then.faults);
-  writes = omega (arith, before.writes, then.writes);
-  syncs = omega (arith, before.syncs, then.syncs);
-  cause = Rose-earlier old.faults mid.faults new.faults before.faults then.cause;
+
+-- the same calls, where as many of them failed by another answer
+pub AreCalls-as : {T E U F : Type 0} (old new : DiskState) (result : Result T E) (other : Result U F) → faults_after old.faults result ≡ faults_after old.faults other → AreCalls old new result → AreCalls old new other
+AreCalls-as old new result other same calls = record {
+  size = calls.size;
+  observable = calls.observable;
+  faults = calls.faults ∙ same;
+  rise = calls.rise;
+  writes = calls.writes;
+  syncs = calls.syncs;
 }
 
 -- a fault that is handed on
 pub AreCalls-failed : {T E U F : Type 0} (old new : DiskState) (error : F) (other : E) → AreCalls {T = U} old new (Err error) → AreCalls {T = T} old new (Err other)
-AreCalls-failed old new error other calls = record {
-  size = calls.size;
-  observable = calls.observable;
-  faults = calls.faults;
-  writes = calls.writes;
-  syncs = calls.syncs;
-  cause = calls.cause;
-}
+AreCalls-failed old new error other = AreCalls-as old new (Err error) (Err other) refl
 
 -- a value in place of another
 pub AreCalls-answered : {T E U F : Type 0} (old new : DiskState) (value : U) (other : T) → AreCalls {E = F} old new (Ok value) → AreCalls {E = E} old new (Ok other)
-AreCalls-answered old new value other calls = record {
-  size = calls.size;
-  observable = calls.observable;
-  faults = calls.faults;
-  writes = calls.writes;
-  syncs = calls.syncs;
-  cause = tt;
-}
+AreCalls-answered old new value other = AreCalls-as old new (Ok value) (Ok other) refl
 
 pub observable_after : {T E : Type 0} (old new : DiskState) (result : Result T E) → AreCalls old new result → IsObservable old → IsObservable new
 observable_after old new result calls observable = calls.observable ∙ observable
 
+-- several calls, behind which no count has passed the last value of a u64
+pub IsCall-of : {T E : Type 0} (old new : DiskState) (result : Result T E) → new.faults < 2 ^ 64 → new.writes < 2 ^ 64 → new.syncs < 2 ^ 64 → AreCalls old new result → IsCall old new result
+IsCall-of old new result last_fault last_write last_sync calls = record {
+  last_fault = last_fault;
+  last_write = last_write;
+  last_sync = last_sync;
+  size = calls.size;
+  observable = calls.observable;
+  faults = calls.faults;
+  rise = calls.rise;
+  writes = calls.writes;
+  syncs = calls.syncs;
+}
+
 -- some calls that answered Ok, and then one more or several
 pub IsCall-then : {T E U F : Type 0} (old mid new : DiskState) (value : U) (result : Result T E) → AreCalls {E = F} old mid (Ok value) → IsCall mid new result → IsCall old new result
 IsCall-then old mid new value result before then =
-    let calls = AreCalls-then old mid new (Ok value) result before (AreCalls-one mid new result then) in
-    record {
-      size = calls.size;
-      observable = calls.observable;
-      faults = calls.faults;
-      writes = calls.writes;
-      syncs = calls.syncs;
-      last_fault = then.last_fault;
-      last_write = then.last_write;
-      last_sync = then.last_sync;
-      cause = calls.cause;
-    }
+    IsCall-of old new result then.last_fault then.last_write then.last_sync (AreCalls-then old mid new value result before (AreCalls-one mid new result then))
 
 pub IsCall-failed : {T E U F : Type 0} (old new : DiskState) (error : F) (other : E) → IsCall {T = U} old new (Err error) → IsCall {T = T} old new (Err other)
-IsCall-failed old new error other call = record {
-  size = call.size;
-  observable = call.observable;
-  faults = call.faults;
-  writes = call.writes;
-  syncs = call.syncs;
-  last_fault = call.last_fault;
-  last_write = call.last_write;
-  last_sync = call.last_sync;
-  cause = call.cause;
-}
+IsCall-failed old new error other call = IsCall-of old new (Err other) call.last_fault call.last_write call.last_sync (AreCalls-failed old new error other (AreCalls-one old new (Err error) call))
 
 on_ok : {T E : Type 0} (result : Result T E) (P : Type 0) → P → OnOk result P
 on_ok (Ok value) P here = here
@@ -120,6 +101,32 @@ Made-as old new w s v t writes syncs made = record {
   write_count = omega (arith, made.write_count);
   sync_count = omega (arith, made.sync_count);
 }
+
+-- calls that are exactly so many writes and syncs, whatever they answer
+pub Makes-exactly : {T E : Type 0} (old new : DiskState) (result : Result T E) (w s : ℕ) → new.writes ≡ raised_by old.writes w → new.syncs ≡ raised_by old.syncs s → Makes w s old new result
+Makes-exactly old new result w s writes syncs = record {
+  write_count = on_ok result (new.writes ≡ raised_by old.writes w) writes;
+  sync_count = on_ok result (new.syncs ≡ raised_by old.syncs s) syncs;
+  write_limit = omega arith;
+  sync_limit = omega arith;
+}
+
+-- reads alone
+pub Made-reads : (old new : DiskState) → ReadsOnly old new → Made 0 0 old new
+Made-reads old new reads = record { write_count = omega (arith, reads.write_count); sync_count = omega (arith, reads.sync_count) }
+
+pub Makes-reads : {T E U F : Type 0} (old new : DiskState) (call_result : Result U F) (result : Result T E) → IsCall old new call_result → ReadsOnly old new → Makes 0 0 old new result
+Makes-reads old new call_result result call reads =
+    Makes-exactly old new result 0 0 (omega (arith, reads.write_count, call.last_write)) (omega (arith, reads.sync_count, call.last_sync))
+
+-- so many writes and syncs that were made in calls that answered Ok
+pub Makes-made : {T E : Type 0} (old new : DiskState) (result : Result T E) (w s : ℕ) → new.writes < 2 ^ 64 → new.syncs < 2 ^ 64 → Made w s old new → Makes w s old new result
+Makes-made old new result w s fit_writes fit_syncs made =
+    Makes-exactly old new result w s (omega (arith, fit_writes, made.write_count)) (omega (arith, fit_syncs, made.sync_count))
+
+-- as many, in other words
+pub Makes-as : {T E : Type 0} (old new : DiskState) (result : Result T E) (w s v t : ℕ) → w ≡ v → s ≡ t → Makes w s old new result → Makes v t old new result
+Makes-as old new result w s v t writes syncs = subst (λ (n : ℕ). Makes w s old new result → Makes n t old new result) writes (subst (λ (n : ℕ). Makes w s old new result → Makes w n old new result) syncs (λ makes. makes))
 
 module _ {T E : Type 0} (old new : DiskState) (result : Result T E) (observable : IsObservable old) where
   pub Makes-write : (at : ℕ) (bytes : List ℕ) → IsWrite old new at bytes result → Makes 1 0 old new result
@@ -164,6 +171,16 @@ Makes-then old mid new (Err error) w s v t before then = record {
 -- a fault that is handed on, where there may have been more writes and syncs
 pub Makes-failed : {T E U F : Type 0} (old new : DiskState) (error : F) (other : E) (w s v t : ℕ) → w ≤ v → s ≤ t → Makes {T = U} w s old new (Err error) → Makes {T = T} v t old new (Err other)
 Makes-failed old new error other w s v t writes syncs makes = record {
+  write_count = tt;
+  sync_count = tt;
+  write_limit = omega (arith, makes.write_limit);
+  sync_limit = omega (arith, makes.sync_limit);
+}
+
+-- an error, with no more writes and syncs
+pub Makes-short : {T E U F : Type 0} (old new : DiskState) (first : Result U F) (result : Result T E) (w s v t : ℕ) → IsErr result → w ≤ v → s ≤ t → Makes w s old new first → Makes v t old new result
+Makes-short old new first (Ok value) w s v t fails writes syncs makes = absurd (false≢true fails)
+Makes-short old new first (Err error) w s v t fails writes syncs makes = record {
   write_count = tt;
   sync_count = tt;
   write_limit = omega (arith, makes.write_limit);

@@ -8,8 +8,10 @@ pub mod Phases
 pub mod Committing
 pub mod Stages
 pub mod Reading
+pub mod Counting
 pub mod Redoing
 pub mod Recovering
 pub mod Recoveries
 pub mod Formatting
 pub mod Layouts
+pub mod Wiping

@@ -1,18 +1,28 @@
 -- The loops over the changed slots, one step on and at the end.
-use Rattle.std.proofs.Common.{◌≡◌, ℕ, ◌+◌, ◌*◌, ◌<◌, List, length, refl, sym, ap, ◌∙◌, subst, inl, inr, arith, add-one, Result, Ok, IsErr}
+use Rattle.std.proofs.Common.{◌≡◌, ℕ, ◌+◌, ◌*◌, ◌<◌, List, refl, sym, ap, ◌∙◌, subst, inl, inr, arith, add-one, Result, Ok, IsErr}
 use borrow.Author.Count.{below_more}
+use Rattle.store_model.specs.Lists.{zeros}
 use Rattle.store_model.specs.Parameters.{mark_at, shadow_at, table_at}
+use Rattle.gate_journal.specs.declared.commit.Pass.{Pass}
+use Rattle.gate_journal.specs.declared.commit.Pass.TheVariants.{Journal, Table, Erase}
 use Rattle.disk_model.specs.DiskState.{DiskState, IsObservable, IsSound}
-use Rattle.disk_model.specs.DiskCalls.{IsWrite, IsSync, overwrite}
-use Rattle.gate_journal.specs.Places.{IsApart, SameAt, Keeps, Reaches, Makes, Comes}
-use Rattle.gate_journal.specs.Changes.{Changes, AreChanges, OutsideEntry, OutsideJournal, OutsideTable, HasEntry, with_first}
+use Rattle.disk_model.specs.DiskCalls.{IsSync, overwrite}
+use Rattle.gate_journal.specs.Places.{SameAt, Keeps, Reaches, Makes, Comes}
+use Rattle.gate_journal.specs.Changes.{Changes, AreChanges, OutsideEntry, HasEntry, with_first}
+use Rattle.gate_journal.specs.Passes.{slot_writes, OutsideWrite, HasWritten, OutsidePass, HasPassed}
 use Rattle.gate_journal.proofs.Areas.{areas}
-use Rattle.gate_journal.proofs.Places.{Keeps-trans, Keeps-weaken, Keeps-write, bytes_at-same}
-use Rattle.gate_journal.proofs.Calls.{Made-then, Made-as, Makes-write, Reaches-sync, Reaches-fault}
+use Rattle.gate_journal.proofs.Places.{Keeps-trans, Keeps-weaken, bytes_at-same}
+use Rattle.gate_journal.proofs.Calls.{Made-then, Made-as, Reaches-sync, Reaches-fault}
 
--- the places outside all changed slots' journal are outside that of one
-pub outside_one : (slots : ℕ) (changes : Changes) (k slot : ℕ) → k < changes.count → slot ≡ changes.slot k → (place : ℕ) → OutsideJournal slots changes place → OutsideEntry slots slot place
-outside_one slots changes k slot below is place outside = subst (λ (s : ℕ). OutsideEntry slots s place) (sym is) (outside k below)
+-- the places outside all changed slots are outside one of them
+pub outside_one : (pass : Pass) (slots : ℕ) (changes : Changes) (k slot : ℕ) → k < changes.count → slot ≡ changes.slot k → (place : ℕ) → OutsidePass pass slots changes place → OutsideWrite pass slots slot place
+outside_one pass slots changes k slot below is place outside = subst (λ (s : ℕ). OutsideWrite pass slots s place) (sym is) (outside k below)
+
+-- the writes for one more slot
+pub writes_more : (pass : Pass) (k : ℕ) → slot_writes pass * k + slot_writes pass ≡ slot_writes pass * (k + 1)
+writes_more Journal k = omega arith
+writes_more Table k = omega arith
+writes_more Erase k = omega arith
 
 -- a write to the journal of another slot leaves this one's
 pub HasEntry-kept : (slots slot other mark : ℕ) (shadow a b : List ℕ) → other < slot → slot < slots → SameAt (OutsideEntry slots slot) a b → HasEntry slots other mark shadow a → HasEntry slots other mark shadow b
@@ -34,45 +44,31 @@ HasEntry-kept slots slot other mark shadow a b rises below same entry =
 
 module _ (slots : ℕ) (changes : Changes) (valid : AreChanges slots changes) where
   -- one more slot's journal
-  pub entries_step : {E : Type 0} (mark : ℕ) (content : ℕ → List ℕ) (old mid new : DiskState) (k : ℕ) → k < changes.count → IsSound mid → (slot : ℕ) (shadow : List ℕ) → slot ≡ changes.slot k → shadow ≡ content k
-      → Comes (OutsideJournal slots changes) (λ image. (j : ℕ) → j < k → HasEntry slots (changes.slot j) mark (content j) image) (2 * k) old mid
-      → Reaches {T = Unit {0}} {E = E} (OutsideEntry slots slot) (HasEntry slots slot mark shadow) mid new (Ok tt) → Makes {T = Unit {0}} {E = E} 2 0 mid new (Ok tt)
-      → Comes (OutsideJournal slots changes) (λ image. (j : ℕ) → j < k + 1 → HasEntry slots (changes.slot j) mark (content j) image) (2 * (k + 1)) old new
-  entries_step mark content old mid new k below sound slot shadow is shadow_is comes reaches makes =
-      let reads : SameAt (OutsideEntry slots (changes.slot k)) mid.bytes new.bytes = subst (λ (s : ℕ). SameAt (OutsideEntry slots s) mid.bytes new.bytes) is reaches.keeps.reads in
-      let here : HasEntry slots (changes.slot k) mark (content k) new.bytes =
-      subst (λ (s : ℕ). HasEntry slots s mark (content k) new.bytes) is (subst (λ (l : List ℕ). HasEntry slots slot mark l new.bytes) shadow_is reaches.done) in
-      record {
-        keeps = Keeps-trans (OutsideJournal slots changes) old mid new sound comes.keeps (Keeps-weaken (OutsideEntry slots slot) (OutsideJournal slots changes) mid new (outside_one slots changes k slot below is) reaches.keeps);
-        done =
-            below_more (λ (j : ℕ). HasEntry slots (changes.slot j) mark (content j) new.bytes) k
-            (λ j before.
-            HasEntry-kept slots (changes.slot k) (changes.slot j) mark (content j) mid.bytes new.bytes (valid.rising j k before below) (valid.below k below) reads (comes.done j before))
-            here;
-        made = Made-as old new (2 * k + 2) 0 (2 * (k + 1)) 0 (omega arith) refl (Made-then old mid new tt (2 * k) 0 2 0 comes.made makes);
-      }
+  entries_more : (mark : ℕ) (content : ℕ → List ℕ) (a b : List ℕ) (k : ℕ) → k < changes.count → SameAt (OutsideEntry slots (changes.slot k)) a b → ((j : ℕ) → j < k → HasEntry slots (changes.slot j) mark (content j) a) → HasEntry slots (changes.slot k) mark (content k) b
+      → (j : ℕ) → j < k + 1 → HasEntry slots (changes.slot j) mark (content j) b
+  entries_more mark content a b k below same before here =
+      below_more (λ (j : ℕ). HasEntry slots (changes.slot j) mark (content j) b) k
+      (λ j earlier. HasEntry-kept slots (changes.slot k) (changes.slot j) mark (content j) a b (valid.rising j k earlier below) (valid.below k below) same (before j earlier)) here
 
-  -- one more slot of the table
-  pub table_step : {E : Type 0} (old mid new : DiskState) (k : ℕ) → k < changes.count → IsObservable mid → IsSound mid → (at slot : ℕ) (bytes : List ℕ) → slot ≡ changes.slot k → at ≡ table_at slots slot → bytes ≡ changes.bytes k
-      → Comes (OutsideTable slots changes) (λ image. image ≡ with_first slots changes k old.bytes) k old mid
-      → IsWrite {T = Unit {0}} {E = E} mid new at bytes (Ok tt)
-      → Comes (OutsideTable slots changes) (λ image. image ≡ with_first slots changes (k + 1) old.bytes) (k + 1) old new
-  table_step old mid new k below observable sound at slot bytes is there bytes_is comes write =
-      let place_is : at ≡ table_at slots (changes.slot k) = there ∙ ap (table_at slots) is in
-      let whole : length bytes ≡ 4096 = ap length bytes_is ∙ valid.whole k below in
+  passed_more : (pass : Pass) (start a b : List ℕ) (k : ℕ) → k < changes.count → SameAt (OutsideWrite pass slots (changes.slot k)) a b → HasPassed pass slots changes k start a → HasWritten pass slots (changes.slot k) (changes.bytes k) a b → HasPassed pass slots changes (k + 1) start b
+  passed_more Journal start a b k below same before here = entries_more 1 changes.bytes a b k below same before here
+  passed_more Table start a b k below same before here =
+      here ∙ ap (λ (l : List ℕ). overwrite l (table_at slots (changes.slot k)) (changes.bytes k)) before ∙ ap (λ (n : ℕ). with_first slots changes n start) (sym (add-one k))
+  passed_more Erase start a b k below same before here = entries_more 0 (λ _. zeros 4096) a b k below same before here
+
+  -- one more slot
+  pub pass_step : {E : Type 0} (pass : Pass) (old mid new : DiskState) (k : ℕ) → k < changes.count → IsSound mid → (slot : ℕ) (bytes : List ℕ) → slot ≡ changes.slot k → bytes ≡ changes.bytes k
+      → Comes (OutsidePass pass slots changes) (HasPassed pass slots changes k old.bytes) (slot_writes pass * k) old mid
+      → Reaches {T = Unit {0}} {E = E} (OutsideWrite pass slots slot) (HasWritten pass slots slot bytes mid.bytes) mid new (Ok tt) → Makes {T = Unit {0}} {E = E} (slot_writes pass) 0 mid new (Ok tt)
+      → Comes (OutsidePass pass slots changes) (HasPassed pass slots changes (k + 1) old.bytes) (slot_writes pass * (k + 1)) old new
+  pass_step pass old mid new k below sound slot bytes is bytes_is comes reaches makes =
+      let reads : SameAt (OutsideWrite pass slots (changes.slot k)) mid.bytes new.bytes = subst (λ (s : ℕ). SameAt (OutsideWrite pass slots s) mid.bytes new.bytes) is reaches.keeps.reads in
+      let here : HasWritten pass slots (changes.slot k) (changes.bytes k) mid.bytes new.bytes =
+      subst (λ (s : ℕ). HasWritten pass slots s (changes.bytes k) mid.bytes new.bytes) is (subst (λ (l : List ℕ). HasWritten pass slots slot l mid.bytes new.bytes) bytes_is reaches.done) in
       record {
-        keeps =
-            Keeps-trans (OutsideTable slots changes) old mid new sound comes.keeps
-            (Keeps-write (OutsideTable slots changes) mid new (Ok tt) observable at bytes
-            (λ place outside. subst (λ (n : ℕ). IsApart at n place) (sym whole) (subst (λ (from : ℕ). IsApart from 4096 place) (sym place_is) (outside k below)))
-            write);
-        done =
-            (write.observed observable).written
-            ∙ ap (λ (l : List ℕ). overwrite l at bytes) comes.done
-            ∙ ap (λ (from : ℕ). overwrite (with_first slots changes k old.bytes) from bytes) place_is
-            ∙ ap (overwrite (with_first slots changes k old.bytes) (table_at slots (changes.slot k))) bytes_is
-            ∙ ap (λ (n : ℕ). with_first slots changes n old.bytes) (sym (add-one k));
-        made = Made-then old mid new tt k 0 1 0 comes.made (Makes-write mid new (Ok tt) observable at bytes write);
+        keeps = Keeps-trans (OutsidePass pass slots changes) old mid new sound comes.keeps (Keeps-weaken (OutsideWrite pass slots slot) (OutsidePass pass slots changes) mid new (outside_one pass slots changes k slot below is) reaches.keeps);
+        done = passed_more pass old.bytes mid.bytes new.bytes k below reads comes.done here;
+        made = Made-as old new (slot_writes pass * k + slot_writes pass) 0 (slot_writes pass * (k + 1)) 0 (writes_more pass k) refl (Made-then old mid new tt (slot_writes pass * k) 0 (slot_writes pass) 0 comes.made makes);
       }
 
 -- a fault in the midst of a loop

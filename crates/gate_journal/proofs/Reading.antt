@@ -1,23 +1,15 @@
 -- Calls that read only.
-use Rattle.std.proofs.Common.{◌≡◌, ℕ, ◌+◌, ◌-◌, ◌<◌, ◌≤◌, List, length, take, drop, slice_index, refl, sym, ap, ◌∙◌, subst, arith, Result, Ok, inl, inr, get_or-take, get_or-drop}
+use Rattle.std.proofs.Common.{◌≡◌, ℕ, ◌+◌, ◌-◌, ◌<◌, ◌≤◌, List, length, take, drop, slice_index, sym, ap, ◌∙◌, subst, arith, Result, Ok, inl, inr, get_or-take, get_or-drop}
 use Rattle.std.proofs.lemmas.Bool.{cases_lt}
 use Rattle.std.proofs.lemmas.List.{length-replicate, get_or-replicate}
 use Rattle.store_model.specs.Lists.{zeros}
 use Rattle.disk_model.specs.DiskState.{DiskState, IsObservable, IsDurable, IsSound}
 use Rattle.disk_model.specs.DiskCalls.{IsRead, overwrite}
 use Rattle.disk_model.proofs.Images.{take-drop-overwrite}
-use Rattle.disk_model.proofs.Crashes.{LeavesOnly-refl, LeavesOnly-trans, LeavesOnly-weaken}
+use Rattle.disk_model.proofs.Crashes.{LeavesOnly-weaken}
 use Rattle.gate_journal.specs.Places.{IsApart, SameAt, TornOutside, Keeps, Reaches, ReadsOnly, IsZeroAt}
+pub use Rattle.gate_journal.specs.ReadingLaws.{ReadsOnly-refl, ReadsOnly-trans}
 use Rattle.gate_journal.proofs.Places.{SameAt-refl, Keeps-trans, Keeps-weaken}
-
-pub ReadsOnly-refl : (disk : DiskState) → IsSound disk → ReadsOnly disk disk
-ReadsOnly-refl disk sound = record {
-  leaves = LeavesOnly-refl disk disk.crash_images sound (λ image here. here);
-  bytes = refl;
-  crash = λ image. (λ here. here, λ here. here);
-  write_count = refl;
-  sync_count = refl;
-}
 
 pub ReadsOnly-read : {T E : Type 0} (old new : DiskState) (result : Result T E) (at : ℕ) (buffer : List ℕ) → IsObservable old → IsRead old new at buffer result → ReadsOnly old new
 ReadsOnly-read old new result at buffer observable read =
@@ -29,15 +21,6 @@ ReadsOnly-read old new result at buffer observable read =
       write_count = effect.write_count;
       sync_count = effect.sync_count;
     }
-
-pub ReadsOnly-trans : (old mid new : DiskState) → ReadsOnly old mid → ReadsOnly mid new → ReadsOnly old new
-ReadsOnly-trans old mid new first then = record {
-  leaves = LeavesOnly-trans old mid new old.crash_images first.leaves (LeavesOnly-weaken mid new mid.crash_images old.crash_images (λ image. (first.crash image).0) then.leaves);
-  bytes = then.bytes ∙ first.bytes;
-  crash = λ image. (λ here. (first.crash image).0 ((then.crash image).0 here), λ here. (then.crash image).1 ((first.crash image).1 here));
-  write_count = then.write_count ∙ first.write_count;
-  sync_count = then.sync_count ∙ first.sync_count;
-}
 
 pub Keeps-reads : (places : ℕ → Type 0) (old new : DiskState) → ReadsOnly old new → Keeps places old new
 Keeps-reads places old new reads = record {

@@ -57,7 +57,7 @@ module _ (slots from to : ℕ) (old mid : DiskState) (fits : to ≤ slots) (slot
 
 -- The marked slots of one block of marks more.
 module _ (slots first to : ℕ) (old mid new : DiskState) (fits : to ≤ slots) (begins : first ≤ to) (sound : IsSound mid) (keeps : Keeps (OutsideMarked slots 0 slots old.bytes) old mid) where
-  mark_stays : (i : ℕ) → i < slots → is_marked mid.bytes i ≡ is_marked old.bytes i
+  pub mark_stays : (i : ℕ) → i < slots → is_marked mid.bytes i ≡ is_marked old.bytes i
   unfolding is_marked
   mark_stays i below =
       ap (λ (b : ℕ). not (b == 0))

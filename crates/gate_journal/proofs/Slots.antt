@@ -23,7 +23,7 @@ block-flat_map f n first (suc count) (suc i) lengths below =
     ∙ ap (λ (l : List ℕ). take n (drop (n * i) l)) (drop_at (f first) rest n (lengths first (omega arith)))
     ∙ block-flat_map f n (suc first) count i (λ j low. lengths j (omega arith)) (omega arith) ∙ ap f there
 
-take_split : (n m : ℕ) (xs : List ℕ) → take (n + m) xs ≡ take n xs ++ take m (drop n xs)
+pub take_split : (n m : ℕ) (xs : List ℕ) → take (n + m) xs ≡ take n xs ++ take m (drop n xs)
 take_split n m xs =
     let le : n ≤ n + m = omega arith in
     sym (take-append-drop n (take (n + m) xs)) ∙ ap (λ (l : List ℕ). l ++ drop n (take (n + m) xs)) (take-take n (n + m) xs le) ∙ ap (λ (l : List ℕ). take n xs ++ l) (drop-take n m xs)

@@ -1,7 +1,7 @@
 -- Slots of a table that are to be changed together, and an image with these slots changed.
 use Rattle.std.specs.Prelude.{◌≡◌, ◌⊎◌, ℕ, zero, suc, ◌<◌, List, length, slice_index, Result, OnOk}
 use Rattle.store_model.specs.Lists.{zeros}
-use Rattle.store_model.specs.Parameters.{mark_at, shadow_at, table_at}
+use Rattle.store_model.specs.Parameters.{block_len, mark_at, shadow_at, table_at}
 use Rattle.store_model.specs.Images.{bytes_at, recovered}
 use Rattle.disk_model.specs.DiskState.{DiskState, IsDurable}
 use Rattle.disk_model.specs.DiskCalls.{overwrite, LeavesOnly}
@@ -18,7 +18,7 @@ pub record Changes : Type 0 where
 pub record AreChanges (slots : ℕ) (changes : Changes) : Type 0 where
   pub rising : (j k : ℕ) → j < k → k < changes.count → changes.slot j < changes.slot k
   pub below : (k : ℕ) → k < changes.count → changes.slot k < slots
-  pub whole : (k : ℕ) → k < changes.count → length (changes.bytes k) ≡ 4096
+  pub whole : (k : ℕ) → k < changes.count → length (changes.bytes k) ≡ block_len
 
 -- the image with the first n of the slots changed
 abbrev pub with_first : ℕ → Changes → ℕ → List ℕ → List ℕ
@@ -37,7 +37,7 @@ pub record RecoversToEither (slots : ℕ) (old new image : List ℕ) : Type 0 wh
 -- a place outside the mark and the shadow block of a slot
 pub record OutsideEntry (slots slot place : ℕ) : Type 0 where
   pub mark : IsApart (mark_at slot) 1 place
-  pub shadow : IsApart (shadow_at slots slot) 4096 place
+  pub shadow : IsApart (shadow_at slots slot) block_len place
 
 -- a place outside the marks and the shadow blocks of the changed slots
 abbrev pub OutsideJournal : ℕ → Changes → ℕ → Type 0
@@ -45,12 +45,12 @@ OutsideJournal slots changes place = (k : ℕ) → k < changes.count → Outside
 
 -- a place outside the changed slots of the table
 abbrev pub OutsideTable : ℕ → Changes → ℕ → Type 0
-OutsideTable slots changes place = (k : ℕ) → k < changes.count → IsApart (table_at slots (changes.slot k)) 4096 place
+OutsideTable slots changes place = (k : ℕ) → k < changes.count → IsApart (table_at slots (changes.slot k)) block_len place
 
 -- the mark and the shadow block of a slot
 pub record HasEntry (slots slot mark : ℕ) (shadow : List ℕ) (image : List ℕ) : Type 0 where
   pub mark_is : slice_index image (mark_at slot) ≡ mark
-  pub shadow_is : bytes_at image (shadow_at slots slot) 4096 ≡ shadow
+  pub shadow_is : bytes_at image (shadow_at slots slot) block_len ≡ shadow
 
 -- the first n of the changed slots are marked, and their shadow blocks hold the new bytes
 abbrev pub AreJournaled : ℕ → Changes → ℕ → List ℕ → Type 0
@@ -58,7 +58,7 @@ AreJournaled slots changes n image = (k : ℕ) → k < n → HasEntry slots (cha
 
 -- the marks and shadow blocks of the first n of the changed slots are zero
 abbrev pub AreErased : ℕ → Changes → ℕ → List ℕ → Type 0
-AreErased slots changes n image = (k : ℕ) → k < n → HasEntry slots (changes.slot k) 0 (zeros 4096) image
+AreErased slots changes n image = (k : ℕ) → k < n → HasEntry slots (changes.slot k) 0 (zeros block_len) image
 
 -- A commit of the changes: an image that a crash at any moment of it may leave is as long and recovers to the old image or
 -- to the one with the slots changed, and so does what is read after a fault; after Ok the disk is durable and reads the

@@ -1,7 +1,10 @@
 pub mod Changes
+pub mod Passes
 pub mod Phases
 pub mod Places
+pub mod ReadingLaws
 pub mod Recovery
 pub mod ViewState
 pub mod Formats
 pub mod View
+pub mod Wipes

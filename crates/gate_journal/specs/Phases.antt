@@ -2,34 +2,34 @@
 use Rattle.std.specs.Prelude.{◌≡◌, ℕ, ◌<◌, ◌≤◌, List, ◌++◌, take, slice_index, true, false, if◌then◌else◌}
 use Rattle.std.specs.List.{flat_map}
 use Rattle.store_model.specs.Lists.{zeros, numbers_below}
-use Rattle.store_model.specs.Parameters.{shadow_at, table_at}
+use Rattle.store_model.specs.Parameters.{block_len, gate_at, shadow_at, table_at}
 use Rattle.store_model.specs.Images.{bytes_at, is_flag_set, is_marked, journal_len}
 
 -- a slot of the table as it stands in the image
 abbrev pub table_slot : ℕ → List ℕ → ℕ → List ℕ
-table_slot slots image i = bytes_at image (table_at slots i) 4096
+table_slot slots image i = bytes_at image (table_at slots i) block_len
 
 -- the slot that the journal of the image has in its place: its shadow block where it is marked
 abbrev pub redo_slot : ℕ → List ℕ → ℕ → List ℕ
-redo_slot slots image i = bytes_at image (if is_marked image i then shadow_at slots i else table_at slots i) 4096
+redo_slot slots image i = bytes_at image (if is_marked image i then shadow_at slots i else table_at slots i) block_len
 
 -- the image has the header and the table of the target
 pub record HasTable (slots : ℕ) (target image : List ℕ) : Type 0 where
-  pub header : take 4096 image ≡ take 4096 target
+  pub header : take block_len image ≡ take block_len target
   pub table : (i : ℕ) → i < slots → table_slot slots image i ≡ table_slot slots target i
 
 -- the image has the header of the target, and its journal leads to the table of the target
 pub record HasRedo (slots : ℕ) (target image : List ℕ) : Type 0 where
-  pub header : take 4096 image ≡ take 4096 target
+  pub header : take block_len image ≡ take block_len target
   pub redo : (i : ℕ) → i < slots → redo_slot slots image i ≡ table_slot slots target i
 
 -- gate block, marks and shadow are zero
 abbrev pub HasEmptyJournal : ℕ → List ℕ → Type 0
-HasEmptyJournal slots image = (place : ℕ) → 4096 ≤ place → place < table_at slots 0 → slice_index image place ≡ 0
+HasEmptyJournal slots image = (place : ℕ) → gate_at ≤ place → place < table_at slots 0 → slice_index image place ≡ 0
 
 -- the header and the table of the image, with an empty journal between
 abbrev pub settled : ℕ → List ℕ → List ℕ
-settled slots image = take 4096 image ++ zeros (journal_len slots) ++ flat_map (table_slot slots image) (numbers_below slots)
+settled slots image = take block_len image ++ zeros (journal_len slots) ++ flat_map (table_slot slots image) (numbers_below slots)
 
 -- what the journal does, one phase after another
 pub data JournalPhase : Type 0 where

@@ -1,7 +1,8 @@
 -- What writes that spare some places of a disk leave as it was.
-use Rattle.std.specs.Prelude.{◌≡◌, ◌⊎◌, ◌↔◌, ℕ, ◌+◌, ◌-◌, ◌^◌, min, ◌<◌, ◌≤◌, List, length, slice_index, Result, OnOk, OnErr}
-use Rattle.disk_model.specs.DiskState.{DiskState}
-use Rattle.disk_model.specs.DiskCalls.{raised_by, Rose, LeavesOnly}
+use Rattle.std.specs.Prelude.{◌≡◌, ◌⊎◌, ◌↔◌, ℕ, ◌+◌, ◌-◌, ◌^◌, min, ◌<◌, ◌≤◌, List, length, slice_index, Result, Ok, OnOk}
+use Rattle.store_base.specs.declared.fault.DiskFault.{DiskFault}
+use Rattle.disk_model.specs.DiskState.{DiskState, IsObservable}
+use Rattle.disk_model.specs.DiskCalls.{raised_by, faults_after, LeavesOnly}
 
 -- a place outside the range of n places from this one on
 abbrev pub IsApart : ℕ → ℕ → ℕ → Type 0
@@ -22,15 +23,15 @@ pub record Keeps (places : ℕ → Type 0) (old new : DiskState) : Type 0 where
   pub leaves : LeavesOnly old new (TornOutside places old.crash_images)
   pub reads : SameAt places old.bytes new.bytes
 
--- what several calls ensure of every disk, whether or not it tells its bytes: its size stays, no count falls, and an
--- error comes only where the count of faults rose
+-- What several calls ensure of every disk, whether or not it tells its bytes: its size stays, and no count falls. Where
+-- they answer Ok none failed, and otherwise one did.
 pub record AreCalls {T E : Type 0} (old new : DiskState) (result : Result T E) : Type 0 where
   pub size : new.size ≡ old.size
   pub observable : new.is_observable ≡ old.is_observable
-  pub faults : old.faults ≤ new.faults
+  pub faults : new.faults ≡ faults_after old.faults result
+  pub rise : old.faults ≤ new.faults
   pub writes : old.writes ≤ new.writes
   pub syncs : old.syncs ≤ new.syncs
-  pub cause : OnErr result (Rose old.faults new.faults)
 
 -- so many writes and syncs were made, as far as the counts go
 pub record Made (writes syncs : ℕ) (old new : DiskState) : Type 0 where
@@ -56,6 +57,10 @@ pub record Comes (places : ℕ → Type 0) (Done : List ℕ → Type 0) (writes 
   pub done : Done new.bytes
   pub made : Made writes 0 old new
 
+-- what such a loop keeps: no call has failed so far, and a disk that tells its bytes has come so far
+abbrev pub ComesSoFar : (ℕ → Type 0) → (List ℕ → Type 0) → ℕ → DiskState → DiskState → Type 0
+ComesSoFar places Done writes old new = record { calls : AreCalls {T = Unit {0}} {E = DiskFault} old new (Ok tt); comes : IsObservable old → Comes places Done writes old new }
+
 -- Calls that read only: the disk reads the same, a crash may leave the same, and nothing was written or synced.
 pub record ReadsOnly (old new : DiskState) : Type 0 where
   pub leaves : LeavesOnly old new old.crash_images
@@ -67,3 +72,8 @@ pub record ReadsOnly (old new : DiskState) : Type 0 where
 -- n bytes of the image, from this place on, are zero
 abbrev pub IsZeroAt : ℕ → ℕ → List ℕ → Type 0
 IsZeroAt at n image = (place : ℕ) → at ≤ place → place < at + n → slice_index image place ≡ 0
+
+-- What a loop over reads keeps: no call has failed so far, and a disk that tells its bytes was read only, and what was read
+-- shows this of it.
+abbrev pub ReadsSoFar : Type 0 → DiskState → DiskState → Type 0
+ReadsSoFar Holds old new = record { calls : AreCalls {T = Unit {0}} {E = DiskFault} old new (Ok tt); reads : IsObservable old → ReadsOnly old new; holds : IsObservable old → Holds }

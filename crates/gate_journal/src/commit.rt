@@ -1,17 +1,29 @@
 //! How changed slots are committed: into the journal, and behind the commit flag into the table.
 ghost use Rattle.std.specs.Prelude.{◌≡◌, ℕ, ◌+◌, ◌*◌, ◌<◌, ◌≤◌, [], ◌∷◌, OnOk};
-ghost use Rattle.store_model.specs.Parameters.{image_len};
+ghost use Rattle.store_model.specs.Parameters.{image_len, slots_limit, gate_at};
 ghost use Rattle.disk_model.specs.DiskState.{DiskState, IsObservable, IsDurable};
 ghost use Rattle.disk_model.specs.DiskCalls.{IsCall, Rose, overwrite};
 ghost use Rattle.gate_journal.specs.Places.{IsApart, AreCalls, Reaches, Makes};
 ghost use Rattle.gate_journal.specs.Phases.{HasEmptyJournal};
-ghost use Rattle.gate_journal.specs.Changes.{AreChanges, HasEntry, AreJournaled, AreErased, OutsideEntry, OutsideJournal, OutsideTable, with_slots, Commits};
+ghost use Rattle.gate_journal.specs.Changes.{AreChanges, HasEntry, OutsideEntry, Commits};
+ghost use Rattle.gate_journal.specs.Passes.{slot_writes, OutsideWrite, HasWritten, OutsidePass, HasPassed};
 
 use crate::changes::SlotChanges;
 use disk_model::Disk;
-use store_base::{DiskFault, Slot, gate_at, mark_at, shadow_at, table_at};
+use store_base::{BLOCK, DiskFault, Slot, gate_at, mark_at, shadow_at, table_at};
 
-// Writes the shadow block and the mark of a slot.
+/// What a pass over the changed slots writes of each of them.
+#[derive(Clone, Copy)]
+enum Pass {
+    /// Its new bytes into its shadow block, and its mark.
+    Journal,
+    /// Its new bytes into the table.
+    Table,
+    /// Zeros into its shadow block and its mark.
+    Erase,
+}
+
+/// Writes the shadow block and the mark of a slot.
 fn write_entry<D: Disk>(
     disk: &mut D,
     slots: u32,
@@ -19,7 +31,7 @@ fn write_entry<D: Disk>(
     shadow: &Slot,
     mark: u8,
 ) -> Result<(), DiskFault>
-    requires in_range { slots ≤ 16384 }
+    requires in_range { slots ≤ slots_limit }
     requires below { slot < slots }
     requires size { (D.state disk.old).size ≡ image_len slots }
     ensures call { IsCall (D.state disk.old) (D.state disk.new) result }
@@ -31,11 +43,11 @@ fn write_entry<D: Disk>(
     disk.write_at(mark_at(slot), &[mark])
 }
 
-// Writes the commit flag, by itself, and makes it durable.
+/// Writes the commit flag, by itself, and makes it durable.
 pub fn write_flag<D: Disk>(disk: &mut D, flag: u8) -> Result<(), DiskFault>
-    requires { 4097 ≤ (D.state disk.old).size }
+    requires { gate_at + 1 ≤ (D.state disk.old).size }
     ensures call { IsCall (D.state disk.old) (D.state disk.new) result }
-    ensures reaches { IsObservable (D.state disk.old) → Reaches (IsApart 4096 1) (λ image. image ≡ overwrite (D.state disk.old).bytes 4096 (flag ∷ [])) (D.state disk.old) (D.state disk.new) result }
+    ensures reaches { IsObservable (D.state disk.old) → Reaches (IsApart gate_at 1) (λ image. image ≡ overwrite (D.state disk.old).bytes gate_at (flag ∷ [])) (D.state disk.old) (D.state disk.new) result }
     ensures durable { IsObservable (D.state disk.old) → OnOk result (IsDurable (D.state disk.new)) }
     ensures makes { IsObservable (D.state disk.old) → Makes 1 1 (D.state disk.old) (D.state disk.new) result }
 {
@@ -43,80 +55,61 @@ pub fn write_flag<D: Disk>(disk: &mut D, flag: u8) -> Result<(), DiskFault>
     disk.sync()
 }
 
-// Puts the new bytes of each changed slot into its shadow block, and marks it.
-fn write_journal<D: Disk, S: SlotChanges>(
+/// Writes of a changed slot what this pass writes, where `bytes` are the new bytes of the slot.
+fn write_slot<D: Disk>(
+    disk: &mut D,
+    slots: u32,
+    slot: u32,
+    bytes: &Slot,
+    pass: Pass,
+) -> Result<(), DiskFault>
+    requires in_range { slots ≤ slots_limit }
+    requires below { slot < slots }
+    requires size { (D.state disk.old).size ≡ image_len slots }
+    ensures call { IsCall (D.state disk.old) (D.state disk.new) result }
+    ensures reaches { IsObservable (D.state disk.old) → Reaches (OutsideWrite pass slots slot) (HasWritten pass slots slot bytes.now (D.state disk.old).bytes) (D.state disk.old) (D.state disk.new) result }
+    ensures makes { IsObservable (D.state disk.old) → Makes (slot_writes pass) 0 (D.state disk.old) (D.state disk.new) result }
+    ensures wrote { IsObservable (D.state disk.old) → Rose (D.state disk.old).writes (D.state disk.new).writes }
+{
+    match pass {
+        Pass::Journal => write_entry(disk, slots, slot, bytes, 1),
+        Pass::Table => disk.write_at(table_at(slots, slot), bytes),
+        Pass::Erase => write_entry(disk, slots, slot, &[0; BLOCK], 0),
+    }
+}
+
+/// Goes over the changed slots, writes of each what this pass writes, and makes that durable.
+fn write_slots<D: Disk, S: SlotChanges>(
     disk: &mut D,
     slots: u32,
     changes: &S,
+    pass: Pass,
 ) -> Result<(), DiskFault>
-    requires in_range { slots ≤ 16384 }
+    requires in_range { slots ≤ slots_limit }
     requires size { (D.state disk.old).size ≡ image_len slots }
     requires changes { AreChanges slots (S.changes changes.now) }
     ensures call { IsCall (D.state disk.old) (D.state disk.new) result }
-    ensures reaches { IsObservable (D.state disk.old) → Reaches (OutsideJournal slots (S.changes changes.now)) (AreJournaled slots (S.changes changes.now) (S.changes changes.now).count) (D.state disk.old) (D.state disk.new) result }
+    ensures reaches { IsObservable (D.state disk.old) → Reaches (OutsidePass pass slots (S.changes changes.now)) (HasPassed pass slots (S.changes changes.now) (S.changes changes.now).count (D.state disk.old).bytes) (D.state disk.old) (D.state disk.new) result }
     ensures durable { IsObservable (D.state disk.old) → OnOk result (IsDurable (D.state disk.new)) }
-    ensures makes { IsObservable (D.state disk.old) → Makes (2 * (S.changes changes.now).count) 1 (D.state disk.old) (D.state disk.new) result }
+    ensures makes { IsObservable (D.state disk.old) → Makes (slot_writes pass * (S.changes changes.now).count) 1 (D.state disk.old) (D.state disk.new) result }
     ensures wrote { IsObservable (D.state disk.old) → 0 < (S.changes changes.now).count → Rose (D.state disk.old).writes (D.state disk.new).writes }
 {
-    let mut bytes = [0; 4096];
+    let mut bytes = [0; BLOCK];
     for k in 0..changes.count() {
         let slot = changes.change(k, &mut bytes);
-        write_entry(disk, slots, slot, &bytes, 1)?;
+        write_slot(disk, slots, slot, &bytes, pass)?;
     }
+    // Durable before the next pass or flag: a crash there counts on what this one wrote.
     disk.sync()
 }
 
-// Makes the mark and the shadow block of each changed slot zero.
-fn erase_journal<D: Disk, S: SlotChanges>(
-    disk: &mut D,
-    slots: u32,
-    changes: &S,
-) -> Result<(), DiskFault>
-    requires in_range { slots ≤ 16384 }
-    requires size { (D.state disk.old).size ≡ image_len slots }
-    requires changes { AreChanges slots (S.changes changes.now) }
-    ensures call { IsCall (D.state disk.old) (D.state disk.new) result }
-    ensures reaches { IsObservable (D.state disk.old) → Reaches (OutsideJournal slots (S.changes changes.now)) (AreErased slots (S.changes changes.now) (S.changes changes.now).count) (D.state disk.old) (D.state disk.new) result }
-    ensures durable { IsObservable (D.state disk.old) → OnOk result (IsDurable (D.state disk.new)) }
-    ensures makes { IsObservable (D.state disk.old) → Makes (2 * (S.changes changes.now).count) 1 (D.state disk.old) (D.state disk.new) result }
-{
-    let mut bytes = [0; 4096];
-    for k in 0..changes.count() {
-        let slot = changes.change(k, &mut bytes);
-        write_entry(disk, slots, slot, &[0; 4096], 0)?;
-    }
-    disk.sync()
-}
-
-// Puts the new bytes of each changed slot into the table.
-fn write_table<D: Disk, S: SlotChanges>(
-    disk: &mut D,
-    slots: u32,
-    changes: &S,
-) -> Result<(), DiskFault>
-    requires in_range { slots ≤ 16384 }
-    requires size { (D.state disk.old).size ≡ image_len slots }
-    requires changes { AreChanges slots (S.changes changes.now) }
-    ensures call { IsCall (D.state disk.old) (D.state disk.new) result }
-    ensures reaches { IsObservable (D.state disk.old) → Reaches (OutsideTable slots (S.changes changes.now)) (λ image. image ≡ with_slots slots (S.changes changes.now) (D.state disk.old).bytes) (D.state disk.old) (D.state disk.new) result }
-    ensures durable { IsObservable (D.state disk.old) → OnOk result (IsDurable (D.state disk.new)) }
-    ensures makes { IsObservable (D.state disk.old) → Makes (S.changes changes.now).count 1 (D.state disk.old) (D.state disk.new) result }
-{
-    let mut bytes = [0; 4096];
-    for k in 0..changes.count() {
-        let slot = changes.change(k, &mut bytes);
-        disk.write_at(table_at(slots, slot), &bytes)?;
-    }
-    disk.sync()
-}
-
-// Commits changed slots, of which there is one at least, in a table of so many slots.
+/// Commits changed slots, of which there is one at least, in a table of so many slots.
 pub fn commit_changes<D: Disk, S: SlotChanges>(
     disk: &mut D,
     slots: u32,
     changes: &S,
 ) -> Result<(), DiskFault>
-    requires in_range { slots ≤ 16384 }
+    requires in_range { slots ≤ slots_limit }
     requires size { (D.state disk.old).size ≡ image_len slots }
     requires changes { AreChanges slots (S.changes changes.now) }
     requires some { 0 < (S.changes changes.now).count }
@@ -127,9 +120,14 @@ pub fn commit_changes<D: Disk, S: SlotChanges>(
     ensures makes { IsObservable (D.state disk.old) → Makes (5 * (S.changes changes.now).count + 2) 5 (D.state disk.old) (D.state disk.new) result }
     ensures wrote { IsObservable (D.state disk.old) → Rose (D.state disk.old).writes (D.state disk.new).writes }
 {
-    write_journal(disk, slots, changes)?;
+    // Durable before the flag is set: behind a flag that is set, what the journal holds counts.
+    write_slots(disk, slots, changes, Pass::Journal)?;
+    // Durable before the table is written: where the flag is clear, the table has to be whole.
     write_flag(disk, 1)?;
-    write_table(disk, slots, changes)?;
+    // Durable before the flag is cleared: from then on nothing redoes it.
+    write_slots(disk, slots, changes, Pass::Table)?;
+    // Durable before the journal is erased: a flag that is still set would redo what is half erased.
     write_flag(disk, 0)?;
-    erase_journal(disk, slots, changes)
+    // Durable before Ok: nothing is pending when the next commit begins.
+    write_slots(disk, slots, changes, Pass::Erase)
 }

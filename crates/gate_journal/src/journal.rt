@@ -1,21 +1,25 @@
 //! The calls of the journal.
-ghost use Rattle.std.specs.Prelude.{◌≡◌, ◌≢◌, ◌↔◌, ◌⊎◌, ◌+◌, ◌*◌, ◌<◌, ◌≤◌, slice_index, IsOk, OnOk, OnErr};
-ghost use Rattle.store_model.specs.Parameters.{image_len};
-ghost use Rattle.store_model.specs.Images.{recovered_slot};
+ghost use Rattle.std.specs.Prelude.{◌≡◌, ◌≢◌, ◌↔◌, ◌⊎◌, ◌+◌, ◌*◌, ◌/◌, ◌<◌, ◌≤◌, slice_index, IsOk, IfOk, OnOk, OnErr};
+ghost use Rattle.store_model.specs.Parameters.{image_len, block_len};
+ghost use Rattle.store_model.specs.Images.{first_byte, recovered_slot};
 ghost use Rattle.disk_model.specs.DiskState.{IsObservable, IsDurable};
-ghost use Rattle.disk_model.specs.DiskCalls.{Rose, LeavesOnly};
+ghost use Rattle.disk_model.specs.DiskCalls.{Rose, raised, LeavesOnly};
 ghost use Rattle.gate_journal.specs.Places.{AreCalls, Makes, ReadsOnly};
 ghost use Rattle.gate_journal.specs.Phases.{HasEmptyJournal};
 ghost use Rattle.gate_journal.specs.Changes.{AreChanges, Commits};
-ghost use Rattle.gate_journal.specs.Recovery.{Recovers};
-ghost use Rattle.gate_journal.specs.Formats.{IsEmptyOrNone, Formats};
+ghost use Rattle.gate_journal.specs.Recovery.{Recovers, redo_writes, redo_syncs, erase_writes};
+ghost use Rattle.sha2.specs.Sha256.{sha256};
+ghost use Rattle.gate_journal.specs.Wipes.{Wipes, block_count};
+ghost use Rattle.gate_journal.specs.Formats.{IsEmptyOrNone, Formats, faults_after_format};
 
 use crate::changes::SlotChanges;
 use crate::commit::commit_changes;
+use crate::digest::digest_disk;
 use crate::fault::JournalFault;
 use crate::format::{is_image, write_image};
 use crate::recover::recover_durable;
 use crate::view::read_slot;
+use crate::wipe::wipe_disk;
 use disk_model::Disk;
 use store_base::{DiskFault, Params, Slot, image_len as len_of};
 
@@ -61,14 +65,21 @@ impl Journal {
     /// any moment of the call may leave is one that a crash before it might have left, or has the disk's length and
     /// recovers to the same; what the disk reads recovers to the same, after `DiskFault` too, and then it is recovered
     /// again before it is used. After Ok the disk is durable and reads what it recovers to.
+    ///
+    /// With an empty journal it makes one sync and no write. Otherwise it writes each marked slot and the flag, where the
+    /// flag is set, and each block of the journal that is not zero, once.
     pub fn recover<D: Disk>(disk: &mut D, params: &Params) -> Result<(), DiskFault>
         requires { (D.state disk.old).size ≡ image_len params.now.slots }
         ensures calls { AreCalls (D.state disk.old) (D.state disk.new) result }
         ensures recovers { IsObservable (D.state disk.old) → Recovers params.now.slots (D.state disk.old) (D.state disk.new) result }
 
-        // with an empty journal nothing is written
+        // with an empty journal one sync is made and no write, and otherwise no more than what is to be changed takes
         ensures quiet { IsObservable (D.state disk.old) → HasEmptyJournal params.now.slots (D.state disk.old).bytes → (D.state disk.new).writes ≡ (D.state disk.old).writes }
+        ensures quiet_syncs { IsObservable (D.state disk.old) → HasEmptyJournal params.now.slots (D.state disk.old).bytes → (D.state disk.new).syncs ≡ raised (D.state disk.old).syncs }
+        ensures makes { IsObservable (D.state disk.old) → (HasEmptyJournal params.now.slots (D.state disk.old).bytes → ⊥)
+            → Makes (redo_writes params.now.slots (D.state disk.old).bytes + erase_writes params.now.slots (D.state disk.old).bytes) (redo_syncs (D.state disk.old).bytes + 2) (D.state disk.old) (D.state disk.new) result }
     {
+        // What was pending has to stand before it is judged: a crash could still take it back.
         disk.sync()?;
         recover_durable(disk, params.slots())
     }
@@ -87,28 +98,31 @@ impl Journal {
     pub fn format<D: Disk>(disk: &mut D, params: &Params) -> Result<(), JournalFault>
         ensures size { (D.state disk.new).size ≡ (D.state disk.old).size }
         ensures observable { (D.state disk.new).is_observable ≡ (D.state disk.old).is_observable }
-        ensures faults { (D.state disk.old).faults ≤ (D.state disk.new).faults }
+        ensures faults { (D.state disk.new).faults ≡ faults_after_format (D.state disk.old).faults result }
+        ensures rise { (D.state disk.old).faults ≤ (D.state disk.new).faults }
         ensures writes { (D.state disk.old).writes ≤ (D.state disk.new).writes }
         ensures syncs { (D.state disk.old).syncs ≤ (D.state disk.new).syncs }
 
         ensures wrong_length { (result ≡ Err JournalFault.WrongLength) ↔ ((D.state disk.old).size ≢ image_len params.now.slots) }
         ensures wrong_length_keeps { result ≡ Err JournalFault.WrongLength → disk.new ≡ disk.old }
 
-        ensures already_image { IsObservable (D.state disk.old) → result ≡ Err JournalFault.AlreadyImage → slice_index (D.state disk.old).bytes 0 ≡ 0x48 }
+        ensures already_image { IsObservable (D.state disk.old) → result ≡ Err JournalFault.AlreadyImage → slice_index (D.state disk.old).bytes 0 ≡ first_byte }
         // an image is only read, also where that fails
-        ensures image_is_kept { IsObservable (D.state disk.old) → (D.state disk.old).size ≡ image_len params.now.slots → slice_index (D.state disk.old).bytes 0 ≡ 0x48
+        ensures image_is_kept { IsObservable (D.state disk.old) → (D.state disk.old).size ≡ image_len params.now.slots → slice_index (D.state disk.old).bytes 0 ≡ first_byte
             → ReadsOnly (D.state disk.old) (D.state disk.new) }
         ensures already_image_keeps { IsObservable (D.state disk.old) → result ≡ Err JournalFault.AlreadyImage → ReadsOnly (D.state disk.old) (D.state disk.new) }
-        ensures image_is_found { IsObservable (D.state disk.old) → (D.state disk.old).size ≡ image_len params.now.slots → slice_index (D.state disk.old).bytes 0 ≡ 0x48
+        ensures image_is_found { IsObservable (D.state disk.old) → (D.state disk.old).size ≡ image_len params.now.slots → slice_index (D.state disk.old).bytes 0 ≡ first_byte
             → (result ≡ Err JournalFault.AlreadyImage) ⊎ (result ≡ Err JournalFault.Disk) }
 
         ensures disk_failed { result ≡ Err JournalFault.Disk → Rose (D.state disk.old).faults (D.state disk.new).faults }
+        ensures makes { IsObservable (D.state disk.old) → (D.state disk.old).size ≡ image_len params.now.slots → slice_index (D.state disk.old).bytes 0 ≢ first_byte
+            → Makes (image_len params.now.slots / block_len + 1) 2 (D.state disk.old) (D.state disk.new) result }
         ensures formats { IsObservable (D.state disk.old) → Formats params.now (D.state disk.new) result }
 
         // what the disk reads, after a fault too, and where nothing was pending what a crash may leave
-        ensures reads { IsObservable (D.state disk.old) → (D.state disk.old).size ≡ image_len params.now.slots → slice_index (D.state disk.old).bytes 0 ≢ 0x48
+        ensures reads { IsObservable (D.state disk.old) → (D.state disk.old).size ≡ image_len params.now.slots → slice_index (D.state disk.old).bytes 0 ≢ first_byte
             → IsEmptyOrNone params.now (D.state disk.new).bytes }
-        ensures crash { IsObservable (D.state disk.old) → (D.state disk.old).size ≡ image_len params.now.slots → slice_index (D.state disk.old).bytes 0 ≢ 0x48
+        ensures crash { IsObservable (D.state disk.old) → (D.state disk.old).size ≡ image_len params.now.slots → slice_index (D.state disk.old).bytes 0 ≢ first_byte
             → IsDurable (D.state disk.old) → LeavesOnly (D.state disk.old) (D.state disk.new) (IsEmptyOrNone params.now) }
     {
         if disk.len() != len_of(params.slots()) {
@@ -135,5 +149,34 @@ impl Journal {
         ensures slot { IsObservable (D.state disk.old) → OnOk result (into.new ≡ recovered_slot params.now.slots (D.state disk.old).bytes at) }
     {
         read_slot(disk, params.slots(), at, into)
+    }
+    /// Makes every byte of a disk of any length zero, the first one before all others.
+    ///
+    /// What the disk reads is then as it was with any first byte, or begins with zero, after `DiskFault` too. If nothing
+    /// was pending before, so is each image that a crash at any moment of the call may leave. After Ok every byte is zero
+    /// and durable, whatever was pending before. On a disk of no byte nothing is called.
+    pub fn wipe<D: Disk>(disk: &mut D) -> Result<(), DiskFault>
+        ensures calls { AreCalls (D.state disk.old) (D.state disk.new) result }
+        ensures wipes { IsObservable (D.state disk.old) → Wipes (D.state disk.old) (D.state disk.new) result }
+
+        // with no byte nothing is called, and otherwise so many writes and syncs are made
+        ensures none { (D.state disk.old).size ≡ 0 → disk.new ≡ disk.old }
+        ensures none_fails { (D.state disk.old).size ≡ 0 → IsOk result }
+        ensures makes { IsObservable (D.state disk.old) → 0 < (D.state disk.old).size → Makes (1 + block_count (D.state disk.old).size) 2 (D.state disk.old) (D.state disk.new) result }
+    {
+        if disk.len() == 0 {
+            return Ok(());
+        }
+        wipe_disk(disk)
+    }
+
+    /// SHA-256 (FIPS 180-4) of all bytes that the disk reads, header, journal and table, and writes nothing.
+    /// After `DiskFault` the disk is as it was.
+    pub fn digest<D: Disk>(disk: &mut D) -> Result<[u8; 32], DiskFault>
+        ensures calls { AreCalls (D.state disk.old) (D.state disk.new) result }
+        ensures reads { IsObservable (D.state disk.old) → ReadsOnly (D.state disk.old) (D.state disk.new) }
+        ensures digest { IsObservable (D.state disk.old) → IfOk result (λ digest. digest ≡ sha256 (D.state disk.old).bytes) }
+    {
+        digest_disk(disk)
     }
 }

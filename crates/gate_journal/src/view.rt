@@ -1,18 +1,18 @@
 //! The slots of the image that a disk recovers to, read without recovering it.
 ghost use Rattle.std.specs.Prelude.{◌≡◌, ◌+◌, ◌<◌, ◌≤◌, not, ◌==◌, ◌&&◌, slice_index, OnOk, IfOk};
-ghost use Rattle.store_model.specs.Parameters.{IsParameters, image_len};
+ghost use Rattle.store_model.specs.Parameters.{IsParameters, image_len, slots_limit, block_len};
 ghost use Rattle.store_model.specs.Images.{bytes_at, is_flag_set, is_marked, recovered_slot};
 ghost use Rattle.disk_model.specs.DiskState.{DiskState, IsObservable};
 ghost use Rattle.gate_journal.specs.Places.{AreCalls, ReadsOnly};
-ghost use Rattle.gate_journal.specs.ViewState.{viewed, viewed_count};
+ghost use Rattle.gate_journal.specs.ViewState.{viewed, viewed_count, viewed_whole, KeepsView, KeepsView-refl, KeepsView-trans};
 
 use crate::recover::{is_byte_set, is_flag_set};
 use disk_model::Disk;
 use store_base::{DiskFault, Fault, Params, ReadSlots, Slot, mark_at, shadow_at, table_at};
 
-// Whether recovery redoes this slot: the commit flag is set, and the slot is marked.
+/// Whether recovery redoes this slot: the commit flag is set, and the slot is marked.
 fn is_redone<D: Disk>(disk: &mut D, slots: u32, slot: u32) -> Result<bool, DiskFault>
-    requires in_range { slots ≤ 16384 }
+    requires in_range { slots ≤ slots_limit }
     requires below { slot < slots }
     requires size { (D.state disk.old).size ≡ image_len slots }
     ensures calls { AreCalls (D.state disk.old) (D.state disk.new) result }
@@ -25,15 +25,15 @@ fn is_redone<D: Disk>(disk: &mut D, slots: u32, slot: u32) -> Result<bool, DiskF
     is_byte_set(disk, mark_at(slot))
 }
 
-// Where the bytes lie that recovery leaves in this slot.
+/// Where the bytes lie that recovery leaves in this slot.
 fn place_of<D: Disk>(disk: &mut D, slots: u32, slot: u32) -> Result<u64, DiskFault>
-    requires in_range { slots ≤ 16384 }
+    requires in_range { slots ≤ slots_limit }
     requires below { slot < slots }
     requires size { (D.state disk.old).size ≡ image_len slots }
     ensures calls { AreCalls (D.state disk.old) (D.state disk.new) result }
     ensures reads { IsObservable (D.state disk.old) → ReadsOnly (D.state disk.old) (D.state disk.new) }
-    ensures within { IfOk result (λ place. place + 4096 ≤ image_len slots) }
-    ensures value { IsObservable (D.state disk.old) → IfOk result (λ place. bytes_at (D.state disk.old).bytes place 4096 ≡ recovered_slot slots (D.state disk.old).bytes slot) }
+    ensures within { IfOk result (λ place. place + block_len ≤ image_len slots) }
+    ensures value { IsObservable (D.state disk.old) → IfOk result (λ place. bytes_at (D.state disk.old).bytes place block_len ≡ recovered_slot slots (D.state disk.old).bytes slot) }
 {
     if is_redone(disk, slots, slot)? {
         Ok(shadow_at(slots, slot))
@@ -42,14 +42,14 @@ fn place_of<D: Disk>(disk: &mut D, slots: u32, slot: u32) -> Result<u64, DiskFau
     }
 }
 
-// Reads what recovery leaves in this slot.
+/// Reads what recovery leaves in this slot.
 pub fn read_slot<D: Disk>(
     disk: &mut D,
     slots: u32,
     slot: u32,
     into: &mut Slot,
 ) -> Result<(), DiskFault>
-    requires in_range { slots ≤ 16384 }
+    requires in_range { slots ≤ slots_limit }
     requires below { slot < slots }
     requires size { (D.state disk.old).size ≡ image_len slots }
     ensures calls { AreCalls (D.state disk.old) (D.state disk.new) result }
@@ -106,7 +106,15 @@ impl<D: Disk> ReadSlots for View<D> {
 
     ghost state = { λ view. viewed (params_of view).slots (D.state (disk_of view)) };
 
+    ghost follows = { λ old new. KeepsView (params_of old) (params_of new) (D.state (disk_of old)) (D.state (disk_of new)) };
+
     ghost counted = { λ view observable. viewed_count (params_of view).slots (D.state (disk_of view)) };
+
+    ghost whole = { λ view observable. viewed_whole (params_of view).slots (D.state (disk_of view)) (D.sound (disk_of view) observable) view.sized };
+
+    ghost follows_refl = { λ view. KeepsView-refl (params_of view) (D.state (disk_of view)) (D.sound (disk_of view)) };
+
+    ghost follows_trans = { λ old mid new. KeepsView-trans (params_of old) (params_of mid) (params_of new) (D.state (disk_of old)) (D.state (disk_of mid)) (D.state (disk_of new)) };
 
     fn get(&mut self, at: u32, into: &mut Slot) -> Result<(), Fault> {
         Ok(read_slot(&mut self.disk, self.params.slots(), at, into)?)

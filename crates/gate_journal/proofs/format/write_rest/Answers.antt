@@ -9,7 +9,7 @@ use Rattle.gate_journal.specs.Places.{IsApart, Keeps, IsZeroAt}
 use Rattle.gate_journal.specs.Formats.{HasEmptyRest}
 use Rattle.gate_journal.proofs.Areas.{marks_end, shadow_end, table_end, image_blocks}
 use Rattle.gate_journal.proofs.Places.{Keeps-write, Keeps-trans}
-use Rattle.gate_journal.proofs.Calls.{observable_after, Reaches-fault, Reaches-sync}
+use Rattle.gate_journal.proofs.Calls.{observable_after, Reaches-fault, Reaches-sync, Made-none, Made-then, Made-as, Makes-write, Makes-sync, Makes-then, Makes-as, Makes-short}
 use Rattle.gate_journal.proofs.Reading.{apart_within, zero_written, zero_kept, zero_more}
 use Rattle.gate_journal.proofs.Formatting.{header_written}
 use Rattle.gate_journal.proofs.format.write_rest.Goals as goal
@@ -53,6 +53,10 @@ loop-block-init g c =
           ap (λ (l : List ℕ). slice_index l place) (c.in_ok-write_at.ensures.observed observable).written ∙ header_written block old c.write_header.array_long within_old place low high
           ∙ ap (λ (l : List ℕ). slice_index l place) c.write_header.ensures;
       zero = λ observable place low high. absurd (omega arith);
+      made = λ observable.
+          let old = g.D.Disk.state c.args.disk.now in
+          let new = g.D.Disk.state c.write_at.new.self in
+          Made-as old new (0 + 1) (0 + 0) 1 0 (omega arith) (omega arith) (Made-then old old new _ 0 0 1 0 (Made-none old) (Makes-write old new _ observable _ _ c.in_ok-write_at.ensures));
     }
 
 -- a block of zeros more
@@ -90,7 +94,7 @@ loop-block-preserved g c =
     let mid = g.D.Disk.state c.loop-block.disk in
     let new = g.D.Disk.state c.write_at-in-loop-block.new.self in
     let size = c.loop-block.invariant.calls.size ∙ c.requires in
-    let below : c.loop-block.block < image_len p.slots / 4096 = (let end_is : c.image_len-block-end.result ≡ image_len p.slots = c.image_len-block-end.ensures ∙ ap image_len c.slots.ensures.value in omega (arith, c.loop-block-test.true)) in
+    let below : c.loop-block.block < image_len p.slots / 4096 = (let end_is : c.image_len.result ≡ image_len p.slots = c.image_len.ensures ∙ ap image_len c.slots.ensures.value in omega (arith, c.loop-block-test.true)) in
     let first : 1 ≤ c.loop-block.block = c.loop-block.auto.block in
     record {
       calls = search rules;
@@ -103,14 +107,47 @@ loop-block-preserved g c =
       zero = λ observable.
           let observable_mid = observable_after _ _ _ c.loop-block.invariant.calls observable in
           block_zero p c.loop-block.block old mid new size observable_mid (g.met.D.Disk.sound c.loop-block.disk observable_mid) first below c.in_ok-write_at-2.ensures (c.loop-block.invariant.zero observable);
+      made = λ observable.
+          let observable_mid = observable_after _ _ _ c.loop-block.invariant.calls observable in
+          Made-then old mid new _ c.loop-block.block 0 1 0 (c.loop-block.invariant.made observable) (Makes-write mid new _ observable_mid _ _ c.in_ok-write_at-2.ensures);
     }
+
+pub returns-in_err-write_at-2-clause-makes : goal.returns-in_err-write_at-2-clause-makes
+returns-in_err-write_at-2-clause-makes g c observable =
+    let p = c.args.params.now in
+    let old = g.D.Disk.state c.args.disk.now in
+    let mid = g.D.Disk.state c.loop-block.disk in
+    let new = g.D.Disk.state c.write_at-in-loop-block.new.self in
+    let end_is : c.image_len.result ≡ image_len p.slots = c.image_len.ensures ∙ ap image_len c.slots.ensures.value in
+    let below : c.loop-block.block < image_len p.slots / 4096 = omega (arith, c.loop-block-test.true, end_is) in
+    let observable_mid = observable_after _ _ _ c.loop-block.invariant.calls observable in
+    Makes-short old new c.write_at-in-loop-block.result _ (c.loop-block.block + 1) (0 + 0) (image_len p.slots / 4096) 1 c.from_residual-in_err-write_at-2.ensures.0 (omega (arith, below)) (omega arith)
+    (Makes-then old mid new c.write_at-in-loop-block.result c.loop-block.block 0 1 0 (c.loop-block.invariant.made observable) (Makes-write mid new c.write_at-in-loop-block.result observable_mid _ _ c.write_at-in-loop-block.ensures))
+
+pub returns-in_err-write_at-clause-makes : goal.returns-in_err-write_at-clause-makes
+returns-in_err-write_at-clause-makes g c observable =
+    let old = g.D.Disk.state c.args.disk.now in
+    let new = g.D.Disk.state c.write_at.new.self in
+    Makes-short old new c.write_at.result _ 1 0 (image_len c.args.params.now.slots / 4096) 1 c.from_residual.ensures.0 (omega (arith, long_image c.args.params.now.slots)) (omega arith)
+    (Makes-write old new c.write_at.result observable _ _ c.write_at.ensures)
+
+pub returns-clause-makes : goal.returns-clause-makes
+returns-clause-makes g c observable =
+    let p = c.args.params.now in
+    let old = g.D.Disk.state c.args.disk.now in
+    let mid = g.D.Disk.state c.loop-block.disk in
+    let end_is : c.image_len.result ≡ image_len p.slots = c.image_len.ensures ∙ ap image_len c.slots.ensures.value in
+    let end : c.loop-block.block ≡ image_len p.slots / 4096 = omega (arith, c.loop-block-test.false, c.loop-block.auto.block-end, end_is, long_image p.slots) in
+    let observable_mid = observable_after _ _ _ c.loop-block.invariant.calls observable in
+    Makes-as old _ c.sync.result (c.loop-block.block + 0) (0 + 1) (image_len p.slots / 4096) 1 (omega (arith, end)) (omega arith)
+    (Makes-then old mid _ c.sync.result c.loop-block.block 0 0 1 (c.loop-block.invariant.made observable) (Makes-sync mid _ c.sync.result observable_mid c.sync.ensures))
 
 pub returns-in_err-write_at-2-clause-reaches : goal.returns-in_err-write_at-2-clause-reaches
 returns-in_err-write_at-2-clause-reaches g c observable =
     let p = c.args.params.now in
     let total = image_len p.slots - 1 in
     let whole : length (zeros 4096) ≡ 4096 = length-replicate {A = ℕ} 4096 0 in
-    let below : c.loop-block.block < image_len p.slots / 4096 = (let end_is : c.image_len-block-end.result ≡ image_len p.slots = c.image_len-block-end.ensures ∙ ap image_len c.slots.ensures.value in omega (arith, c.loop-block-test.true)) in
+    let below : c.loop-block.block < image_len p.slots / 4096 = (let end_is : c.image_len.result ≡ image_len p.slots = c.image_len.ensures ∙ ap image_len c.slots.ensures.value in omega (arith, c.loop-block-test.true)) in
     let first : 1 ≤ c.loop-block.block = c.loop-block.auto.block in
     let observable_mid = observable_after _ _ _ c.loop-block.invariant.calls observable in
     Reaches-fault (IsApart 1 total) _ _ _ c.from_residual-in_err-write_at-2.result c.from_residual-in_err-write_at-2.ensures.0
@@ -122,7 +159,7 @@ returns-clause-reaches g c observable =
     let p = c.args.params.now in
     let total = image_len p.slots - 1 in
     let observable_mid = observable_after _ _ _ c.loop-block.invariant.calls observable in
-    let end : 4096 * (c.loop-block.block - 1) ≡ image_len p.slots - 4096 = (let end_is : c.image_len-block-end.result ≡ image_len p.slots = c.image_len-block-end.ensures ∙ ap image_len c.slots.ensures.value in omega (arith, c.loop-block-test.false, c.loop-block.auto.block-end, image_blocks p.slots, long_image p.slots)) in
+    let end : 4096 * (c.loop-block.block - 1) ≡ image_len p.slots - 4096 = (let end_is : c.image_len.result ≡ image_len p.slots = c.image_len.ensures ∙ ap image_len c.slots.ensures.value in omega (arith, c.loop-block-test.false, c.loop-block.auto.block-end, image_blocks p.slots, long_image p.slots)) in
     Reaches-sync {U = Unit {0}} (IsApart 1 total) (HasEmptyRest p) _ _ _ tt c.sync.result observable_mid (g.met.D.Disk.sound c.loop-block.disk observable_mid)
     (record {
       keeps = c.loop-block.invariant.keeps observable;

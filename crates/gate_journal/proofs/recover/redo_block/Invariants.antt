@@ -1,8 +1,8 @@
-use Rattle.std.proofs.Common.{◌+◌, min, Ok}
+use Rattle.std.proofs.Common.{◌+◌, ◌-◌, ◌^◌, ◌<◌, min, Ok}
 use Rattle.store_base.specs.declared.fault.DiskFault.{DiskFault}
 use Rattle.disk_model.specs.DiskState.{IsObservable}
-use Rattle.gate_journal.specs.Places.{AreCalls, Keeps}
-use Rattle.gate_journal.specs.Recovery.{OutsideMarked, AreRedone}
+use Rattle.gate_journal.specs.Places.{AreCalls, Made, Keeps}
+use Rattle.gate_journal.specs.Recovery.{OutsideMarked, AreRedone, marked_count}
 use Rattle.gate_journal.proofs.recover.redo_block.Given as goal
 
 abbrev pub invariant-loop-slot : goal.invariant-loop-slot
@@ -13,4 +13,6 @@ invariant-loop-slot g l =
       calls : AreCalls {T = Unit {0}} {E = DiskFault} old new (Ok tt);
       keeps : IsObservable old → Keeps (OutsideMarked l.slots l.first (min l.slots (l.first + 4096)) old.bytes) old new;
       redone : IsObservable old → AreRedone l.slots l.first l.slot old.bytes new.bytes;
+      made : IsObservable old → Made (marked_count l.first (l.slot - l.first) old.bytes) 0 old new;
+      fits : (new.writes < 2 ^ 64) × (new.syncs < 2 ^ 64);
     }

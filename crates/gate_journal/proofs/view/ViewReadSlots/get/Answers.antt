@@ -18,12 +18,16 @@ returns g c =
     let old = g.D.Disk.state c.args.self.now.disk in
     let new = g.D.Disk.state c.read_slot.new.disk in
     record {
-      continues = record { count = refl; observable = c.read_slot.ensures.calls.observable; takes_none = refl; faults = c.read_slot.ensures.calls.faults };
-      cause = tt;
-      observed = λ observable.
-          let here : 0 + c.args.at ≡ c.args.at = omega arith in
-          record {
-            got = get_number (recovered_slot slots old.bytes) 0 slots c.args.at c.requires ∙ ap (λ (n : ℕ). Some (recovered_slot slots old.bytes n)) here ∙ ap Some (sym (c.in_ok-read_slot.ensures.slot observable ∙ ap (λ (n : ℕ). recovered_slot n old.bytes c.args.at) c.slots.ensures.value));
-            slots = ap (λ (l : List ℕ). map (recovered_slot slots l) (numbers_below slots)) (c.read_slot.ensures.reads observable).bytes;
-          };
+      call = record {
+        calls = record { count = refl; observable = c.read_slot.ensures.calls.observable; takes_none = refl; faults = c.in_ok-read_slot.ensures.calls.faults; cause = tt };
+        observed = λ observable.
+            let here : 0 + c.args.at ≡ c.args.at = omega arith in
+            record {
+              got =
+                  get_number (recovered_slot slots old.bytes) 0 slots c.args.at c.requires ∙ ap (λ (n : ℕ). Some (recovered_slot slots old.bytes n)) here
+                  ∙ ap Some (sym (c.in_ok-read_slot.ensures.slot observable ∙ ap (λ (n : ℕ). recovered_slot n old.bytes c.args.at) c.slots.ensures.value));
+              slots = ap (λ (l : List ℕ). map (recovered_slot slots l) (numbers_below slots)) (c.read_slot.ensures.reads observable).bytes;
+            };
+      };
+      follows = record { params = refl; size = c.read_slot.ensures.calls.size; observable = c.read_slot.ensures.calls.observable; reads = c.read_slot.ensures.reads };
     }
