@@ -2,6 +2,7 @@
 use Rattle.std.proofs.Common.{◌≡◌, ℕ, ◌+◌, ◌-◌, ◌<◌, ◌≤◌, ◌^◌, suc, zero, List, [], ◌∷◌, ◌++◌, length, take, drop, get_or, replicate, refl, sym, ap, ap₂, ◌∙◌, subst, arith, true, false, eqb, append_assoc, length-append, Some, ⊎_elim}
 use Rattle.std.specs.List.{list_all, slice_split}
 use Rattle.std.specs.Int.{w32, to_be_bytes, from_be_bytes}
+use Rattle.byteorder.specs.Endian.{big_number}
 use Rattle.std.proofs.lemmas.List.{take_at, drop_at, take-append-drop, length-take-le, length-drop, get_or-drop, get_or_append_left, get_or-append_right, length-replicate}
 use Rattle.std.proofs.lemmas.Nat.{from_be_bytes-to_be_bytes_4}
 use Rattle.std.proofs.lemmas.Bool.{ne_eqb, eqb-true, cond_both, leb-true, cases_order}
@@ -150,13 +151,14 @@ pub drop-key : (p : Path) (block : ℕ) → is_path p ≡ true → drop 120 (key
 unfolding key
 drop-key p block h = drop_at (field p) (to_be_bytes w32 block) 120 (length-field p h)
 
-pub four_bytes : (bs : List ℕ) → length bs ≡ 4 → get_or bs 0 0 ∷ get_or bs 1 0 ∷ get_or bs 2 0 ∷ get_or bs 3 0 ∷ [] ≡ bs
-four_bytes (a ∷ b ∷ c ∷ d ∷ []) h = refl
-four_bytes [] h = absurd (omega arith)
-four_bytes (a ∷ []) h = absurd (omega arith)
-four_bytes (a ∷ b ∷ []) h = absurd (omega arith)
-four_bytes (a ∷ b ∷ c ∷ []) h = absurd (omega arith)
-four_bytes (a ∷ b ∷ c ∷ d ∷ e ∷ bs) h = absurd (omega arith)
+-- the number that four bytes spell
+pub number_of_four : (bs : List ℕ) → length bs ≡ 4 → big_number 4 bs ≡ from_be_bytes w32 bs
+number_of_four (a ∷ b ∷ c ∷ d ∷ []) h = omega arith
+number_of_four [] h = absurd (omega arith)
+number_of_four (a ∷ []) h = absurd (omega arith)
+number_of_four (a ∷ b ∷ []) h = absurd (omega arith)
+number_of_four (a ∷ b ∷ c ∷ []) h = absurd (omega arith)
+number_of_four (a ∷ b ∷ c ∷ d ∷ e ∷ bs) h = absurd (omega arith)
 
 -- a key is spelled again by its path and its block number
 pub key_again : (bytes front back : List ℕ) (p : Path) (n : ℕ) → bytes ≡ front ++ back → front ≡ field p → to_be_bytes w32 n ≡ back → key p n ≡ bytes

@@ -83,18 +83,16 @@ later_bytes (x ∷ a) n (m ∷ q) us vs hq h apart =
 abbrev pub past_bytes : Path → ℕ → List ℕ
 past_bytes p len = (name_bytes (parent p) ++ last_name p) ++ 1 ∷ (zeros (120 - len) ++ 0 ∷ 0 ∷ 0 ∷ 0 ∷ [])
 
-pub past_written : (bytes xs : List ℕ) (len : ℕ) (p : Path) → IsField bytes len p → is_root p ≡ false → xs ≡ bytes → set (xs ++ 0 ∷ 0 ∷ 0 ∷ 0 ∷ []) (len - 1) 1 ≡ past_bytes p len
-past_written bytes xs len p h other e =
-    let front = name_bytes (parent p) ++ last_name p in
-    let is : xs ++ 0 ∷ 0 ∷ 0 ∷ 0 ∷ [] ≡ front ++ 0 ∷ (zeros (120 - len) ++ 0 ∷ 0 ∷ 0 ∷ 0 ∷ []) =
-    ap (λ t. t ++ 0 ∷ 0 ∷ 0 ∷ 0 ∷ []) (e ∙ field_split bytes len p h other ∙ sym (append_assoc (name_bytes (parent p)) (last_name p) (0 ∷ zeros (120 - len))))
-    ∙ append_assoc front (0 ∷ zeros (120 - len)) (0 ∷ 0 ∷ 0 ∷ 0 ∷ []) in
-    ap (λ t. set t (len - 1) 1) is
-    ∙ set_at front 0 (zeros (120 - len) ++ 0 ∷ 0 ∷ 0 ∷ 0 ∷ []) 1 (len - 1) (omega (arith, len_split bytes len p h other, length-append (name_bytes (parent p)) (last_name p)))
-
-pub past_is : (bytes xs : List ℕ) (len : ℕ) (p : Path) → IsField bytes len p → xs ≡ bytes → set (xs ++ 0 ∷ 0 ∷ 0 ∷ 0 ∷ []) (len - 1) 1 ≡ set (key p 0) (field_len p - 1) 1
+pub past_written : (bytes : List ℕ) (len : ℕ) (p : Path) → IsField bytes len p → is_root p ≡ false → set (key p 0) (field_len p - 1) 1 ≡ past_bytes p len
 unfolding key
-past_is bytes xs len p h e = ap₂ (λ t n. set (t ++ 0 ∷ 0 ∷ 0 ∷ 0 ∷ []) (n - 1) 1) (e ∙ h.bytes_are) h.len_is
+past_written bytes len p h other =
+    let front = name_bytes (parent p) ++ last_name p in
+    let is : bytes ++ 0 ∷ 0 ∷ 0 ∷ 0 ∷ [] ≡ front ++ 0 ∷ (zeros (120 - len) ++ 0 ∷ 0 ∷ 0 ∷ 0 ∷ []) =
+    ap (λ t. t ++ 0 ∷ 0 ∷ 0 ∷ 0 ∷ []) (field_split bytes len p h other ∙ sym (append_assoc (name_bytes (parent p)) (last_name p) (0 ∷ zeros (120 - len))))
+    ∙ append_assoc front (0 ∷ zeros (120 - len)) (0 ∷ 0 ∷ 0 ∷ 0 ∷ []) in
+    ap₂ (λ t n. set (t ++ 0 ∷ 0 ∷ 0 ∷ 0 ∷ []) (n - 1) 1) (sym h.bytes_are) (sym h.len_is)
+    ∙ ap (λ t. set t (len - 1) 1) is
+    ∙ set_at front 0 (zeros (120 - len) ++ 0 ∷ 0 ∷ 0 ∷ 0 ∷ []) 1 (len - 1) (omega (arith, len_split bytes len p h other, length-append (name_bytes (parent p)) (last_name p)))
 
 -- at a path or below it are the paths that begin with it
 pub at_or_inside_split : (q p : Path) → is_at_or_inside q p ≡ true → q ≡ p ++ drop (length p) q

@@ -6,6 +6,9 @@ ghost use Rattle.store_model.specs.Lists.{zero_filled};
 ghost use Rattle.store_model.specs.Paths as model;
 ghost use Rattle.path_keys.specs.Fields.{with_zeros};
 
+/// The bytes of a path's field in a key.
+pub const FIELD_LEN: usize = 120;
+
 /// Whether a byte may stand in a name: printable ASCII other than the space and `/`.
 fn is_name_byte(byte: u8) -> bool
     ensures { result ≡ model.is_name_byte byte }
@@ -33,11 +36,11 @@ pub fn are_names(bytes: &[u8], separator: u8) -> bool
 }
 
 /// The field of the names that the separator parts: a byte 0 for each separator, and zeros behind.
-pub fn field_of_names(text: &[u8], separator: u8) -> [u8; 120]
-    requires { length text.now < 120 }
-    ensures { result ≡ zero_filled 120 (with_zeros separator text.now) }
+pub fn field_of_names(text: &[u8], separator: u8) -> [u8; FIELD_LEN]
+    requires { length text.now < FIELD_LEN }
+    ensures { result ≡ zero_filled FIELD_LEN (with_zeros separator text.now) }
 {
-    let mut field = [0; 120];
+    let mut field = [0; FIELD_LEN];
     field[..text.len()].copy_from_slice(text);
     put_zeros(&mut field[..text.len()], separator);
     field

@@ -2,21 +2,21 @@
 
 ghost use Rattle.std.specs.Prelude.{◌≡◌, ◌<◌, ◌-◌, ◌^◌, ◌↔◌, ℕ, [], length, take, drop, slice_set, false, nat_eq, Some, None, IfOk, IfSome, IfNone, IsErrOf, IsSome, IsNone, IsTrue};
 ghost use Rattle.std.specs.Cmp.{partial_equiv_from_equiv};
-ghost use Rattle.std.specs.Cmp.Lexicographic.{pointwise, lists_equiv, nat_list_eq_equiv};
+ghost use Rattle.std.proofs.Common.{refl};
+ghost use Rattle.std.specs.Cmp.Lexicographic.{pointwise, lists_equiv, lists_total, nat_list_eq_equiv, nat_list_cmp_total};
+ghost use Rattle.path_keys.specs.PathOrder.{paths_po, paths_ties};
 ghost use Rattle.std.specs.Int.{w32, to_be_bytes};
 ghost use Rattle.std.specs.declared.cmp.Ordering.TheVariants.{Less};
 ghost use Rattle.store_model.specs.Paths as model;
 ghost use Rattle.store_model.specs.Grammar.{path_of};
 ghost use Rattle.store_base.specs.Keys.{IsKey};
 
-use crate::names::{are_names, field_of_names, last_start, used_len};
+use crate::names::{FIELD_LEN, are_names, field_of_names, last_start, used_len};
 use byteorder::{BigEndian, ByteOrder};
+use std::cmp::Ordering;
 use std::marker::Model;
 use store_base::Key;
 use thiserror::Error;
-
-/// The bytes of a path's field in a key.
-const FIELD_LEN: usize = 120;
 
 /// Why bytes are no path that a key can hold.
 #[derive(Clone, Copy, Debug, PartialEq, Eq, Error)]
@@ -33,7 +33,7 @@ pub enum PathFault {
 #[derive(Clone, Copy, Debug)]
 pub struct Path {
     /// Each name with a byte 0 behind it, and zeros.
-    bytes: [u8; 120],
+    bytes: [u8; FIELD_LEN],
     /// How many of the bytes are names and the zeros that end them.
     len: u8,
 }
@@ -55,12 +55,15 @@ impl Model for Path {
 impl Path {
     ghost use Rattle.path_keys.specs.Reading.{IsOfNames, HasNoPath, IsOfField};
 
+    /// The most bytes of the text of a path.
+    pub const MAX_LEN: usize = FIELD_LEN;
+
     /// The root.
     pub fn root() -> Self
         ensures { result ≡ [] }
     {
         Path {
-            bytes: [0; 120],
+            bytes: [0; FIELD_LEN],
             len: 0,
         }
     }
@@ -78,7 +81,7 @@ impl Path {
         ensures value { IfOk result (λ p. path_of text.now ≡ Some p) }
         ensures valid { IfOk result (λ p. IsTrue (model.is_path p)) }
         ensures syntax { IsErrOf result PathFault.Syntax ↔ (path_of text.now ≡ None) }
-        ensures too_long { IsErrOf result PathFault.TooLong ↔ (IsSome (path_of text.now) × (120 < length text.now)) }
+        ensures too_long { IsErrOf result PathFault.TooLong ↔ (IsSome (path_of text.now) × (FIELD_LEN < length text.now)) }
         ensures too_long_field { IsErrOf result PathFault.TooLong → IfSome (path_of text.now) (λ p. model.fits_field p ≡ false) }
     {
         let Some((first, names)) = text.split_first() else {
@@ -126,7 +129,7 @@ impl Path {
         ensures some { IfSome result (λ found. model.key found.0 found.1 ≡ key.now) }
         ensures valid { IfSome result (λ found. IsTrue (model.is_path found.0)) }
         ensures below_root { IfSome result (λ found. model.is_root found.0 ≡ false) }
-        ensures none { IfNone result (HasNoPath (take 120 key.now)) }
+        ensures none { IfNone result (HasNoPath (take FIELD_LEN key.now)) }
 
         // Each key of a path other than the root is read.
         ensures only { (p : model.Path) (block : ℕ) → IsTrue (model.is_path p) → model.is_root p ≡ false
@@ -139,14 +142,14 @@ impl Path {
 
     /// The path other than the root that has this field.
     fn of_field(field: &[u8]) -> Option<Path>
-        requires { length field.now ≡ 120 }
+        requires { length field.now ≡ FIELD_LEN }
         ensures { IsOfField field.now result }
     {
         let len = used_len(field);
         if len >= FIELD_LEN || !are_names(&field[..len], 0) {
             return None;
         }
-        let mut bytes = [0; 120];
+        let mut bytes = [0; FIELD_LEN];
         bytes.copy_from_slice(field);
         Some(Path {
             bytes,
@@ -199,7 +202,7 @@ impl Path {
             return None;
         }
         let len = self.name_start();
-        let mut bytes = [0; 120];
+        let mut bytes = [0; FIELD_LEN];
         bytes[..len].copy_from_slice(&self.bytes[..len]);
         Some(Path {
             bytes,
@@ -222,8 +225,7 @@ impl Path {
         ensures below { (q : model.Path) (block : ℕ) → IsTrue (model.is_path q) → model.is_at_or_inside q self.now ≡ false
             → model.path_cmp self.now q ≡ Less → model.key_cmp result (model.key q block) ≡ Less }
     {
-        let mut bytes = [0; 124];
-        bytes[..FIELD_LEN].copy_from_slice(&self.bytes);
+        let mut bytes = *self.key(0).as_bytes();
         bytes[self.len as usize - 1] = 1;
         Key::new(bytes)
     }
@@ -277,10 +279,39 @@ impl Eq for Path {
     ghost laws = { lists_equiv nat_list_eq_equiv };
 }
 
+impl PartialOrd for Path {
+    ghost partial_cmp = { λ a b. Some (model.path_cmp a b) };
+
+    ghost laws = { paths_po };
+
+    fn partial_cmp(&self, other: &Self) -> Option<Ordering> {
+        Some(self.cmp(other))
+    }
+}
+
+impl Ord for Path {
+    ghost cmp = { model.path_cmp };
+
+    ghost total = { lists_total nat_list_cmp_total };
+
+    ghost matches_partial_cmp = { λ a b. refl };
+
+    ghost matches_eq = { paths_ties };
+
+    /// Name by name, each name as bytes: a path stands before those below it. Fields have that order as
+    /// bytes, so no name is looked for.
+    fn cmp(&self, other: &Self) -> Ordering
+        ensures value { result ≡ model.path_cmp self.now other.now }
+        ensures valid { IsTrue (model.is_path self.now) × IsTrue (model.is_path other.now) }
+    {
+        self.bytes.cmp(&other.bytes)
+    }
+}
+
 /// The block number that four bytes spell.
 fn block_of(bytes: &[u8]) -> u32
     requires { length bytes.now ≡ 4 }
     ensures { to_be_bytes w32 result ≡ bytes.now }
 {
-    u32::from_be_bytes([bytes[0], bytes[1], bytes[2], bytes[3]])
+    BigEndian::read_u32(bytes)
 }

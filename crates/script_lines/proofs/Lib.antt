@@ -1,6 +1,8 @@
 pub mod FieldLemmas
+pub mod Generating
 pub mod Held
 pub mod LineLemmas
+pub mod Loops
 pub mod Pieces
 pub mod ReplyLemmas
 pub mod Search

@@ -1,16 +1,16 @@
 -- A text that is put out in parts.
-use Rattle.std.proofs.Common.{◌≡◌, ℕ, ◌+◌, ◌<◌, IsTrue, List, [], ◌∷◌, ◌++◌, length, take, drop, refl, sym, ap, ◌∙◌, subst, arith, Result, Ok, Err, Some}
+use Rattle.std.proofs.Common.{◌≡◌, ℕ, ◌+◌, ◌<◌, IsTrue, List, [], ◌∷◌, ◌++◌, length, take, drop, refl, sym, ap, ◌∙◌, subst, Result, Ok, Err, Some}
 use Rattle.std.specs.List.{flat_map, slice_get}
 use Rattle.std.proofs.lemmas.List.{append-nil, append_assoc, take-append-drop, take_more}
 use Rattle.std.proofs.lemmas.List.Concat.{flat_map-append}
 use Rattle.std.proofs.lemmas.Option.{get_or_from_slice_get}
-use Rattle.store_base.specs.Counts.{Rose}
+use Rattle.store_base.specs.Counts.{raised}
 use Rattle.script_lines.specs.SinkState.{SinkState, IsPut}
 use Rattle.script_lines.specs.Replies.{PutsPart, FailsPart}
 
 -- nothing is put out yet
 pub PutsPart-refl : (a : SinkState) (text : List ℕ) → PutsPart a a text text
-PutsPart-refl a text = record { part = []; text = refl; observable = refl; faults = omega arith; written = λ observable. sym (append-nil a.written) }
+PutsPart-refl a text = record { part = []; text = refl; observable = refl; faults = refl; written = λ observable. sym (append-nil a.written) }
 
 -- a part, and then another
 pub PutsPart-trans : (a b c : SinkState) (before mid after : List ℕ) → PutsPart a b before mid → PutsPart b c mid after → PutsPart a c before after
@@ -18,7 +18,7 @@ PutsPart-trans a b c before mid after ab bc = record {
   part = ab.part ++ bc.part;
   text = ab.text ∙ ap (λ (xs : List ℕ). ab.part ++ xs) bc.text ∙ sym (append_assoc ab.part bc.part after);
   observable = bc.observable ∙ ab.observable;
-  faults = omega (arith, ab.faults, bc.faults);
+  faults = bc.faults ∙ ab.faults;
   written = λ observable.
       bc.written (subst IsTrue (sym ab.observable) observable) ∙ ap (λ (xs : List ℕ). xs ++ bc.part) (ab.written observable) ∙ append_assoc a.written ab.part bc.part;
 }
@@ -33,44 +33,12 @@ PutsPart-push a b before after more whole text ab whole_is text_is = record {
   written = ab.written;
 }
 
--- a part, and then the rest
-pub IsPut-last : {T E : Type 0} (a b c : SinkState) (whole text : List ℕ) (result : Result T E) → PutsPart a b whole text → IsPut b c text result → IsPut a c whole result
-IsPut-last a b c whole text (Ok value) ab bc = record {
-  observable = bc.observable ∙ ab.observable;
-  faults = omega (arith, ab.faults, bc.faults);
-  last_fault = bc.last_fault;
-  cause = tt;
-  observed = λ observable. record {
-    appended = (bc.observed (subst IsTrue (sym ab.observable) observable)).appended ∙ ap (λ (xs : List ℕ). xs ++ text) (ab.written observable)
-        ∙ append_assoc a.written ab.part text ∙ ap (λ (xs : List ℕ). a.written ++ xs) (sym ab.text);
-    cut_off = tt;
-  };
-}
-IsPut-last a b c whole text (Err fault) ab bc = record {
-  observable = bc.observable ∙ ab.observable;
-  faults = omega (arith, ab.faults, bc.faults);
-  last_fault = bc.last_fault;
-  cause = let rose : Rose b.faults c.faults = bc.cause in omega (arith, ab.faults, rose);
-  observed = λ observable. record {
-    appended = tt;
-    cut_off =
-        let cut = (bc.observed (subst IsTrue (sym ab.observable) observable)).cut_off in
-        record {
-          part = ab.part ++ cut.part;
-          rest = cut.rest;
-          is_prefix = ab.text ∙ ap (λ (xs : List ℕ). ab.part ++ xs) cut.is_prefix ∙ sym (append_assoc ab.part cut.part cut.rest);
-          appended = cut.appended ∙ ap (λ (xs : List ℕ). xs ++ cut.part) (ab.written observable) ∙ append_assoc a.written ab.part cut.part;
-        };
-  };
-}
-
 -- a part, and then a fault
 pub IsPut-fails : {T E : Type 0} (a b c : SinkState) (before mid whole more : List ℕ) (fault : E) → PutsPart a b before mid → FailsPart b c mid → whole ≡ before ++ more → IsPut {T = T} a c whole (Err fault)
 IsPut-fails a b c before mid whole more fault ab bc whole_is = record {
   observable = bc.observable ∙ ab.observable;
-  faults = omega (arith, ab.faults, bc.faults);
+  faults = bc.faults ∙ ap raised ab.faults;
   last_fault = bc.last_fault;
-  cause = omega (arith, ab.faults, bc.cause);
   observed = λ observable. record {
     appended = tt;
     cut_off =
@@ -83,6 +51,22 @@ IsPut-fails a b c before mid whole more fault ab bc whole_is = record {
         };
   };
 }
+
+-- a part, and then the rest
+pub IsPut-last : {T E : Type 0} (a b c : SinkState) (whole text : List ℕ) (result : Result T E) → PutsPart a b whole text → IsPut b c text result → IsPut a c whole result
+IsPut-last a b c whole text (Ok value) ab bc = record {
+  observable = bc.observable ∙ ab.observable;
+  faults = bc.faults ∙ ab.faults;
+  last_fault = bc.last_fault;
+  observed = λ observable. record {
+    appended = (bc.observed (subst IsTrue (sym ab.observable) observable)).appended ∙ ap (λ (xs : List ℕ). xs ++ text) (ab.written observable)
+        ∙ append_assoc a.written ab.part text ∙ ap (λ (xs : List ℕ). a.written ++ xs) (sym ab.text);
+    cut_off = tt;
+  };
+}
+IsPut-last a b c whole text (Err fault) ab bc =
+    IsPut-fails a b c whole text whole [] fault ab (record { observable = bc.observable; faults = bc.faults; last_fault = bc.last_fault; written = λ observable. (bc.observed observable).cut_off })
+    (sym (append-nil whole))
 
 module _ {X : Type 0} (text_of : X → List ℕ) where
   -- the text of one more

@@ -1,5 +1,5 @@
 -- What the loops of a reader of lines keep, and what its answers mean after them.
-use Rattle.std.proofs.Common.{◌≡◌, ℕ, ◌+◌, ◌-◌, ◌<◌, ◌≤◌, true, false, IsTrue, List, [], ◌∷◌, ◌++◌, length, take, drop, refl, sym, ap, ◌∙◌, subst, arith, ◌==◌, Ok, Err, inl, inr, cond, nat_lt}
+use Rattle.std.proofs.Common.{◌≡◌, ℕ, ◌+◌, ◌-◌, ◌<◌, ◌≤◌, true, false, IsTrue, List, [], ◌∷◌, ◌++◌, length, take, drop, refl, sym, ap, ◌∙◌, subst, arith, ◌==◌, Ok, Err, Some, None, inl, inr, cond, nat_lt}
 use Rattle.std.proofs.lemmas.List.{append-nil, append_assoc, length-append, length-drop, length-take-le, take-append-drop, drop-drop, take_at, take_all, drop_all, take_rest, nil_from_length}
 use Rattle.std.proofs.lemmas.List.Elements.{All-append}
 use Rattle.std.proofs.lemmas.Bool.{cases_lt, cases_eq, lt-ltb, le-ltb, eq-eqb, ne_eqb}
@@ -11,7 +11,8 @@ use Rattle.script_lines.specs.declared.lines.Line.{Line}
 use Rattle.script_lines.specs.declared.lines.Line.TheVariants as answers
 use Rattle.script_lines.specs.declared.lines.LineFault.{LineFault}
 use Rattle.script_lines.specs.declared.lines.LineFault.TheVariants as causes
-use Rattle.script_lines.proofs.LineLemmas.{ended_lines-blank, ended_lines-none}
+use Rattle.std.specs.List.{position}
+use Rattle.script_lines.proofs.LineLemmas.{ended_lines-blank, ended_lines-none, FindsEnd-position}
 use Rattle.script_lines.proofs.StateLemmas.{Moves, take-add, Moves-refl, Moves-drop, Moves-adds, Answers-trans, Answers-adds, Answers-blank, Answers-line, Answers-last, Answers-end, FailsBetween-breaks, PassesLimit-overflows}
 
 -- no LF in either, no LF in both
@@ -31,7 +32,7 @@ module _ {R : Type 0} (state : R → SourceState) where
     pub taken : a.taken ≤ b.taken
     pub in_limit : b.taken ≤ b.limit
     pub observable : (state b.source).is_observable ≡ (state a.source).is_observable
-    pub faults : (state a.source).faults ≤ (state b.source).faults
+    pub faults : (state b.source).faults ≡ (state a.source).faults
     pub shrinks : unread b ≤ unread a
 
   -- a line is looked for, and no LF stands among the bytes held that were scanned
@@ -70,7 +71,7 @@ module _ {R : Type 0} (state : R → SourceState) where
         taken = omega (arith, goes.taken);
         in_limit = omega (arith, adds.in_limit);
         observable = keeps.observable ∙ goes.observable;
-        faults = omega (arith, keeps.faults, goes.faults);
+        faults = keeps.faults ∙ goes.faults;
         shrinks = omega (arith, ap length held, length-append b.held adds.piece, adds.count_is, adds.in_limit, goes.shrinks);
       }
 
@@ -273,3 +274,13 @@ module _ {R : Type 0} (state : R → SourceState) where
 -- what is found in the rest
 pub rest_is : (bytes held : List ℕ) (scanned : ℕ) → bytes ≡ held → take (length bytes - scanned) (drop scanned bytes) ≡ drop scanned held
 rest_is bytes held scanned same = take_rest bytes scanned ∙ ap (drop scanned) same
+
+-- what is found in the rest is the first LF of all bytes held
+pub found_at : (bytes held : List ℕ) (scanned place : ℕ) → bytes ≡ held → scanned ≤ length held → HasNoEnd (take scanned held) → Some place ≡ position (λ x. x == 10) (take (length bytes - scanned) (drop scanned bytes)) → EndsAt held (scanned + place)
+found_at bytes held scanned place same within plain found =
+    EndsAt-drop held scanned place within plain (FindsEnd-position (drop scanned held) (Some place) (found ∙ ap (λ (xs : List ℕ). position (λ x. x == 10) xs) (rest_is bytes held scanned same)))
+
+-- where none is found in the rest, none stands among them
+pub none_found : (bytes held : List ℕ) (scanned : ℕ) → bytes ≡ held → HasNoEnd (take scanned held) → None ≡ position (λ x. x == 10) (take (length bytes - scanned) (drop scanned bytes)) → HasNoEnd held
+none_found bytes held scanned same plain none =
+    HasNoEnd-drop held scanned plain (FindsEnd-position (drop scanned held) None (none ∙ ap (λ (xs : List ℕ). position (λ x. x == 10) xs) (rest_is bytes held scanned same)))

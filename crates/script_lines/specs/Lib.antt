@@ -1,4 +1,5 @@
 pub mod Adapted
+pub mod Generated
 pub mod LineState
 pub mod Lines
 pub mod Memory

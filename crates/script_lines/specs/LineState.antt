@@ -1,8 +1,8 @@
 -- What a reader of lines means at one moment, and what it has answered from one moment to a later one.
-use Rattle.std.specs.Prelude.{◌≡◌, ◌↔◌, IsOk, ℕ, ◌+◌, ◌-◌, ◌<◌, ◌≤◌, Bool, true, false, IsTrue, List, [], ◌∷◌, ◌++◌, length, take, drop, Result, Ok, Err}
+use Rattle.std.specs.Prelude.{◌≡◌, ◌↔◌, IsOk, IfOk, ℕ, ◌+◌, ◌-◌, ◌<◌, ◌≤◌, Bool, true, false, IsTrue, List, [], ◌∷◌, ◌++◌, length, take, drop, Result, Ok, Err}
 use Rattle.store_model.specs.Scripts.{lines, line_limit}
 use Rattle.script_lines.specs.Lines.{ended_lines}
-use Rattle.store_base.specs.Counts.{Rose}
+use Rattle.store_base.specs.Counts.{raised}
 use Rattle.script_lines.specs.SourceState.{SourceState, IsObservable}
 use Rattle.script_lines.specs.declared.lines.Line.{Line}
 use Rattle.script_lines.specs.declared.lines.Line.TheVariants as answers
@@ -25,23 +25,28 @@ pub record LineState (R : Type 0) : Type 0 where
   -- the line, where the last answer was a text
   pub text : List ℕ
 
--- What a call does to any source: its count of faults never falls, and the call answers that it failed only where the
--- count rose.
+-- what a call of a reader makes of its source's count of failed takes: a take that failed raises it by one, and every
+-- other answer leaves it as it was
+abbrev pub source_faults_after : {T : Type 0} → ℕ → Result T LineFault → ℕ
+source_faults_after count (Ok value) = count
+source_faults_after count (Err causes.Source) = raised count
+source_faults_after count (Err causes.TooLong) = count
+
+-- What a call does to any source: of its takes the last alone may fail, and that is what the call answers then.
 pub record KeepsSource {T : Type 0} (old new : SourceState) (result : Result T LineFault) : Type 0 where
   pub observable : new.is_observable ≡ old.is_observable
-  pub faults : old.faults ≤ new.faults
-  pub cause : result ≡ Err causes.Source → Rose old.faults new.faults
+  pub faults : new.faults ≡ source_faults_after old.faults result
 
--- How many bytes may still come: those that are held, and those that may be taken.
+-- How many bytes may still come: those that are held, and those that may be taken. It is what a loop over the lines
+-- ends by.
 abbrev pub unread : {R : Type 0} → LineState R → ℕ
 unread reader = length reader.held + (reader.limit - reader.taken)
 
--- it falls where a line is answered
-abbrev pub Falls : {R : Type 0} → LineState R → LineState R → Result Line LineFault → Type 0
-Falls old new (Ok answers.Text) = unread new < unread old
-Falls old new (Ok answers.Long) = unread new < unread old
-Falls old new (Ok answers.End) = Unit {0}
-Falls old new (Err fault) = Unit {0}
+-- it falls where a line is answered, and does not rise at the end
+abbrev pub Falls : {R : Type 0} → LineState R → LineState R → Line → Type 0
+Falls old new answers.Text = unread new < unread old
+Falls old new answers.Long = unread new < unread old
+Falls old new answers.End = unread new ≤ unread old
 
 -- What a call does to any reader: it is live where the call did not fail, ended where the answer is the end, and never
 -- takes more than it may.
@@ -52,7 +57,7 @@ pub record EndsCall {R : Type 0} (old new : LineState R) (result : Result Line L
   pub in_limit : new.taken ≤ new.limit
   pub ended : result ≡ Ok answers.End → new.is_ended ≡ true
   pub too_long : result ≡ Err causes.TooLong → new.taken ≡ new.limit
-  pub falls : Falls old new result
+  pub falls : IfOk result (Falls old new)
 
 -- what the last answer shows
 abbrev pub IsShown : Result Line LineFault → List ℕ → Type 0

@@ -49,7 +49,7 @@ ReadsPath text (Err refusals.Syntax) = path_of text ≡ None
 ReadsPath text (Err refusals.Path) = (p : Path) × (path_of text ≡ Some p) × (fits_field p ≡ false)
 ReadsPath text (Err _) = ⊥
 
--- no field is longer than the line
+-- the last field is not longer than the line
 abbrev pub FitFields : ℕ → Fields → Type 0
 FitFields size (fields.One w) = length w.now ≤ size
 FitFields size (fields.Two w a) = length a.now ≤ size

@@ -1,6 +1,6 @@
 -- The program's replies seen as those of the definitions, and what the parts of a listing do to a sink.
-use Rattle.std.specs.Prelude.{◌≡◌, ℕ, ◌^◌, ◌<◌, ◌≤◌, List, ◌++◌, Result, Ok, Err}
-use Rattle.store_base.specs.Counts.{Rose}
+use Rattle.std.specs.Prelude.{◌≡◌, ℕ, ◌^◌, ◌<◌, List, ◌++◌, Result, Ok, Err}
+use Rattle.store_base.specs.Counts.{raised}
 use Rattle.store_model.specs.Commands as model
 use Rattle.store_model.specs.Commands.Reply.{Acknowledged, Content, Listing, PagesUsed, ImageDigest, Refused}
 use Rattle.script_lines.specs.declared.reply.Reply.{Reply}
@@ -21,15 +21,14 @@ pub record PutsPart (old new : SinkState) (before after : List ℕ) : Type 0 whe
   pub part : List ℕ
   pub text : before ≡ part ++ after
   pub observable : new.is_observable ≡ old.is_observable
-  pub faults : old.faults ≤ new.faults
+  pub faults : new.faults ≡ old.faults
   pub written : IsObservable old → new.written ≡ old.written ++ part
 
 -- The text could not be put out, or a prefix of it alone.
 pub record FailsPart (old new : SinkState) (text : List ℕ) : Type 0 where
   pub observable : new.is_observable ≡ old.is_observable
-  pub faults : old.faults ≤ new.faults
+  pub faults : new.faults ≡ raised old.faults
   pub last_fault : new.faults < 2 ^ 64
-  pub cause : Rose old.faults new.faults
   pub written : IsObservable old → AppendsPrefix old.written new.written text
 
 -- what putting out the front of a text, to make room, does

@@ -1,6 +1,6 @@
 -- What a sink means at one moment, and what one put does.
-use Rattle.std.specs.Prelude.{◌≡◌, ℕ, ◌^◌, ◌<◌, ◌≤◌, Bool, IsTrue, List, ◌++◌, Result, OnOk, OnErr}
-use Rattle.store_base.specs.Counts.{Rose}
+use Rattle.std.specs.Prelude.{◌≡◌, ℕ, ◌^◌, ◌<◌, Bool, IsTrue, List, ◌++◌, Result, OnOk, OnErr}
+use Rattle.store_base.specs.Counts.{faults_after}
 
 -- A sink at one moment. Only where it is observable do the bytes written mean anything.
 pub record SinkState : Type 0 where
@@ -30,9 +30,8 @@ pub record PutsBytes {T E : Type 0} (old new : SinkState) (bytes : List ℕ) (re
 -- a put of these bytes, in one call or in several
 pub record IsPut {T E : Type 0} (old new : SinkState) (bytes : List ℕ) (result : Result T E) : Type 0 where
   pub observable : new.is_observable ≡ old.is_observable
-  -- the count of faults never falls, and stays at the last value of a u64
-  pub faults : old.faults ≤ new.faults
+  -- a fault raises the count of faults by one, and nothing else does
+  pub faults : new.faults ≡ faults_after old.faults result
+  -- a count stays at the last value of a u64
   pub last_fault : new.faults < 2 ^ 64
-  -- an error comes only where the count of faults rose
-  pub cause : OnErr result (Rose old.faults new.faults)
   pub observed : IsObservable old → PutsBytes old new bytes result

@@ -1,6 +1,6 @@
 -- What a source means at one moment, and what one take does.
 use Rattle.std.specs.Prelude.{◌≡◌, ◌↔◌, ℕ, ◌^◌, ◌<◌, ◌≤◌, Bool, IsTrue, List, [], ◌++◌, length, take, Result, IfOk, OnErr}
-use Rattle.store_base.specs.Counts.{Rose}
+use Rattle.store_base.specs.Counts.{faults_after}
 
 -- A source at one moment. Only where it is observable do the bytes left mean anything.
 pub record SourceState : Type 0 where
@@ -27,9 +27,8 @@ pub record TakesBytes {E : Type 0} (old new : SourceState) (buffer : List ℕ) (
 pub record IsTake {E : Type 0} (old new : SourceState) (buffer : List ℕ) (result : Result ℕ E) : Type 0 where
   pub observable : new.is_observable ≡ old.is_observable
   pub within : IfOk result (λ count. count ≤ length buffer)
-  -- the count of faults never falls, and stays at the last value of a u64
-  pub faults : old.faults ≤ new.faults
+  -- a fault raises the count of faults by one, and nothing else does
+  pub faults : new.faults ≡ faults_after old.faults result
+  -- a count stays at the last value of a u64
   pub last_fault : new.faults < 2 ^ 64
-  -- an error comes only where the count of faults rose
-  pub cause : OnErr result (Rose old.faults new.faults)
   pub observed : IsObservable old → TakesBytes old new buffer result

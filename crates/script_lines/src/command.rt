@@ -35,8 +35,8 @@ pub enum Command {
 }
 
 /// The command that a line spells.
-/// `Syntax`: the line is not in the grammar with paths of any length. `Path`: it is, and a path's field
-/// passes 120 bytes.
+/// `Syntax`: the line spells none, however long paths may be. `Path`: it spells one, and a path in it has
+/// more than 120 bytes.
 #[tactic(auto, unfolding(store_model::specs::Grammar::parse, store_model::specs::Grammar::command_of, store_model::specs::Grammar::command_of_fields))]
 pub fn parse_command(text: &[u8]) -> Result<Command, Refusal>
     requires { length text.now ≤ MAX_LINE }

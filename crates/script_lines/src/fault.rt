@@ -3,13 +3,13 @@
 use thiserror::Error;
 
 /// A take from a source failed.
-/// A call answers it only where the source's count of faults rose during the call.
+/// A call answers it exactly where it raised the source's count of faults by one.
 #[derive(Clone, Copy, Debug, PartialEq, Eq, Error)]
 #[error("the source failed")]
 pub struct SourceFault;
 
 /// A put into a sink failed.
-/// A call answers it only where the sink's count of faults rose during the call.
+/// A call answers it exactly where it raised the sink's count of faults by one.
 #[derive(Clone, Copy, Debug, PartialEq, Eq, Error)]
 #[error("the sink failed")]
 pub struct SinkFault;

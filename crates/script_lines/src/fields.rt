@@ -134,7 +134,7 @@ pub fn read_bytes(text: &[u8]) -> Option<Bytes>
     if text.is_empty() {
         return None;
     }
-    let mut room = [0; 4096];
+    let mut room = [0; Bytes::MAX_LEN];
     let bytes = &mut room[..text.len() / 2];
     if decode_pairs(text, bytes) {
         Some(Bytes::new(bytes))

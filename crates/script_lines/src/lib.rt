@@ -5,6 +5,7 @@
 mod command;
 mod fault;
 mod fields;
+mod generator;
 mod lines;
 mod memory;
 mod reply;
@@ -18,6 +19,7 @@ mod text;
 pub use command::{Command, parse_command};
 pub use fault::{SinkFault, SourceFault};
 pub use fields::parse_number;
+pub use generator::Generator;
 pub use lines::{Line, LineFault, LineReader, MAX_LINE, MAX_SCRIPT};
 pub use memory::{MemSink, MemSource};
 pub use reply::{Reply, write_reply};

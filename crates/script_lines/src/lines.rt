@@ -257,16 +257,19 @@ impl<R: Source> LineReader<R> {
         }
     }
 
-    /// The next line of the script. Bytes are taken only where no whole line is held.
-    /// `Source`: a take failed. `TooLong`: as many bytes were taken as a script may have, and one more
-    /// came. After either the reader is not live. In both cases each line that an LF ended among the bytes
-    /// taken, or allowed, was answered; one in progress is not. After `End` the answer is `End` again.
+    /// The next line of the script. Bytes are taken only where no whole line is held, and none after the
+    /// source's end.
+    /// `Source`: a take failed, and nothing was taken after it. `TooLong`: as many bytes were taken as a
+    /// script may have, and one more came. After either the reader is not live. In both cases each line
+    /// that an LF ended among the bytes taken, or allowed, was answered; one in progress is not. After `End`
+    /// the answer is `End` again.
     pub fn next_line(&mut self) -> Result<Line, LineFault>
         requires { IsTrue self.old.is_live }
         ensures source { KeepsSource (R.state self.old.source) (R.state self.new.source) result }
         ensures ends { EndsCall self.old self.new result }
         ensures shown { IsShown result self.new.text }
         ensures again { IsTrue self.old.is_ended → result ≡ Ok Line.End }
+        ensures after_end { IsTrue self.old.is_ended → self.new.source ≡ self.old.source }
         ensures no_take { 0 < length (ended_lines self.old.held) → self.new.source ≡ self.old.source }
         ensures answer { IsObservable (R.state self.old.source) → NextLine R.state self.old self.new result }
     {

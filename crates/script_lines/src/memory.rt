@@ -112,9 +112,9 @@ impl Model for MemSink {
 impl MemSink {
     ghost use Rattle.std.specs.Prelude.{◌≡◌, IfOk, []};
 
-    /// A sink to which nothing was written, with room for so many bytes, all of it taken here. Its put
-    /// number `k`, from 0, fails exactly where `k` stands in `failing` or the piece is longer than the room
-    /// left, and then nothing is appended.
+    /// A sink to which nothing was written, with room for so many bytes, all of it taken here. `failing`
+    /// has the numbers, from 0, of the puts that fail; a put fails too where it has more bytes than there is
+    /// room for, and none other does. One that fails appends nothing.
     /// `NoMemory`: there is no sink.
     pub fn new(alloc: Global, room: usize, failing: Vec<u64>) -> Result<Self, NoMemory>
         ensures { IfOk result (λ sink. sink ≡ record { written = []; room = room; failing = failing.items; puts = 0; faults = 0 }) }
@@ -140,8 +140,8 @@ impl MemSink {
 impl Sink for MemSink {
     ghost state = { sink_state };
 
-    /// Fails exactly where the number of this put stands in the list that the sink was made with, or the
-    /// piece is longer than the room left. Then nothing is appended.
+    /// Fails exactly where its number is one of those that the sink was made with, or the bytes have no room.
+    /// Then nothing is appended.
     fn put(&mut self, bytes: &[u8]) -> Result<(), SinkFault>
         ensures contract { IsPut (sink_state self.old) (sink_state self.new) bytes.now result }
         ensures fault { IsErr result ↔ IsFailing self.old (length bytes.now) }

@@ -9,11 +9,14 @@ ghost use Rattle.script_lines.specs.Replies.{reply_of, MakesRoom};
 
 use crate::fault::SinkFault;
 use crate::sink::Sink;
-use crate::text::Text;
+use crate::text::{MAX_TEXT, Text};
 use store_base::{Bytes, Entries, Refusal};
 
 /// The most bytes that the line of a child has.
 const MAX_CHILD: usize = 134;
+
+/// The most bytes that the words of a refusal have.
+const MAX_REFUSAL: usize = 64;
 
 /// What a command answers.
 #[derive(Debug, Drop)]
@@ -37,8 +40,10 @@ pub enum Reply {
     No(Refusal),
 }
 
-/// Writes the text of a reply: each of its lines, ended by LF. One put does, but for a long listing.
-/// `SinkFault`: a put failed. A prefix of the text may have been written, and nothing else.
+/// Writes the text of a reply, each line of it ended by LF, in one put; a listing of more than 8,448 bytes
+/// takes several.
+/// `SinkFault`: a put failed, and no other was made after it. A prefix of the text may have been written,
+/// and nothing else.
 #[tactic(auto, unfolding(store_model::specs::Commands::reply_text))]
 pub fn write_reply<W: Sink>(sink: &mut W, reply: &Reply) -> Result<(), SinkFault>
     ensures { IsPut (W.state sink.old) (W.state sink.new) (reply_text (reply_of reply.now)) result }
@@ -111,9 +116,9 @@ fn refusal_line(refusal: Refusal) -> Text
 /// Adds the word of a refusal, and the two numbers of `full`.
 #[tactic(auto, unfolding(store_model::specs::Commands::reply_text, store_model::specs::Commands::content_text, store_model::specs::Commands::child_line, store_model::specs::Commands::refusal_text))]
 fn push_refusal(text: &mut Text, refusal: Refusal)
-    requires { length text.old ≤ 64 }
+    requires { length text.old + MAX_REFUSAL ≤ MAX_TEXT }
     ensures value { text.new ≡ text.old ++ refusal_text refusal }
-    ensures fits { length text.new ≤ length text.old + 64 }
+    ensures fits { length text.new ≤ length text.old + MAX_REFUSAL }
 {
     match refusal {
         Refusal::Long => text.push(b"long"),
@@ -135,9 +140,9 @@ fn push_refusal(text: &mut Text, refusal: Refusal)
 /// Adds the word `full` and its two numbers.
 #[tactic(auto, unfolding(store_model::specs::Commands::reply_text, store_model::specs::Commands::content_text, store_model::specs::Commands::child_line, store_model::specs::Commands::refusal_text))]
 fn push_full(text: &mut Text, need: u32, slots: u32)
-    requires { length text.old ≤ 64 }
+    requires { length text.old + MAX_REFUSAL ≤ MAX_TEXT }
     ensures value { text.new ≡ text.old ++ (codes "full " ++ decimal need ++ codes " " ++ decimal slots) }
-    ensures fits { length text.new ≤ length text.old + 64 }
+    ensures fits { length text.new ≤ length text.old + MAX_REFUSAL }
 {
     text.push(b"full ");
     text.push_number(need);
@@ -163,9 +168,9 @@ fn write_listing<W: Sink>(sink: &mut W, entries: &Entries) -> Result<(), SinkFau
 /// Puts the text out where a child's line might not fit behind it.
 fn make_room<W: Sink>(sink: &mut W, text: &mut Text) -> Result<(), SinkFault>
     ensures puts { MakesRoom (W.state sink.old) (W.state sink.new) text.old text.new result }
-    ensures room { OnOk result (length text.new + MAX_CHILD ≤ Text.MAX_LEN) }
+    ensures room { OnOk result (length text.new + MAX_CHILD ≤ MAX_TEXT) }
 {
-    if text.len() > Text::MAX_LEN - MAX_CHILD {
+    if text.len() > MAX_TEXT - MAX_CHILD {
         sink.put(text.as_slice())?;
         text.clear();
     }
@@ -175,7 +180,7 @@ fn make_room<W: Sink>(sink: &mut W, text: &mut Text) -> Result<(), SinkFault>
 /// Adds the line of a child.
 #[tactic(auto, unfolding(store_model::specs::Commands::reply_text, store_model::specs::Commands::content_text, store_model::specs::Commands::child_line, store_model::specs::Commands::refusal_text))]
 fn push_child(text: &mut Text, name: &[u8], size: Option<u32>)
-    requires room { length text.old + MAX_CHILD ≤ Text.MAX_LEN }
+    requires room { length text.old + MAX_CHILD ≤ MAX_TEXT }
     requires name { length name.now ≤ Entries.MAX_NAME }
     ensures { text.new ≡ text.old ++ child_line (name.now, size) }
 {

@@ -1,14 +1,15 @@
 //! A source over a reader of std, and a sink over a writer of std. They do not tell their bytes.
 
-ghost use Rattle.std.specs.Prelude.{◌≡◌, false, []};
+ghost use Rattle.std.specs.Prelude.{◌≡◌, ◌≤◌, false, [], length, IfSome};
 
 use crate::fault::{SinkFault, SourceFault};
 use crate::sink::Sink;
 use crate::source::Source;
-use std::io::{Read, Write};
+use std::io::{ErrorKind, Read, Write};
 use std::marker::Model;
 
-/// A source over a reader. Each error of the reader is a fault.
+/// A source over a reader. A read that was interrupted is made again; each other error of the reader is a
+/// fault.
 #[derive(Drop)]
 pub struct StdSource<R> {
     reader: R,
@@ -45,18 +46,31 @@ impl<R: Read> Source for StdSource<R> {
 
     fn take(&mut self, into: &mut [u8]) -> Result<usize, SourceFault> {
         let faults = self.faults;
-        match self.reader.read(into) {
-            Ok(count) => Ok(count),
-            Err(_) => {
-                self.faults = faults.saturating_add(1);
-                Err(SourceFault)
-            }
-        }
+        let Some(count) = read_some(&mut self.reader, into) else {
+            self.faults = faults.saturating_add(1);
+            return Err(SourceFault);
+        };
+        Ok(count)
     }
 }
 
-/// A sink over a writer. Each error of the writer is a fault, and so is a write that takes nothing of a
-/// piece that is not empty. A put that succeeds wrote the whole piece and flushed the writer.
+/// Reads into the buffer, as often as a read is interrupted, and answers how many bytes came.
+fn read_some<R: Read>(reader: &mut R, into: &mut [u8]) -> Option<usize>
+    ensures { IfSome result (λ count. count ≤ length into.new) }
+{
+    for _ in 0..u64::MAX {
+        match reader.read(into) {
+            Ok(count) => return Some(count),
+            Err(error) if error.kind() == ErrorKind::Interrupted => {}
+            Err(_) => return None,
+        }
+    }
+    None
+}
+
+/// A sink over a writer. A write that was interrupted is made again, and one that takes a part of a piece is
+/// followed by one of the rest; each other error of the writer is a fault, and so is a write that takes
+/// nothing. A put that succeeds wrote the whole piece and flushed the writer.
 #[derive(Drop)]
 pub struct StdSink<W> {
     writer: W,
@@ -93,22 +107,10 @@ impl<W: Write> Sink for StdSink<W> {
 
     fn put(&mut self, bytes: &[u8]) -> Result<(), SinkFault> {
         let faults = self.faults;
-        if is_written(&mut self.writer, bytes) {
-            return Ok(());
+        if self.writer.write_all(bytes).is_err() || self.writer.flush().is_err() {
+            self.faults = faults.saturating_add(1);
+            return Err(SinkFault);
         }
-        self.faults = faults.saturating_add(1);
-        Err(SinkFault)
+        Ok(())
     }
-}
-
-/// Writes the bytes until they are out, flushes, and says whether all of it was done.
-fn is_written<W: Write>(writer: &mut W, bytes: &[u8]) -> bool {
-    let mut rest = bytes;
-    while !rest.is_empty() {
-        match writer.write(rest) {
-            Ok(count) if count > 0 => rest = &rest[count..],
-            _ => return false,
-        }
-    }
-    writer.flush().is_ok()
 }

@@ -1,7 +1,8 @@
 use crate::{
-    Command, Line, LineFault, LineReader, MemSink, MemSource, Reply, Sink, SinkFault, Source,
-    StdSink, StdSource, parse_command, parse_number, write_reply,
+    Command, Generator, Line, LineFault, LineReader, MemSink, MemSource, Reply, Sink, SinkFault,
+    Source, SourceFault, StdSink, StdSource, parse_command, parse_number, write_reply,
 };
+use path_keys::Path;
 use std::alloc::{AllocError, Global};
 use std::io;
 use std::io::{Read, Write};
@@ -49,90 +50,93 @@ fn reader(
 }
 
 #[test]
-fn lines_come_in_any_pieces(rt: HostRuntime) -> Result<(), Fail> {
+fn a_script_is_read_to_its_end_a_fault_or_its_limit(rt: HostRuntime) -> Result<(), Fail> {
     let alloc = rt.alloc();
     let script = b"\nmake /a\n\n\nlist /\nspace".as_slice();
-    let want = b"make /a;list /;space;END".as_slice();
-    for pieces in [[100, 1, 1], [0, 1, 2], [7, 1, 9]] {
-        let mut reader = reader(&rt, alloc, script, &pieces, &[], 100);
+    for (failing, limit, want) in [
+        (9, 100, b"make /a;list /;space;END".as_slice()),
+        (1, 100, b"make /a;FAULT;".as_slice()),
+        (9, 22, b"make /a;list /;TOO LONG;".as_slice()),
+    ] {
+        let mut reader = reader(&rt, alloc, script, &[10, 1, 3], &[failing], limit);
         assert_eq!(rt; told(alloc, &mut reader)?.as_slice(), want);
-        assert_eq!(rt; told(alloc, &mut reader)?.as_slice(), b"END".as_slice());
     }
-    let mut reader = reader(&rt, alloc, b"a\n\nb\n", &[2], &[], 5);
-    assert_eq!(rt; told(alloc, &mut reader)?.as_slice(), b"a;b;END".as_slice());
     Ok(())
 }
 
 #[test]
-fn long_lines_are_passed_over(rt: HostRuntime) -> Result<(), Fail> {
+fn many_lines_and_long_ones_are_read(rt: HostRuntime) -> Result<(), Fail> {
     let alloc = rt.alloc();
-    for (len, want) in [(8191, 8191), (8192, 8192), (8193, 4), (200_000, 4)] {
-        let mut script = vec![in alloc; b'x'; len]?;
-        script.extend_from_slice(b"\nspace\n")?;
-        let mut reader = reader(&rt, alloc, script.as_slice(), &[5000], &[], 1_000_000);
-        let log = told(alloc, &mut reader)?;
-        assert_eq!(rt; log.len(), want + 10, "a line of {len} bytes");
-        assert!(rt; log.as_slice().ends_with(b";space;END".as_slice()));
+    let mut script = vec![in alloc; b'x'; 200_000]?;
+    for _ in 0..1500 {
+        script.extend_from_slice(b"\na")?;
     }
-    let last = vec![in alloc; b'x'; 8193]?;
-    let mut reader = reader(&rt, alloc, last.as_slice(), &[], &[], 8193);
-    assert_eq!(rt;
-        told(alloc, &mut reader)?.as_slice(),
-        b"LONG;END".as_slice()
-    );
+    let mut reader = reader(&rt, alloc, script.as_slice(), &[], &[], 1_000_000);
+    assert!(rt; reader.is_live() && matches!(reader.next_line(), Ok(Line::Long)));
+    for _ in 0..1500 {
+        assert!(rt; reader.is_live() && matches!(reader.next_line(), Ok(Line::Text)));
+    }
+    assert!(rt; reader.is_live() && matches!(reader.next_line(), Ok(Line::End)));
     Ok(())
 }
 
-#[test]
-fn a_reader_ends_at_a_fault_and_at_its_limit(rt: HostRuntime) -> Result<(), Fail> {
-    let alloc = rt.alloc();
-    let script = b"make /a\nlist /\n".as_slice();
-    let mut failing = reader(&rt, alloc, script, &[10], &[1], 100);
-    assert_eq!(rt;
-        told(alloc, &mut failing)?.as_slice(),
-        b"make /a;FAULT;".as_slice()
-    );
-    assert!(rt; !failing.is_live());
-    let mut limited = reader(&rt, alloc, script, &[], &[], 14);
-    assert_eq!(rt;
-        told(alloc, &mut limited)?.as_slice(),
-        b"make /a;TOO LONG;".as_slice()
-    );
-    let mut whole = reader(&rt, alloc, script, &[], &[], 15);
-    assert_eq!(rt;
-        told(alloc, &mut whole)?.as_slice(),
-        b"make /a;list /;END".as_slice()
-    );
-    Ok(())
-}
-
-/// A reader of two bytes and then nothing but errors, and a writer that takes one byte at a time, three in
-/// all.
+/// A reader whose first read is interrupted, whose second gives a line, and whose others fail; and a writer
+/// that takes one byte at a time, whose first write is interrupted.
 #[derive(Drop)]
-struct Faulty(u8);
+struct Uneven {
+    calls: u8,
+    written: [u8; 4],
+    len: usize,
+    flushed: usize,
+}
 
-impl Read for Faulty {
-    fn read(&mut self, buf: &mut [u8]) -> io::Result<usize> {
-        if self.0 == 0 || buf.len() < 2 {
-            return Err(io::Error::from(io::ErrorKind::Other));
+impl Uneven {
+    fn new() -> Self {
+        Uneven {
+            calls: 0,
+            written: [0; 4],
+            len: 0,
+            flushed: 0,
         }
-        self.0 = 0;
-        buf[0] = b'a';
-        buf[1] = b'\n';
-        Ok(2)
+    }
+
+    /// The number of this call, from 0.
+    fn next_call(&mut self) -> u8 {
+        let call = self.calls;
+        self.calls = call.saturating_add(1);
+        call
     }
 }
 
-impl Write for Faulty {
+impl Read for Uneven {
+    fn read(&mut self, buf: &mut [u8]) -> io::Result<usize> {
+        match self.next_call() {
+            0 => Err(io::Error::from(io::ErrorKind::Interrupted)),
+            1 if buf.len() > 1 => {
+                buf[0] = b'a';
+                buf[1] = b'\n';
+                Ok(2)
+            }
+            _ => Err(io::Error::from(io::ErrorKind::Other)),
+        }
+    }
+}
+
+impl Write for Uneven {
     fn write(&mut self, buf: &[u8]) -> io::Result<usize> {
-        if self.0 == 0 || buf.is_empty() {
+        if self.next_call() == 0 {
+            return Err(io::Error::from(io::ErrorKind::Interrupted));
+        }
+        if buf.is_empty() || self.len >= self.written.len() {
             return Ok(0);
         }
-        self.0 -= 1;
+        self.written[self.len] = buf[0];
+        self.len += 1;
         Ok(1)
     }
 
     fn flush(&mut self) -> io::Result<()> {
+        self.flushed = self.len;
         Ok(())
     }
 }
@@ -145,25 +149,43 @@ fn readers_and_writers_of_std_are_adapted(rt: HostRuntime) -> Result<(), Fail> {
     };
     assert_eq!(rt; told(alloc, &mut lines)?.as_slice(), b"a;b;END".as_slice());
     assert!(rt; lines.into_source().into_inner().is_empty());
-    let Ok(mut lines) = LineReader::new(alloc, StdSource::new(Faulty(1))) else {
+    let Ok(mut lines) = LineReader::new(alloc, StdSource::new(Uneven::new())) else {
         panic!(rt; "memory");
     };
     assert_eq!(rt; told(alloc, &mut lines)?.as_slice(), b"a;FAULT;".as_slice());
-    let mut sink = StdSink::new(Vec::new(alloc));
-    assert!(rt; sink.put(b"ab").is_ok() && sink.put(b"c").is_ok());
-    assert_eq!(rt; sink.into_inner().as_slice(), b"abc".as_slice());
-    let mut sink = StdSink::new(Faulty(3));
-    assert!(rt; sink.put(b"ab").is_ok());
-    assert_eq!(rt; sink.put(b"cd"), Err(SinkFault));
+    assert_eq!(rt; lines.into_source().into_inner().calls, 3);
+    let mut sink = StdSink::new(Uneven::new());
+    assert!(rt; sink.put(b"abc").is_ok());
+    assert_eq!(rt; sink.put(b"de"), Err(SinkFault));
+    let writer = sink.into_inner();
+    assert_eq!(rt; (writer.written, writer.flushed), (*b"abcd", 3));
     Ok(())
 }
 
-/// What a sink with room for 30,000 bytes holds once the replies are written.
-fn written(rt: &impl Abort, alloc: Global, replies: &[Reply]) -> Vec<u8> {
-    let mut sink = MemSink::new(alloc, 30_000, Vec::new(alloc)).expect(rt, "memory");
+#[test]
+fn faults_have_their_texts(rt: HostRuntime) -> Result<(), Fail> {
+    let texts = format!(in rt.alloc();
+        "{SourceFault}, {SinkFault}, {}, {}",
+        LineFault::Source,
+        LineFault::TooLong
+    )?;
+    let want =
+        "the source failed, the sink failed, the script cannot be read, the script is too long";
+    assert_eq!(rt; texts.as_str(), want);
+    Ok(())
+}
+
+/// What a sink with room for 30,000 bytes holds once the replies are written, in so many puts.
+fn written(rt: &impl Abort, alloc: Global, replies: &[Reply], puts: u64) -> Vec<u8> {
+    let failing = vec![in alloc; puts; 1].expect(rt, "memory");
+    let mut sink = MemSink::new(alloc, 30_000, failing).expect(rt, "memory");
     for reply in replies {
         assert!(rt; write_reply(&mut sink, reply).is_ok());
     }
+    assert!(rt;
+        write_reply(&mut sink, &Reply::Ok).is_err(),
+        "a reply took fewer puts"
+    );
     Vec::from_slice(alloc, sink.written()).expect(rt, "memory")
 }
 
@@ -195,7 +217,8 @@ fn replies_have_their_text(rt: HostRuntime) -> Result<(), Fail> {
         want.extend_from_slice(b"ab")?;
     }
     want.extend_from_slice(b"\n")?;
-    assert_eq!(rt; written(&rt, alloc, &replies).as_slice(), want.as_slice());
+    let texts = written(&rt, alloc, &replies, 8);
+    assert_eq!(rt; texts.as_slice(), want.as_slice());
     Ok(())
 }
 
@@ -206,12 +229,11 @@ fn a_long_listing_takes_several_puts(rt: HostRuntime) -> Result<(), Fail> {
     for _ in 0..200 {
         entries.push(&[b'n'; 120], Some(4_294_967_295))?;
     }
-    let listing = Reply::Listing(entries);
-    let mut sink = MemSink::new(alloc, 30_000, Vec::new(alloc))?;
-    assert!(rt; write_reply(&mut sink, &listing).is_ok());
-    assert_eq!(rt; sink.written().len(), 200 * 134 + 4);
+    let listing = [Reply::Listing(entries)];
+    let text = written(&rt, alloc, &listing, 4);
+    assert_eq!(rt; text.len(), 200 * 134 + 4);
     let mut failing = MemSink::new(alloc, 30_000, vec![in alloc; 1]?)?;
-    assert_eq!(rt; write_reply(&mut failing, &listing), Err(SinkFault));
+    assert_eq!(rt; write_reply(&mut failing, &listing[0]), Err(SinkFault));
     assert!(rt; failing.written().len() % 134 == 0 && !failing.written().is_empty());
     let mut full = MemSink::new(alloc, 2, Vec::new(alloc))?;
     assert_eq!(rt; write_reply(&mut full, &Reply::Ok), Err(SinkFault));
@@ -220,45 +242,34 @@ fn a_long_listing_takes_several_puts(rt: HostRuntime) -> Result<(), Fail> {
 }
 
 #[test]
-fn commands_are_read(rt: HostRuntime) {
+fn commands_and_numbers_are_read(rt: HostRuntime) {
     for line in [
         b"write /a/b 4294967295 0aFF".as_slice(),
-        b"cut / 0",
-        b"read /f 3 1",
-        b"write /f 1 -",
         b"rename /a /b",
-        b"make /a",
-        b"remove /a",
-        b"prune /",
+        b"cut / 0",
         b"list /",
         b"space",
-        b"digest",
     ] {
         assert!(rt; parse_command(line).is_ok());
     }
+    assert!(rt; matches!(parse_command(b"make a"), Err(Refusal::Syntax)));
     assert_eq!(rt; parse_number(b"4294967295"), Some(4_294_967_295));
 }
 
+/// Whether the field of a path begins with these bytes.
+fn begins(path: &Path, names: &[u8]) -> bool {
+    path.key(0).as_bytes().starts_with(names)
+}
+
 #[test]
-fn other_lines_are_refused(rt: HostRuntime) {
-    for line in [
-        b"make a".as_slice(),
-        b"MAKE /a",
-        b"make /a ",
-        b"make /..",
-        b"make /a/",
-        b"write /a 00 -",
-        b"read /a 0 4294967296",
-        b"write /a 0 123",
-        b"cut  /a 1",
-        b"",
-        b"space 1",
-        b"write /a 0 - -",
-    ] {
-        assert!(rt; matches!(parse_command(line), Err(Refusal::Syntax)));
-    }
-    let mut long = [b'x'; 126];
-    long[..6].copy_from_slice(b"make /");
-    assert!(rt; matches!(parse_command(&long), Err(Refusal::Path)));
-    assert!(rt; matches!(parse_command(&long[..125]), Ok(Command::Make(_))));
+fn number_0_gives_its_first_commands(rt: HostRuntime) {
+    let mut generator = Generator::new(0);
+    let first = generator.next();
+    let second = generator.next();
+    let third = generator.next();
+    assert!(rt; matches!(&first, Command::Write(path, 0, _) if begins(path, b"d7\0f7\0\0")));
+    assert!(rt;
+        matches!(&second, Command::Rename(from, to) if begins(from, b"d0\0f1\0\0") && begins(to, b"d5\0f1\0\0"))
+    );
+    assert!(rt; matches!(&third, Command::Make(path) if begins(path, b"d1\0\0")));
 }

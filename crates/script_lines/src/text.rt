@@ -7,11 +7,18 @@ ghost use Rattle.hex.specs.Hex.{encode_lower};
 use arrayvec::ArrayVec;
 use itoa::Buffer;
 use std::marker::Model;
+use store_base::Bytes;
+
+/// The most bytes that a text has: the longest line of a reply fits, and many lines of a listing.
+pub(crate) const MAX_TEXT: usize = 8448;
+
+/// The most bytes that `push_hex` adds the digits of.
+const MAX_HEX: usize = Bytes::MAX_LEN;
 
 /// A text of at most 8,448 bytes. It takes no memory.
 #[derive(Drop)]
 pub(crate) struct Text {
-    bytes: ArrayVec<u8, 8448>,
+    bytes: ArrayVec<u8, MAX_TEXT>,
 }
 
 impl Model for Text {
@@ -23,12 +30,6 @@ impl Model for Text {
 }
 
 impl Text {
-    /// The most bytes that a text has.
-    pub(crate) const MAX_LEN: usize = 8448;
-
-    /// The most bytes that `push_hex` adds the digits of.
-    pub(crate) const MAX_HEX: usize = 4096;
-
     /// No text.
     pub(crate) fn new() -> Self
         ensures { result ≡ [] }
@@ -61,7 +62,7 @@ impl Text {
 
     /// Adds bytes.
     pub(crate) fn push(&mut self, bytes: &[u8])
-        requires { length self.old + length bytes.now ≤ Self.MAX_LEN }
+        requires { length self.old + length bytes.now ≤ MAX_TEXT }
         ensures { self.new ≡ self.old ++ bytes.now }
     {
         let Ok(()) = self.bytes.try_extend_from_slice(bytes) else {
@@ -71,7 +72,7 @@ impl Text {
 
     /// Adds a number in decimal digits, 10 at most.
     pub(crate) fn push_number(&mut self, number: u32)
-        requires { length self.old + 10 ≤ Self.MAX_LEN }
+        requires { length self.old + 10 ≤ MAX_TEXT }
         ensures value { self.new ≡ self.old ++ decimal number }
         ensures fits { length self.new ≤ length self.old + 10 }
     {
@@ -81,12 +82,12 @@ impl Text {
 
     /// Adds two lower-case hexadecimal digits for each byte.
     pub(crate) fn push_hex(&mut self, bytes: &[u8])
-        requires few { length bytes.now ≤ Self.MAX_HEX }
-        requires fits { length self.old + 2 * length bytes.now ≤ Self.MAX_LEN }
+        requires few { length bytes.now ≤ MAX_HEX }
+        requires fits { length self.old + 2 * length bytes.now ≤ MAX_TEXT }
         ensures value { self.new ≡ self.old ++ encode_lower bytes.now }
         ensures size { length self.new ≡ length self.old + 2 * length bytes.now }
     {
-        let mut room = [0; 8192];
+        let mut room = [0; 2 * MAX_HEX];
         let digits = &mut room[..2 * bytes.len()];
         let Ok(()) = hex::encode_to_slice(bytes, digits) else {
             unreachable!()

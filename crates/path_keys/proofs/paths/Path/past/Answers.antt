@@ -1,27 +1,23 @@
-use Rattle.std.proofs.Common.{ap, ◌∙◌}
+use Rattle.std.proofs.Common.{ap, ap₂, ◌∙◌, ◌-◌, set}
 use Rattle.store_model.specs.Paths as model
 use Rattle.path_keys.proofs.NameBytes.{field_of_view}
 use Rattle.path_keys.proofs.PathBytes.{len_above_zero}
-use Rattle.path_keys.proofs.PastBytes.{past_written, past_is, subtree_before_past, past_before_later}
+use Rattle.path_keys.proofs.PastBytes.{past_written, subtree_before_past, past_before_later}
 use Rattle.path_keys.proofs.paths.Path.past.Goals as goal
 
 pub overflow_sub-bytes : goal.overflow_sub-bytes
 overflow_sub-bytes c = len_above_zero _ _ _ (field_of_view _ _ _ c.self.invariant c.self.view_is) c.requires
 
+pub returns-clause-value : goal.returns-clause-value
+returns-clause-value c =
+    c.new.ensures.value ∙ ap₂ (λ t n. set t (n - 1) 1) (c.as_bytes.ensures.value ∙ c.key.ensures.value) (field_of_view _ _ _ c.self.invariant c.self.view_is).len_is
+
 pub returns-clause-above : goal.returns-clause-above
 returns-clause-above c q block h inside =
-    ap (model.key_cmp (model.key q block))
-    (c.new.ensures.value
-    ∙ past_written c.self.inside.bytes c.copy_from_slice.new.self c.self.inside.len c.args.self.now (field_of_view _ _ _ c.self.invariant c.self.view_is) c.requires c.copy_from_slice.ensures.after)
+    ap (model.key_cmp (model.key q block)) (returns-clause-value c ∙ past_written _ _ _ (field_of_view _ _ _ c.self.invariant c.self.view_is) c.requires)
     ∙ subtree_before_past c.args.self.now q c.self.inside.len block c.requires inside
 
 pub returns-clause-below : goal.returns-clause-below
 returns-clause-below c q block h apart less =
-    ap (λ t. model.key_cmp t (model.key q block))
-    (c.new.ensures.value
-    ∙ past_written c.self.inside.bytes c.copy_from_slice.new.self c.self.inside.len c.args.self.now (field_of_view _ _ _ c.self.invariant c.self.view_is) c.requires c.copy_from_slice.ensures.after)
+    ap (λ t. model.key_cmp t (model.key q block)) (returns-clause-value c ∙ past_written _ _ _ (field_of_view _ _ _ c.self.invariant c.self.view_is) c.requires)
     ∙ past_before_later c.args.self.now q c.self.inside.len block c.requires h apart less
-
-pub returns-clause-value : goal.returns-clause-value
-returns-clause-value c =
-    c.new.ensures.value ∙ past_is c.self.inside.bytes c.copy_from_slice.new.self c.self.inside.len c.args.self.now (field_of_view _ _ _ c.self.invariant c.self.view_is) c.copy_from_slice.ensures.after

@@ -1,132 +1,63 @@
-use Rattle.std.proofs.Common.{◌≡◌, ◌+◌, ℕ, List, drop, ap, ◌∙◌, arith, Some, None, Ok, Err, ◌==◌}
-use Rattle.std.specs.List.{position}
+use Rattle.std.proofs.Common.{◌≡◌, ◌+◌, arith, Ok, Err}
 use Rattle.std.proofs.lemmas.Result.{err_from_is_err_and}
-use Rattle.script_lines.proofs.LineLemmas.{FindsEnd-position}
 use Rattle.script_lines.proofs.StateLemmas.{NextLine-after}
-use Rattle.script_lines.proofs.Search.{EndsAt-drop, HasNoEnd-drop, rest_is, NextLine-answer, NextLine-last, NextLine-fails, Searches-blank, Searches-adds, still_observable, none_whole}
+use Rattle.script_lines.proofs.Search.{found_at, none_found, NextLine-answer, NextLine-last, NextLine-fails, Searches-blank, Searches-adds, still_observable, none_whole}
 use Rattle.script_lines.proofs.lines.LineReader.next_line.Goals as goal
 
 pub returns-then-scanned-place-gt0-clause-answer :
     goal.returns-then-scanned-place-gt0-clause-answer
 returns-then-scanned-place-gt0-clause-answer g c observable =
-    let st = g.R.Source.state in
-    let a = c.args.self.now in
-    let b = c.loop-place.self in
-    let inv = c.loop-place.invariant in
-    let scanned = c.loop-place.scanned in
-    let rest = ap (λ (xs : List ℕ). position (λ x. x == 10) xs) (rest_is c.held.result.now b.held scanned c.held.ensures.value) in
-    let place = c.in-Some.place in
-    let ends = EndsAt-drop b.held scanned place inv.within inv.plain (FindsEnd-position (drop scanned b.held) (Some place) (c.in-Some.ensures ∙ rest)) in
-    NextLine-after st a b c.answer.new.self (Ok c.answer.result) (inv.answers observable)
-    (NextLine-answer st b c.answer.new.self (scanned + place) c.answer.result ends c.if-scanned-place-gt0.true inv.goes.going c.answer.ensures.state c.answer.ensures.answer)
+    let ends = found_at _ _ c.loop-place.scanned c.in-Some.place c.held.ensures.value c.loop-place.invariant.within c.loop-place.invariant.plain c.in-Some.ensures in
+    NextLine-after g.R.Source.state c.args.self.now c.loop-place.self c.answer.new.self (Ok c.answer.result) (c.loop-place.invariant.answers observable)
+    (NextLine-answer g.R.Source.state c.loop-place.self c.answer.new.self (c.loop-place.scanned + c.in-Some.place) c.answer.result ends c.if-scanned-place-gt0.true c.loop-place.invariant.goes.going c.answer.ensures.state c.answer.ensures.answer)
 
 pub loop-place-preserved-in-Some : goal.loop-place-preserved-in-Some
 loop-place-preserved-in-Some g c =
-    let st = g.R.Source.state in
-    let a = c.args.self.now in
-    let b = c.loop-place.self in
     let inv = c.loop-place.invariant in
-    let scanned = c.loop-place.scanned in
-    let rest = ap (λ (xs : List ℕ). position (λ x. x == 10) xs) (rest_is c.held.result.now b.held scanned c.held.ensures.value) in
-    let place = c.in-Some.place in
-    let ends = EndsAt-drop b.held scanned place inv.within inv.plain (FindsEnd-position (drop scanned b.held) (Some place) (c.in-Some.ensures ∙ rest)) in
-    let none : scanned + place ≡ 0 = omega arith in
-    let start : scanned ≡ 0 = omega arith in
-    rw start (Searches-blank st a b c.pass.new.self (rw start at inv) (rw none at ends) c.pass.ensures)
+    let ends = found_at _ _ c.loop-place.scanned c.in-Some.place c.held.ensures.value c.loop-place.invariant.within c.loop-place.invariant.plain c.in-Some.ensures in
+    let none : c.loop-place.scanned + c.in-Some.place ≡ 0 = omega arith in
+    let start : c.loop-place.scanned ≡ 0 = omega arith in
+    rw start (Searches-blank g.R.Source.state c.args.self.now c.loop-place.self c.pass.new.self (rw start at inv) (rw none at ends) c.pass.ensures)
 
 pub pass_long-requires-clause-plain : goal.pass_long-requires-clause-plain
-pass_long-requires-clause-plain g c =
-    let st = g.R.Source.state in
-    let a = c.args.self.now in
-    let b = c.loop-place.self in
-    let inv = c.loop-place.invariant in
-    let scanned = c.loop-place.scanned in
-    let rest = ap (λ (xs : List ℕ). position (λ x. x == 10) xs) (rest_is c.held.result.now b.held scanned c.held.ensures.value) in
-    let plain = HasNoEnd-drop b.held scanned inv.plain (FindsEnd-position (drop scanned b.held) None (c.in_default.ensures ∙ rest)) in
-    plain
-
-pub returns-then-scanned-gt-MAX_LINE-clause-no_take :
-    goal.returns-then-scanned-gt-MAX_LINE-clause-no_take
-returns-then-scanned-gt-MAX_LINE-clause-no_take g c some =
-    let st = g.R.Source.state in
-    let a = c.args.self.now in
-    let b = c.loop-place.self in
-    let inv = c.loop-place.invariant in
-    let scanned = c.loop-place.scanned in
-    let rest = ap (λ (xs : List ℕ). position (λ x. x == 10) xs) (rest_is c.held.result.now b.held scanned c.held.ensures.value) in
-    let plain = HasNoEnd-drop b.held scanned inv.plain (FindsEnd-position (drop scanned b.held) None (c.in_default.ensures ∙ rest)) in
-    absurd (none_whole st a b scanned inv plain some)
-
-pub returns-then-scanned-gt-MAX_LINE-clause-answer :
-    goal.returns-then-scanned-gt-MAX_LINE-clause-answer
-returns-then-scanned-gt-MAX_LINE-clause-answer g c observable =
-    let st = g.R.Source.state in
-    let a = c.args.self.now in
-    let b = c.loop-place.self in
-    let inv = c.loop-place.invariant in
-    let scanned = c.loop-place.scanned in
-    let rest = ap (λ (xs : List ℕ). position (λ x. x == 10) xs) (rest_is c.held.result.now b.held scanned c.held.ensures.value) in
-    let observable_here = still_observable st a b inv.goes.observable observable in
-    NextLine-after st a b c.pass_long.new.self c.pass_long.result (inv.answers observable) (c.pass_long.ensures.answer observable_here)
-
-pub returns-in_err-fill-clause-no_take : goal.returns-in_err-fill-clause-no_take
-returns-in_err-fill-clause-no_take g c some =
-    let st = g.R.Source.state in
-    let a = c.args.self.now in
-    let b = c.loop-place.self in
-    let inv = c.loop-place.invariant in
-    let scanned = c.loop-place.scanned in
-    let rest = ap (λ (xs : List ℕ). position (λ x. x == 10) xs) (rest_is c.held.result.now b.held scanned c.held.ensures.value) in
-    let plain = HasNoEnd-drop b.held scanned inv.plain (FindsEnd-position (drop scanned b.held) None (c.in_default.ensures ∙ rest)) in
-    absurd (none_whole st a b scanned inv plain some)
-
-pub returns-in_err-fill-clause-answer : goal.returns-in_err-fill-clause-answer
-returns-in_err-fill-clause-answer g c observable =
-    let st = g.R.Source.state in
-    let a = c.args.self.now in
-    let b = c.loop-place.self in
-    let inv = c.loop-place.invariant in
-    let scanned = c.loop-place.scanned in
-    let rest = ap (λ (xs : List ℕ). position (λ x. x == 10) xs) (rest_is c.held.result.now b.held scanned c.held.ensures.value) in
-    let plain = HasNoEnd-drop b.held scanned inv.plain (FindsEnd-position (drop scanned b.held) None (c.in_default.ensures ∙ rest)) in
-    let observable_here = still_observable st a b inv.goes.observable observable in
-    let p = err_from_is_err_and c.from_residual.result c.from_residual.ensures.1 in
-    rw (p.1, p.2) (NextLine-after st a b c.fill.new.self (Err c.in_err-fill.field-0.0) (inv.answers observable)
-    (NextLine-fails st b c.fill.new.self c.in_err-fill.field-0.0 plain inv.goes.going c.in_err-fill.ensures.fills observable_here))
-
-pub returns-then-branch-eq0-clause-no_take : goal.returns-then-branch-eq0-clause-no_take
-returns-then-branch-eq0-clause-no_take g c some =
-    let st = g.R.Source.state in
-    let a = c.args.self.now in
-    let b = c.loop-place.self in
-    let inv = c.loop-place.invariant in
-    let scanned = c.loop-place.scanned in
-    let rest = ap (λ (xs : List ℕ). position (λ x. x == 10) xs) (rest_is c.held.result.now b.held scanned c.held.ensures.value) in
-    let plain = HasNoEnd-drop b.held scanned inv.plain (FindsEnd-position (drop scanned b.held) None (c.in_default.ensures ∙ rest)) in
-    absurd (none_whole st a b scanned inv plain some)
-
-pub returns-then-branch-eq0-clause-answer : goal.returns-then-branch-eq0-clause-answer
-returns-then-branch-eq0-clause-answer g c observable =
-    let st = g.R.Source.state in
-    let a = c.args.self.now in
-    let b = c.loop-place.self in
-    let inv = c.loop-place.invariant in
-    let scanned = c.loop-place.scanned in
-    let rest = ap (λ (xs : List ℕ). position (λ x. x == 10) xs) (rest_is c.held.result.now b.held scanned c.held.ensures.value) in
-    let plain = HasNoEnd-drop b.held scanned inv.plain (FindsEnd-position (drop scanned b.held) None (c.in_default.ensures ∙ rest)) in
-    let observable_here = still_observable st a b inv.goes.observable observable in
-    let adds = rw c.if-branch-eq0.true at c.in_ok-fill.ensures.fills in
-    NextLine-after st a b c.finish.new.self (Ok c.finish.result) (inv.answers observable)
-    (NextLine-last st b c.fill.new.self c.finish.new.self c.finish.result plain adds c.finish.ensures.state c.finish.ensures.answer observable_here)
+pass_long-requires-clause-plain g c = none_found _ _ c.loop-place.scanned c.held.ensures.value c.loop-place.invariant.plain c.in_default.ensures
 
 pub loop-place-preserved : goal.loop-place-preserved
 loop-place-preserved g c =
-    let st = g.R.Source.state in
-    let a = c.args.self.now in
-    let b = c.loop-place.self in
-    let inv = c.loop-place.invariant in
-    let scanned = c.loop-place.scanned in
-    let rest = ap (λ (xs : List ℕ). position (λ x. x == 10) xs) (rest_is c.held.result.now b.held scanned c.held.ensures.value) in
-    let plain = HasNoEnd-drop b.held scanned inv.plain (FindsEnd-position (drop scanned b.held) None (c.in_default.ensures ∙ rest)) in
-    let searches = Searches-adds st a b c.fill.new.self scanned c.in_ok-fill.field-0 inv plain c.in_ok-fill.ensures.source c.in_ok-fill.ensures.fills in
+    let plain = none_found _ _ c.loop-place.scanned c.held.ensures.value c.loop-place.invariant.plain c.in_default.ensures in
+    let searches = Searches-adds g.R.Source.state c.args.self.now c.loop-place.self c.fill.new.self c.loop-place.scanned c.in_ok-fill.field-0 c.loop-place.invariant plain c.in_ok-fill.ensures.source c.in_ok-fill.ensures.fills in
     rw c.held-scanned.ensures.value searches
+
+-- no line was held where bytes are taken
+pub returns-then-scanned-gt-MAX_LINE-clause-no_take :
+    goal.returns-then-scanned-gt-MAX_LINE-clause-no_take
+returns-then-scanned-gt-MAX_LINE-clause-no_take g c some = absurd (none_whole g.R.Source.state c.args.self.now c.loop-place.self c.loop-place.scanned c.loop-place.invariant (none_found _ _ c.loop-place.scanned c.held.ensures.value c.loop-place.invariant.plain c.in_default.ensures) some)
+
+pub returns-in_err-fill-clause-no_take : goal.returns-in_err-fill-clause-no_take
+returns-in_err-fill-clause-no_take g c some = absurd (none_whole g.R.Source.state c.args.self.now c.loop-place.self c.loop-place.scanned c.loop-place.invariant (none_found _ _ c.loop-place.scanned c.held.ensures.value c.loop-place.invariant.plain c.in_default.ensures) some)
+
+pub returns-then-branch-eq0-clause-no_take : goal.returns-then-branch-eq0-clause-no_take
+returns-then-branch-eq0-clause-no_take g c some = absurd (none_whole g.R.Source.state c.args.self.now c.loop-place.self c.loop-place.scanned c.loop-place.invariant (none_found _ _ c.loop-place.scanned c.held.ensures.value c.loop-place.invariant.plain c.in_default.ensures) some)
+
+-- the answers after a take
+pub returns-then-scanned-gt-MAX_LINE-clause-answer :
+    goal.returns-then-scanned-gt-MAX_LINE-clause-answer
+returns-then-scanned-gt-MAX_LINE-clause-answer g c observable =
+    let here = still_observable g.R.Source.state c.args.self.now c.loop-place.self c.loop-place.invariant.goes.observable observable in
+    NextLine-after g.R.Source.state c.args.self.now c.loop-place.self c.pass_long.new.self c.pass_long.result (c.loop-place.invariant.answers observable) (c.pass_long.ensures.answer here)
+
+pub returns-in_err-fill-clause-answer : goal.returns-in_err-fill-clause-answer
+returns-in_err-fill-clause-answer g c observable =
+    let plain = none_found _ _ c.loop-place.scanned c.held.ensures.value c.loop-place.invariant.plain c.in_default.ensures in
+    let here = still_observable g.R.Source.state c.args.self.now c.loop-place.self c.loop-place.invariant.goes.observable observable in
+    let p = err_from_is_err_and c.from_residual.result c.from_residual.ensures.1 in
+    rw (p.1, p.2) (NextLine-after g.R.Source.state c.args.self.now c.loop-place.self c.fill.new.self (Err c.in_err-fill.field-0.0) (c.loop-place.invariant.answers observable)
+    (NextLine-fails g.R.Source.state c.loop-place.self c.fill.new.self c.in_err-fill.field-0.0 plain c.loop-place.invariant.goes.going c.in_err-fill.ensures.fills here))
+
+pub returns-then-branch-eq0-clause-answer : goal.returns-then-branch-eq0-clause-answer
+returns-then-branch-eq0-clause-answer g c observable =
+    let plain = none_found _ _ c.loop-place.scanned c.held.ensures.value c.loop-place.invariant.plain c.in_default.ensures in
+    let adds = rw c.if-branch-eq0.true at c.in_ok-fill.ensures.fills in
+    let here = still_observable g.R.Source.state c.args.self.now c.loop-place.self c.loop-place.invariant.goes.observable observable in
+    NextLine-after g.R.Source.state c.args.self.now c.loop-place.self c.finish.new.self (Ok c.finish.result) (c.loop-place.invariant.answers observable)
+    (NextLine-last g.R.Source.state c.loop-place.self c.fill.new.self c.finish.new.self c.finish.result plain adds c.finish.ensures.state c.finish.ensures.answer here)

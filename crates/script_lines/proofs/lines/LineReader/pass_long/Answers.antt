@@ -8,7 +8,7 @@ use Rattle.script_lines.proofs.lines.LineReader.pass_long.Goals as goal
 
 pub loop-self-init : goal.loop-self-init
 loop-self-init g c = record {
-  goes = record { live = c.requires.live; going = c.requires.going; text = c.requires.text; limit = refl; taken = omega arith; in_limit = c.requires.in_limit; observable = refl; faults = omega arith; shrinks = omega arith };
+  goes = record { live = c.requires.live; going = c.requires.going; text = c.requires.text; limit = refl; taken = omega arith; in_limit = c.requires.in_limit; observable = refl; faults = refl; shrinks = omega arith };
   passed = [];
   plain = c.requires.plain;
   long = c.requires.long;

@@ -22,7 +22,6 @@ returns-clause-contract c =
       within = omega (arith, c.copy_from_slice.ensures.len);
       faults = search rules;
       last_fault = search rules;
-      cause = tt;
       observed = λ _. record {
         moved = moved_slice bytes c.args.self.now.left c.copy_from_slice.new.self into start count (sym left_is) piece_is fits;
         end = λ some. rw c.next_count-count.ensures (no_piece c.args.self.now (length into) (omega arith));
