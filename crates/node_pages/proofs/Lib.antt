@@ -1,5 +1,8 @@
 pub mod CellBytes
-pub mod Filled
 pub mod CellLists
+pub mod EntryLemmas
+pub mod Filled
+pub mod Joined
 pub mod PageBytes
+pub mod PlaceLemmas
 pub mod Runs

@@ -1,1 +1,5 @@
 pub mod Cells
+pub mod Entries
+pub mod EntriesLemmas
+pub mod PagesState
+pub mod Places

@@ -1,10 +1,11 @@
 //! Groups: the pages that the cells of one group make.
 
-ghost use Rattle.std.specs.Prelude.{◌≡◌, ◌≤◌, ◌++◌, ℕ, map, length, take, IfOk, OnOk, OnErr};
-ghost use Rattle.std.specs.List.{AllByRecursion};
+ghost use Rattle.std.specs.Prelude.{◌≡◌, ◌≤◌, ◌++◌, ℕ, List, map, length, take, IfOk, OnOk, OnErr};
+ghost use Rattle.std.specs.List.{AllByRecursion, flat_map};
 ghost use Rattle.std.specs.List.Sorted.{IsStrictlySortedBy};
 ghost use Rattle.store_model.specs.Paths.{key_cmp};
-ghost use Rattle.store_model.specs.Pages.{IsCell, IsPage, group_pages};
+ghost use Rattle.store_model.specs.Pages.{Cell as ModelCell, IsCell, IsPage, group_pages};
+ghost use Rattle.store_model.specs.Labels.{Lead as ModelLead};
 ghost use Rattle.store_base.specs.Leads.{lead_of};
 
 use crate::cell::Cell;
@@ -68,4 +69,26 @@ pub fn append_group(
         rest = behind;
     }
     Ok(())
+}
+
+/// Appends the cells of a page. `NoMemory` leaves the first few of them appended, or none.
+fn append_cells(cells: &mut Cells, page: &Page) -> Result<(), NoMemory>
+    ensures { OnOk result (cells.new ≡ cells.old ++ page.now.cells) }
+{
+    for i in 0..page.len() {
+        cells.push(page.cell(i))?;
+    }
+    Ok(())
+}
+
+/// The cells of these pages, one page after another: of the pages that `cut_group` gives, the cells of the group.
+pub fn join_group(alloc: Global, pages: &PageList) -> Result<Cells, NoMemory>
+    ensures cells { IfOk result (λ cells. cells ≡ flat_map (λ page. page.cells) pages.now) }
+    ensures group { (level : ℕ) (lead : ModelLead) (cells : List ModelCell) → pages.now ≡ group_pages level lead cells → IfOk result (λ joined. joined ≡ cells) }
+{
+    let mut cells = Cells::new(alloc);
+    for page in pages.as_slice() {
+        append_cells(&mut cells, page)?;
+    }
+    Ok(cells)
 }

@@ -6,13 +6,17 @@
 
 mod cell;
 mod group;
+mod map;
 mod page;
+mod pages;
 mod sequence;
 mod spelling;
 
 pub use cell::Cell;
-pub use group::{append_group, cut_group};
+pub use group::{append_group, cut_group, join_group};
+pub use map::MapPages;
 pub use page::{Page, decode_page, encode_page, label_in};
+pub use pages::Pages;
 pub use sequence::{Cells, PageList, PairList, Sequence};
 pub use spelling::room;
 

@@ -5,6 +5,7 @@ ghost use Rattle.std.specs.List.Sorted.{IsStrictlySortedBy};
 ghost use Rattle.std.specs.Cmp.{partial_equiv_from_equiv, on_equiv, on_per};
 ghost use Rattle.std.specs.Cmp.Lexicographic.{pointwise, nat_list_eq_equiv};
 ghost use Rattle.store_model.specs.Lists.{zeros};
+ghost use Rattle.store_model.specs.Parameters.{block_len};
 ghost use Rattle.store_model.specs.Paths.{key_cmp};
 ghost use Rattle.store_model.specs.Pages as model;
 ghost use Rattle.store_model.specs.Pages.{IsCell, IsPage, page_room};
@@ -17,7 +18,7 @@ ghost use Rattle.node_pages.specs.Cells as cells;
 use crate::cell::Cell;
 use crate::spelling;
 use std::marker::Model;
-use store_base::{Key, Label, Slot};
+use store_base::{BLOCK, Key, Label, Slot};
 
 /// The byte of a slot that counts the cells.
 const COUNT_AT: usize = 131;
@@ -89,7 +90,7 @@ fn cell_of(label: &Label, slot: &Slot, i: u32) -> Cell
 
 /// Begins the slot of a page of the label, with no cell yet.
 fn begin(label: &Label, slot: &mut Slot)
-    requires { slot.old ≡ zeros 4096 }
+    requires { slot.old ≡ zeros block_len }
     ensures value { slot.new ≡ page_bytes (record { label = label.now; cells = [] }) }
     ensures valid { IsLabel label.now }
 {
@@ -178,7 +179,7 @@ impl Page {
         ensures value { result ≡ record { label = label; cells = first.now ∷ [] } }
         ensures valid { IsPage result }
     {
-        let mut slot = [0; 4096];
+        let mut slot = [0; BLOCK];
         begin(&label, &mut slot);
         append(&label, &mut slot, first);
         Page { label, slot }

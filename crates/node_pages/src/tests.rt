@@ -122,10 +122,31 @@ fn lists_and_groups(rt: HostRuntime) -> Result<(), Fail> {
     let pages = cut_group(rt.alloc(), 0, &Lead::Start, &cells)?;
     assert_eq!(rt; pages.len(), 1);
     assert!(rt; *pages.get(0).as_slot() == slot_with(&ONE_DIRECTORY));
+    let joined = join_group(rt.alloc(), &pages)?;
+    assert_eq!(rt; joined.len(), 1);
+    assert!(rt; joined.get(0).key == key(b"a"));
 
     let mut pairs = PairList::new(rt.alloc());
     pairs.push((key(b"a"), Value::new(&[1, 2])))?;
     assert_eq!(rt; pairs.as_slice().len(), 1);
     assert_eq!(rt; pairs.get(0).1.as_slice().len(), 2);
+    Ok(())
+}
+
+#[test]
+fn pages_in_memory(rt: HostRuntime) -> Result<(), Fail> {
+    let first = Label {
+        level: 0,
+        lead: Lead::Start,
+        index: 0,
+    };
+    let second = Label { index: 1, ..first };
+    let mut pages = MapPages::new(rt.alloc());
+    let page = Page::new(second, Cell::with_value(key(b"b"), Value::new(&[2])));
+    pages.put(page)?;
+    pages.put(Page::new(first, Cell::with_value(key(b"a"), Value::new(&[1]))))?;
+    assert!(rt; pages.get(&second)?.ok_or("no page")? == page);
+    pages.drop_page(&first)?;
+    assert!(rt; pages.get(&first)?.is_none());
     Ok(())
 }

@@ -1,0 +1,35 @@
+use Rattle.std.proofs.Common.{refl, sym, ap, ◌∙◌, arith, Some}
+use Rattle.node_pages.proofs.EntryLemmas.{item_there, no_page}
+use Rattle.node_pages.proofs.map.MapPagesPages.get.Goals as goal
+
+-- the page stands there
+pub returns-in-Ok-clause-call : goal.returns-in-Ok-clause-call
+returns-in-Ok-clause-call c =
+    let stands = rw c.deref.ensures.value at c.in-Ok.ensures in
+    record {
+      faults = refl;
+      lookups_kept = omega arith;
+      lookups_most = omega arith;
+      hidden = λ o. tt;
+      observed = λ o. record {
+        observable = tt;
+        found = ap Some c.deref-in-Ok.ensures ∙ sym (item_there _ c.args.self.now.pages.items c.args.self.now.sorted c.args.self.now.valid c.args.label.now c.in-Ok.at c.index.result.now c.index.ensures stands);
+        unchanged = refl;
+      };
+    }
+
+-- there is none
+pub returns-in-Err-clause-call : goal.returns-in-Err-clause-call
+returns-in-Err-clause-call c =
+    let lacks = rw c.deref.ensures.value at c.in-Err.ensures in
+    record {
+      faults = refl;
+      lookups_kept = omega arith;
+      lookups_most = omega arith;
+      hidden = λ o. tt;
+      observed = λ o. record {
+        observable = tt;
+        found = sym (no_page _ c.args.self.now.sorted c.args.self.now.valid c.args.label.now c.in-Err.field-0 lacks);
+        unchanged = refl;
+      };
+    }

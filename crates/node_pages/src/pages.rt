@@ -1,0 +1,48 @@
+//! What every store of pages offers, wherever the pages lie.
+
+ghost use Rattle.std.specs.Prelude.{◌<◌};
+ghost use Rattle.std.specs.FinMap as maps;
+ghost use Rattle.store_model.specs.PageMaps.{IsPageMap};
+ghost use Rattle.node_pages.specs.PagesState.{PagesState, IsObservable, IsPageGet, IsPagePut, IsPageDrop, most_pages};
+
+use crate::page::Page;
+use store_base::{Fault, Label};
+
+/// Pages, each under its label.
+///
+/// Clauses on the map hold where the pages are observable, those on counts for all pages; pages that were not
+/// observable stay so. A call answers `Fault::Disk` only where the count of faults rises in it, by one (a count that is
+/// 2^64 - 1 stays). No call lowers the count of lookups. `follows` says what every call keeps of the state below, as
+/// that nothing was committed, also where the call fails; pages in memory have nothing below them.
+pub trait Pages {
+    /// What the pages mean at this moment.
+    ghost state: { Self → PagesState };
+
+    /// What every call keeps of the state below the pages.
+    ghost follows: { Self → Self → Type 0 };
+
+    /// The page under the label; `None` exactly where there is none. After a fault the pages are as they were.
+    fn get(&mut self, label: &Label) -> Result<Option<Page>, Fault>
+        ensures call { IsPageGet (state self.old) (state self.new) label.now result }
+        ensures follows { follows self.old self.new };
+
+    /// Puts the page under its label, in the place of the one that was there. There have to be fewer than 2^32 - 1
+    /// pages. After a fault the pages are as they were.
+    fn put(&mut self, page: Page) -> Result<(), Fault>
+        requires { IsObservable (state self.old) → maps.len (state self.old).pages < most_pages }
+        ensures call { IsPagePut (state self.old) (state self.new) page result }
+        ensures follows { follows self.old self.new };
+
+    /// Drops the page under the label, if there is one. After a fault the pages are as they were.
+    fn drop_page(&mut self, label: &Label) -> Result<(), Fault>
+        ensures call { IsPageDrop (state self.old) (state self.new) label.now result }
+        ensures follows { follows self.old self.new };
+
+    /// Each page of the map is one, and stands under its label.
+    ghost valid: { (pages : Self) → IsObservable (state pages) → IsPageMap (state pages).pages };
+
+    /// Pages follow themselves, and what follows goes on from call to call.
+    ghost follows_refl: { (pages : Self) → follows pages pages };
+
+    ghost follows_trans: { (a b c : Self) → follows a b → follows b c → follows a c };
+}

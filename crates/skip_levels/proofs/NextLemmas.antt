@@ -1,0 +1,171 @@
+-- A search for the next pair: a descent, the lowest group on the search path, and the first page of the group that follows.
+use Rattle.std.proofs.Common.{true, false, ◌≡◌, ℕ, ◌≤◌, List, [], ◌∷◌, ◌++◌, Option, Some, None, Result, Ok, Err, IfOk, refl, sym, ap, subst, ◌∙◌, arith, append_assoc}
+use Rattle.std.specs.List.{slice_get}
+use Rattle.std.specs.Option.{option_or, is_some}
+use Rattle.store_base.specs.declared.store_fault.Fault.{Fault}
+use Rattle.store_base.specs.Faults.{disk_faults_after}
+use Rattle.store_base.specs.Leads.{lead_of}
+use Rattle.store_model.specs.Paths.{key_cmp}
+use Rattle.store_model.specs.Draws.{Draw}
+use Rattle.store_model.specs.Labels.Lead.{Leader}
+use Rattle.store_model.specs.Pairs.{Pair}
+use Rattle.store_model.specs.Pages.{Cell, Page}
+use Rattle.store_model.proofs.ListsLemmas.{rising_from_is_sorted}
+use Rattle.node_pages.specs.PagesState.{PagesState, IsPageGet}
+use Rattle.skip_levels.specs.declared.search.Neighbours.{Neighbours}
+use Rattle.skip_levels.specs.declared.search.PathEnd.{PathEnd}
+use Rattle.skip_levels.specs.Groups.{HoldsGroup, label_of}
+use Rattle.skip_levels.specs.PairsState.{next_pair}
+use Rattle.skip_levels.specs.SearchPath.{not_above, above}
+use Rattle.skip_levels.specs.Searches.{ReadsGroup, IsGroupSearch}
+use Rattle.skip_levels.specs.Descent.{HoldsPairs, FindsPathEnd, IsDescent}
+use Rattle.skip_levels.specs.NextSearch.{pair_in, pair_at, IsFirstPair, IsNextSearch}
+use Rattle.skip_levels.proofs.Descents.{after_of_place}
+use Rattle.skip_levels.proofs.Found.{floor_is_last}
+use Rattle.skip_levels.proofs.NextPairs.{next_of_sides, no_group_follows, pair_in_group, group_follows, part_ahead, group_begins, pair_leads}
+use Rattle.skip_levels.proofs.PathLemmas.{sides_of, side_passes, side_fails, holds_pairs_place}
+use Rattle.skip_levels.proofs.PlaceGroups.{group_of_place}
+use Rattle.skip_levels.proofs.ValueLemmas.{same_count, whole_path, lowest_searched, path_searched}
+use Rattle.skip_levels.proofs.Walks.{first_cell, no_first_cell}
+
+-- ---- the first pair of a group
+
+module _ (old new : PagesState) (leader : List ℕ) where
+  pub no_first : (fault : Fault) → IsPageGet old new (label_of 0 (Leader leader) 0) (Err fault) → IsFirstPair old new leader (Err fault)
+  no_first fault get = record {
+    faults = get.faults ∙ same_count (Option Page) (Option Pair) old.faults fault;
+    lookups_kept = get.lookups_kept;
+    lookups_most = get.lookups_most;
+    hidden = get.hidden;
+    observed = λ o. let g = get.observed o in record { observable = g.observable; unchanged = g.unchanged; found = λ cells holds. tt };
+  }
+
+  pub first_none : IsPageGet old new (label_of 0 (Leader leader) 0) (Ok None) → IsFirstPair old new leader (Ok None)
+  first_none get = record {
+    faults = get.faults;
+    lookups_kept = get.lookups_kept;
+    lookups_most = get.lookups_most;
+    hidden = get.hidden;
+    observed = λ o. let g = get.observed o in record {
+      observable = g.observable;
+      unchanged = g.unchanged;
+      found = λ cells holds. ap (λ xs. pair_in (slice_get xs 0)) (sym (no_first_cell (Leader leader) cells (sym (holds.each 0 (omega arith)) ∙ sym g.found)));
+    };
+  }
+
+  pub first_some : (page : Page) (cell : Cell) (pair : Option Pair) → IsPageGet old new (label_of 0 (Leader leader) 0) (Ok (Some page)) → slice_get page.cells 0 ≡ Some cell → pair ≡ pair_in (Some cell) → IsFirstPair old new leader (Ok pair)
+  first_some page cell pair get at is = record {
+    faults = get.faults;
+    lookups_kept = get.lookups_kept;
+    lookups_most = get.lookups_most;
+    hidden = get.hidden;
+    observed = λ o. let g = get.observed o in record {
+      observable = g.observable;
+      unchanged = g.unchanged;
+      found = λ cells holds. is ∙ ap pair_in (sym at ∙ first_cell (Leader leader) cells page (sym (holds.each 0 (omega arith)) ∙ sym g.found));
+    };
+  }
+
+-- ---- the whole search
+
+module _ (old mid : PagesState) (height : ℕ) (key : List ℕ) where
+  pub no_path : (fault : Fault) → IsDescent old mid height key (Err fault) → IsNextSearch old mid height key (Err fault)
+  no_path fault h = record {
+    faults = h.faults ∙ same_count PathEnd (Option Pair) old.faults fault;
+    lookups_kept = h.lookups_kept;
+    hidden = h.hidden;
+    observed = λ o. let n = h.observed o in record { observable = n.observable; unchanged = n.unchanged; found = λ d s holds high. tt; lookups = λ d s holds high. omega (arith, n.lookups d s holds high, whole_path old mid height key d s holds high) };
+  }
+
+  module _ (new : PagesState) (end : PathEnd) (h : IsDescent old mid height key (Ok end)) (some : 1 ≤ height) where
+    pub no_neighbours : (fault : Fault) → IsGroupSearch mid new 0 (lead_of end.lead) key (Err fault) → IsNextSearch old new height key (Err fault)
+    no_neighbours fault search = record {
+      faults = search.faults ∙ ap (λ n. disk_faults_after {T = Neighbours} n (Err fault)) h.faults ∙ same_count Neighbours (Option Pair) old.faults fault;
+      lookups_kept = omega (arith, h.lookups_kept, search.lookups_kept);
+      hidden = λ o. h.hidden (search.hidden o);
+      observed = λ o. let n = h.observed o in let g = search.observed n.observable in record {
+        observable = g.observable;
+        unchanged = g.unchanged ∙ n.unchanged;
+        found = λ d s holds high. tt;
+        lookups = λ d s holds high. omega (arith, path_searched old mid height key new end h n g some d s holds high);
+      };
+    }
+
+    module _ (near : Neighbours) (search : IsGroupSearch mid new 0 (lead_of end.lead) key (Ok near)) (here : Option Pair) (is : here ≡ option_or (pair_at key near.floor) (pair_in near.after)) where
+      -- what the cells next to the key say
+      here_is : (n : FindsPathEnd old mid height key (Ok end)) (g : ReadsGroup mid new 0 (lead_of end.lead) key (Ok near)) (d : Draw) (s : List Pair) → HoldsPairs d s old.pages → height ≡ d.height
+          → here ≡ option_or (pair_at key near.floor) (pair_in (slice_get (part_ahead d (above key s) (pair_at key near.floor)) 0))
+      here_is n g d s holds high =
+          is ∙ ap (λ o. option_or (pair_at key near.floor) (pair_in o)) ((lowest_searched old mid height key new end h n g some d s holds high).found.after
+          ∙ after_of_place d 0 key (not_above key s) (above key s) (side_passes d 0 key s) (side_fails d 0 key s))
+
+      next_is : (n : FindsPathEnd old mid height key (Ok end)) (g : ReadsGroup mid new 0 (lead_of end.lead) key (Ok near)) (d : Draw) (s : List Pair) → HoldsPairs d s old.pages → height ≡ d.height
+          → option_or (pair_at key near.floor) (slice_get (above key s) 0) ≡ next_pair key s
+      next_is n g d s holds high =
+          ap (λ o. option_or (pair_at key o) (slice_get (above key s) 0)) ((lowest_searched old mid height key new end h n g some d s holds high).found.floor ∙ floor_is_last d key s)
+          ∙ sym (next_of_sides key s (rising_from_is_sorted key_cmp s holds.pairs.sorted))
+
+      -- no group follows
+      pub next_is_here : end.next ≡ None → IsNextSearch old new height key (Ok here)
+      next_is_here none = record {
+        faults = search.faults ∙ h.faults;
+        lookups_kept = omega (arith, h.lookups_kept, search.lookups_kept);
+        hidden = λ o. h.hidden (search.hidden o);
+        observed = λ o. let n = h.observed o in let g = search.observed n.observable in record {
+          observable = g.observable;
+          unchanged = g.unchanged ∙ n.unchanged;
+          found = λ d s holds high. here_is n g d s holds high ∙ no_group_follows d (above key s) (pair_at key near.floor) (sym (n.next d s holds high) ∙ none) ∙ next_is n g d s holds high;
+          lookups = λ d s holds high. omega (arith, path_searched old mid height key new end h n g some d s holds high);
+        };
+      }
+
+      -- the pair is in the group
+      pub next_in_group : (pair : Pair) → here ≡ Some pair → IsNextSearch old new height key (Ok here)
+      next_in_group pair at = record {
+        faults = search.faults ∙ h.faults;
+        lookups_kept = omega (arith, h.lookups_kept, search.lookups_kept);
+        hidden = λ o. h.hidden (search.hidden o);
+        observed = λ o. let n = h.observed o in let g = search.observed n.observable in record {
+          observable = g.observable;
+          unchanged = g.unchanged ∙ n.unchanged;
+          found = λ d s holds high. let e = here_is n g d s holds high in e ∙ pair_in_group d (above key s) (pair_at key near.floor) pair (sym e ∙ at) ∙ next_is n g d s holds high;
+          lookups = λ d s holds high. omega (arith, path_searched old mid height key new end h n g some d s holds high);
+        };
+      }
+
+      -- the pair leads the next group
+      module _ (last : PagesState) (leader : List ℕ) (next : end.next ≡ Some leader) (none : here ≡ None) where
+        pub next_leads : (result : Result (Option Pair) Fault) → IsFirstPair new last leader result → IsNextSearch old last height key result
+        next_leads result first = record {
+          faults = first.faults ∙ ap (λ n. disk_faults_after n result) (search.faults ∙ h.faults);
+          lookups_kept = omega (arith, h.lookups_kept, search.lookups_kept, first.lookups_kept);
+          hidden = λ o. h.hidden (search.hidden (first.hidden o));
+          observed = λ o. let n = h.observed o in let g = search.observed n.observable in let f = first.observed g.observable in record {
+            observable = f.observable;
+            unchanged = f.unchanged ∙ g.unchanged ∙ n.unchanged;
+            found = λ d s holds high.
+                let low = not_above key s in
+                let ahead = group_follows d (above key s) (pair_at key near.floor) leader (sym next ∙ n.next d s holds high) (sym (here_is n g d s holds high) ∙ none) in
+                let cells = group_of_place d 0 (low ++ ahead.pair ∷ []) ahead.rest in
+                let sides : s ≡ (low ++ ahead.pair ∷ []) ++ ahead.rest =
+                sides_of key s (rising_from_is_sorted key_cmp s holds.pairs.sorted) ∙ ap (λ xs. low ++ xs) ahead.high_is ∙ sym (append_assoc low (ahead.pair ∷ []) ahead.rest) in
+                let group : HoldsGroup new.pages 0 (Leader leader) cells =
+                subst (λ m. HoldsGroup m 0 (Leader leader) cells) (sym (g.unchanged ∙ n.unchanged))
+                (subst (λ l. HoldsGroup old.pages 0 l cells) (pair_leads d low ahead.pair ahead.leads ∙ ap Leader (sym ahead.leader_is)) (holds_pairs_place d s old 0 (low ++ ahead.pair ∷ []) ahead.rest sides holds (omega arith))) in
+                by_result result (f.found cells group) (ap pair_in (group_begins d low ahead.rest ahead.pair ahead.leads) ∙ sym ahead.answer ∙ next_is n g d s holds high);
+            lookups = λ d s holds high. omega (arith, path_searched old mid height key new end h n g some d s holds high, first.lookups_most);
+          };
+        }
+          where
+            by_result : {a b : Option Pair} (r : Result (Option Pair) Fault) → IfOk r (λ pair. pair ≡ a) → a ≡ b → IfOk r (λ pair. pair ≡ b)
+            by_result (Ok pair) e f = e ∙ f
+            by_result (Err fault) e f = tt
+
+-- whether there is a pair
+pub some_pair : (pair : Option Pair) → is_some pair ≡ true → (p : Pair) × (pair ≡ Some p)
+some_pair None e = absurd (cc)
+some_pair (Some p) e = (p, refl)
+
+pub no_pair : (pair : Option Pair) → is_some pair ≡ false → pair ≡ None
+no_pair None e = refl
+no_pair (Some p) e = absurd (cc)

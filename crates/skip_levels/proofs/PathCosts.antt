@@ -1,0 +1,58 @@
+-- What reading the groups of a search path costs, level after level.
+use Rattle.std.proofs.Common.{◌≡◌, ℕ, zero, suc, ◌+◌, ◌-◌, ◌<◌, ◌≤◌, List, ap, subst, sym, ◌∙◌, arith}
+use Rattle.std.proofs.lemmas.List.Sums.{sum-map, sum_by-cons}
+use Rattle.store_model.specs.Lists.{numbers_from}
+use Rattle.store_model.specs.Draws.{Draw}
+use Rattle.store_model.specs.Pairs.{Pair, IsPairs}
+use Rattle.store_model.proofs.ListsLemmas.{rising_from_is_sorted}
+use Rattle.store_model.specs.Paths.{key_cmp}
+use Rattle.skip_levels.specs.SearchPath.{above, group_at_or_below, group_cost, levels_cost, not_above}
+use Rattle.skip_levels.proofs.LedGroups.{led_by_place}
+use Rattle.skip_levels.proofs.PathLemmas.{sides_of}
+use Rattle.skip_levels.proofs.PlaceGroups.{group_of_place}
+
+module _ (d : Draw) (s : List Pair) (key : List ℕ) where
+  abbrev cost_at : ℕ → ℕ
+  cost_at level = group_cost level (group_at_or_below d s level key)
+
+  -- one level more, in front
+  cost_step : (first count : ℕ) → levels_cost d s key first (suc count) ≡ cost_at first + levels_cost d s key (suc first) count
+  unfolding numbers_from
+  cost_step first count = sum-map cost_at (numbers_from first (suc count)) ∙ sum_by-cons cost_at first (numbers_from (suc first) count) ∙ ap (λ n. cost_at first + n) (sym (sum-map cost_at (numbers_from (suc first) count)))
+
+  -- no level costs nothing
+  pub no_level : (most : ℕ) → levels_cost d s key 1 0 ≤ most
+  unfolding numbers_from
+  no_level most = omega arith
+
+  -- levels further on cost no more
+  further : (n first count : ℕ) → levels_cost d s key (first + n) count ≤ levels_cost d s key first (n + count)
+  further zero first count =
+      let here : first + 0 ≡ first = omega arith in
+      let all : 0 + count ≡ count = omega arith in
+      let same : levels_cost d s key (first + 0) count ≡ levels_cost d s key first (0 + count) = ap (λ k. levels_cost d s key k count) here ∙ sym (ap (levels_cost d s key first) all) in
+      omega (arith, same)
+  further (suc n) first count =
+      let place : first + suc n ≡ suc first + n = omega arith in
+      let more : suc n + count ≡ suc (n + count) = omega arith in
+      let from : levels_cost d s key (first + suc n) count ≡ levels_cost d s key (suc first + n) count = ap (λ k. levels_cost d s key k count) place in
+      let whole : levels_cost d s key first (suc n + count) ≡ levels_cost d s key first (suc (n + count)) = ap (levels_cost d s key first) more in
+      omega (arith, from, whole, cost_step first (n + count), further n (suc first) count)
+
+  -- the levels from one on cost no more than those from a lower one on
+  pub cost_within : (low level height : ℕ) → low ≤ level → level ≤ height → levels_cost d s key level (height - level) ≤ levels_cost d s key low (height - low)
+  cost_within low level height up within =
+      let place : low + (level - low) ≡ level = omega arith in
+      let count : (level - low) + (height - level) ≡ height - low = omega arith in
+      subst (λ n. levels_cost d s key level (height - level) ≤ levels_cost d s key low n) count
+      (subst (λ k. levels_cost d s key k (height - level) ≤ levels_cost d s key low ((level - low) + (height - level))) place (further (level - low) low (height - level)))
+
+  -- the group of a level, and the levels above
+  pub cost_of_level : (level height : ℕ) → IsPairs s → level < height
+      → group_cost level (group_of_place d level (not_above key s) (above key s)) + levels_cost d s key (suc level) (height - suc level) ≡ levels_cost d s key level (height - level)
+  cost_of_level level height valid below =
+      let sides = sides_of key s (rising_from_is_sorted key_cmp s valid.sorted) in
+      let count : height - level ≡ suc (height - suc level) = omega arith in
+      let group = led_by_place d level s (not_above key s) (above key s) sides valid in
+      ap (λ g. group_cost level g + levels_cost d s key (suc level) (height - suc level)) (sym group)
+      ∙ sym (cost_step level (height - suc level)) ∙ ap (levels_cost d s key level) (sym count)

@@ -1,0 +1,83 @@
+-- A search for the value of a key: a descent, and then the lowest group on the search path.
+use Rattle.std.proofs.Common.{◌≡◌, ℕ, zero, suc, ◌+◌, ◌-◌, ◌≤◌, List, Option, Result, Ok, Err, refl, sym, ap, subst, ◌∙◌, arith}
+use Rattle.store_base.specs.declared.store_fault.Fault.{Fault}
+use Rattle.store_base.specs.declared.store_fault.Fault.TheVariants.{Disk, NoMemory}
+use Rattle.skip_levels.specs.declared.search.Neighbours.{Neighbours}
+use Rattle.skip_levels.specs.declared.search.PathEnd.{PathEnd}
+use Rattle.store_base.specs.Faults.{disk_faults_after}
+use Rattle.store_base.specs.Leads.{lead_of}
+use Rattle.store_model.specs.Paths.{key_cmp}
+use Rattle.store_model.specs.Draws.{Draw}
+use Rattle.store_model.specs.Pairs.{Pair}
+use Rattle.store_model.proofs.ListsLemmas.{rising_from_is_sorted}
+use Rattle.node_pages.specs.PagesState.{PagesState}
+use Rattle.skip_levels.specs.Floors.{value_at}
+use Rattle.skip_levels.specs.Groups.{HoldsGroup}
+use Rattle.skip_levels.specs.SearchPath.{above, not_above, levels_cost, path_cost}
+use Rattle.skip_levels.specs.Searches.{FindsNeighbours, ReadsGroup, IsGroupSearch}
+use Rattle.skip_levels.specs.Descent.{HoldsPairs, FindsPathEnd, IsDescent, IsValueSearch}
+use Rattle.skip_levels.proofs.PlaceGroups.{group_of_place}
+use Rattle.skip_levels.proofs.PathLemmas.{holds_path, few_on_path}
+use Rattle.skip_levels.proofs.PathCosts.{cost_within, cost_of_level, no_level}
+use Rattle.skip_levels.proofs.Found.{value_of_floor}
+
+pub same_count : (S T : Type 0) (count : ℕ) (f : Fault) → disk_faults_after {T = S} count (Err f) ≡ disk_faults_after {T = T} count (Err f)
+same_count S T count Disk = refl
+same_count S T count NoMemory = refl
+
+module _ (old mid : PagesState) (height : ℕ) (key : List ℕ) where
+  -- the levels above the lowest cost no more than the whole path
+  pub whole_path : (d : Draw) (s : List Pair) → HoldsPairs d s old.pages → height ≡ d.height → levels_cost d s key 1 (height - 1) ≤ path_cost d s key
+  whole_path d s holds high = by_height height high
+    where
+      by_height : (n : ℕ) → n ≡ d.height → levels_cost d s key 1 (n - 1) ≤ path_cost d s key
+      by_height zero is = let none : 0 - 1 ≡ 0 = omega arith in subst (λ k. levels_cost d s key 1 k ≤ path_cost d s key) (sym none) (no_level d s key (path_cost d s key))
+      by_height (suc n) is =
+          let all : suc n - 0 ≡ d.height = omega (arith, is) in
+          subst (λ k. levels_cost d s key 1 (suc n - 1) ≤ levels_cost d s key 0 k) all (cost_within d s key 0 1 (suc n) (omega arith) (omega arith))
+
+  pub no_descent : (fault : Fault) → IsDescent old mid height key (Err fault) → IsValueSearch old mid height key (Err fault)
+  no_descent fault h = record {
+    faults = h.faults ∙ same_count PathEnd (Option (List ℕ)) old.faults fault;
+    lookups_kept = h.lookups_kept;
+    hidden = h.hidden;
+    observed = λ o. let n = h.observed o in record { observable = n.observable; unchanged = n.unchanged; found = λ d s holds high. tt; lookups = λ d s holds high. omega (arith, n.lookups d s holds high, whole_path d s holds high) };
+  }
+
+  module _ (new : PagesState) (end : PathEnd) (h : IsDescent old mid height key (Ok end)) where
+    -- what the search of the lowest group makes
+    pub lowest_searched : {result : Result Neighbours Fault} (n : FindsPathEnd old mid height key (Ok end)) → ReadsGroup mid new 0 (lead_of end.lead) key result → 1 ≤ height
+        → (d : Draw) (s : List Pair) → HoldsPairs d s old.pages → height ≡ d.height → FindsNeighbours mid new 0 key (group_of_place d 0 (not_above key s) (above key s)) result
+    lowest_searched n g some d s holds high =
+        let group = group_of_place d 0 (not_above key s) (above key s) in
+        g.floor group (subst (λ m. HoldsGroup m 0 (lead_of end.lead) group) (sym n.unchanged)
+        (subst (λ l. HoldsGroup old.pages 0 l group) (sym (n.lead d s holds high)) (holds_path d s old 0 key holds (omega arith)))) (few_on_path d s old 0 key holds)
+
+    -- and what it all costs
+    pub path_searched : {result : Result Neighbours Fault} (n : FindsPathEnd old mid height key (Ok end)) → ReadsGroup mid new 0 (lead_of end.lead) key result → 1 ≤ height
+        → (d : Draw) (s : List Pair) → HoldsPairs d s old.pages → height ≡ d.height → new.lookups ≤ old.lookups + path_cost d s key
+    path_searched n g some d s holds high =
+        let whole : levels_cost d s key 0 (height - 0) ≡ path_cost d s key = let count : height - 0 ≡ d.height = omega (arith, high) in ap (levels_cost d s key 0) count in
+        omega (arith, (lowest_searched n g some d s holds high).lookups, n.lookups d s holds high, cost_of_level d s key 0 height holds.pairs some, whole)
+
+    pub no_floor : (fault : Fault) → 1 ≤ height → IsGroupSearch mid new 0 (lead_of end.lead) key (Err fault) → IsValueSearch old new height key (Err fault)
+    no_floor fault some search = record {
+      faults = search.faults ∙ ap (λ n. disk_faults_after {T = Neighbours} n (Err fault)) h.faults ∙ same_count Neighbours (Option (List ℕ)) old.faults fault;
+      lookups_kept = omega (arith, h.lookups_kept, search.lookups_kept);
+      hidden = λ o. h.hidden (search.hidden o);
+      observed = λ o. let n = h.observed o in let g = search.observed n.observable in record { observable = g.observable; unchanged = g.unchanged ∙ n.unchanged; found = λ d s holds high. tt; lookups = path_searched n g some };
+    }
+
+    pub value_found : (near : Neighbours) (value : Option (List ℕ)) → 1 ≤ height → IsGroupSearch mid new 0 (lead_of end.lead) key (Ok near) → value ≡ value_at key near.floor → IsValueSearch old new height key (Ok value)
+    value_found near value some search is = record {
+      faults = search.faults ∙ h.faults;
+      lookups_kept = omega (arith, h.lookups_kept, search.lookups_kept);
+      hidden = λ o. h.hidden (search.hidden o);
+      observed = λ o. let n = h.observed o in let g = search.observed n.observable in record {
+        observable = g.observable;
+        unchanged = g.unchanged ∙ n.unchanged;
+        found = λ d s holds high.
+            is ∙ ap (value_at key) (lowest_searched n g some d s holds high).found.floor ∙ value_of_floor d key s (rising_from_is_sorted key_cmp s holds.pairs.sorted);
+        lookups = path_searched n g some;
+      };
+    }

@@ -1,0 +1,211 @@
+-- A walk over the pages of a group, from page to page, up to the first cell that fails a test.
+use Rattle.std.proofs.Common.{◌≡◌, ℕ, zero, suc, ◌+◌, ◌-◌, ◌<◌, ◌≤◌, List, [], ◌∷◌, ◌++◌, length, take, drop, Bool, true, false, not, cond, Option, Some, None, refl, sym, ap, subst, ◌∙◌, arith, append_assoc, length-append}
+use Rattle.std.specs.List.{AllByRecursion, find, prefix_len, take_while, slice_get}
+use Rattle.std.proofs.lemmas.List.{take-append-drop, append-nil, take_all, drop-drop}
+use Rattle.store_model.specs.Labels.{Lead}
+use Rattle.store_model.specs.Pages.{Cell, Page, page_room, group_pages}
+use Rattle.store_model.proofs.ListsLemmas.{all_append}
+use Rattle.node_pages.proofs.Runs.{pages_from, page_of_run, all_pages, next_page, no_page}
+use Rattle.node_pages.proofs.Joined.{take_next}
+use Rattle.skip_levels.specs.Floors.{last_of}
+
+-- ---- the last of some cells
+
+last_of-push : (cells : List Cell) (cell : Cell) → last_of (cells ++ cell ∷ []) ≡ Some cell
+unfolding last_of
+last_of-push [] cell = refl
+last_of-push (c ∷ []) cell = refl
+last_of-push (c ∷ other ∷ cells) cell = last_of-push (other ∷ cells) cell
+
+last_of-take : (front cells : List Cell) (n : ℕ) (cell : Cell) → slice_get cells n ≡ Some cell → last_of (front ++ take (n + 1) cells) ≡ Some cell
+last_of-take front cells n cell at =
+    ap (λ xs. last_of (front ++ xs)) (take_next cells n cell at) ∙ ap last_of (sym (append_assoc front (take n cells) (cell ∷ []))) ∙ last_of-push (front ++ take n cells) cell
+
+-- ---- tests along a list
+
+pub prefix_past : {X : Type 0} (p : X → Bool) (xs ys : List X) → AllByRecursion (λ x. p x ≡ true) xs → take_while p (xs ++ ys) ≡ xs ++ take_while p ys
+prefix_past p [] ys h = refl
+prefix_past p (x ∷ xs) ys h =
+    ap (λ b. take (cond b (1 + prefix_len p (xs ++ ys)) 0) (x ∷ (xs ++ ys))) h.0
+    ∙ (let more : 1 + prefix_len p (xs ++ ys) ≡ suc (prefix_len p (xs ++ ys)) = omega arith in ap (λ n. take n (x ∷ (xs ++ ys))) more)
+    ∙ ap (λ rest. x ∷ rest) (prefix_past p xs ys h.1)
+
+-- the first that fails stands behind what passes
+pub fails_past : {X : Type 0} (p : X → Bool) (xs ys : List X) → AllByRecursion (λ x. p x ≡ true) xs → find (λ x. not (p x)) (xs ++ ys) ≡ find (λ x. not (p x)) ys
+fails_past p [] ys h = refl
+fails_past p (x ∷ xs) ys h = ap (λ b. cond (not b) (Some x) (find (λ y. not (p y)) (xs ++ ys))) h.0 ∙ fails_past p xs ys h.1
+
+-- and at the end of a prefix
+fails_within : {X : Type 0} (p : X → Bool) (xs ys : List X) → prefix_len p xs < length xs → find (λ x. not (p x)) (xs ++ ys) ≡ slice_get xs (prefix_len p xs)
+fails_within p [] ys below = absurd (omega arith)
+fails_within p (x ∷ xs) ys below = by_test (p x) (λ less. fails_within p xs ys less) below
+  where
+    by_test : (b : Bool) → (prefix_len p xs < length xs → find (λ y. not (p y)) (xs ++ ys) ≡ slice_get xs (prefix_len p xs)) → cond b (1 + prefix_len p xs) 0 < length (x ∷ xs)
+        → cond (not b) (Some x) (find (λ y. not (p y)) (xs ++ ys)) ≡ slice_get (x ∷ xs) (cond b (1 + prefix_len p xs) 0)
+    by_test true rest h =
+        let fewer : suc (prefix_len p xs) ≡ 1 + prefix_len p xs = omega arith in
+        rest (omega arith) ∙ ap (slice_get (x ∷ xs)) fewer
+    by_test false rest h = refl
+
+-- a list whose front has a prefix that ends within it
+prefix_within : {X : Type 0} (p : X → Bool) (xs ys : List X) → prefix_len p xs < length xs → take_while p (xs ++ ys) ≡ take (prefix_len p xs) xs
+prefix_within p [] ys below = absurd (omega arith)
+prefix_within p (x ∷ xs) ys below = by_test (p x) (λ less. prefix_within p xs ys less) below
+  where
+    by_test : (b : Bool) → (prefix_len p xs < length xs → take_while p (xs ++ ys) ≡ take (prefix_len p xs) xs) → cond b (1 + prefix_len p xs) 0 < length (x ∷ xs)
+        → take (cond b (1 + prefix_len p (xs ++ ys)) 0) (x ∷ (xs ++ ys)) ≡ take (cond b (1 + prefix_len p xs) 0) (x ∷ xs)
+    by_test true rest h =
+        let more : 1 + prefix_len p (xs ++ ys) ≡ suc (prefix_len p (xs ++ ys)) = omega arith in
+        let fewer : suc (prefix_len p xs) ≡ 1 + prefix_len p xs = omega arith in
+        ap (λ n. take n (x ∷ (xs ++ ys))) more ∙ ap (λ zs. x ∷ zs) (rest (omega arith)) ∙ ap (λ n. take n (x ∷ xs)) fewer
+    by_test false rest h = refl
+
+all_pass : {X : Type 0} (p : X → Bool) (xs : List X) → length xs ≤ prefix_len p xs → AllByRecursion (λ x. p x ≡ true) xs
+all_pass p [] h = tt
+all_pass p (x ∷ xs) h = by_test (p x) refl (λ more. all_pass p xs more) h
+  where
+    by_test : (b : Bool) → p x ≡ b → (length xs ≤ prefix_len p xs → AllByRecursion (λ y. p y ≡ true) xs) → length (x ∷ xs) ≤ cond b (1 + prefix_len p xs) 0 → (p x ≡ true) × AllByRecursion (λ y. p y ≡ true) xs
+    by_test true e rest h = (e, rest (omega arith))
+    by_test false e rest h = absurd (omega arith)
+
+slice_get-drop : {X : Type 0} (xs : List X) (i : ℕ) → slice_get xs i ≡ slice_get (drop i xs) 0
+slice_get-drop [] zero = refl
+slice_get-drop [] (suc i) = refl
+slice_get-drop (x ∷ xs) zero = refl
+slice_get-drop (x ∷ xs) (suc i) = slice_get-drop xs i
+
+slice_get-within : {X : Type 0} (xs : List X) (i : ℕ) (x : X) → slice_get xs i ≡ Some x → i < length xs
+slice_get-within [] i x e = absurd (cc)
+slice_get-within (y ∷ ys) zero x e = omega arith
+slice_get-within (y ∷ ys) (suc i) x e = let rest = slice_get-within ys i x e in omega arith
+
+some_at : {X : Type 0} (xs : List X) (i : ℕ) → i < length xs → (x : X) × (slice_get xs i ≡ Some x)
+some_at [] i below = absurd (omega arith)
+some_at (x ∷ xs) zero below = (x, refl)
+some_at (x ∷ xs) (suc i) below = some_at xs i (omega arith)
+
+-- the last cell so far, where so many cells of a run pass
+last_after : (front run : List Cell) (count : ℕ) (last next : Option Cell) → count ≤ length run → last ≡ last_of front → (count ≡ 0 → next ≡ last) → (0 < count → next ≡ slice_get run (count - 1)) → next ≡ last_of (front ++ take count run)
+last_after front run zero last next within is none some = none refl ∙ is ∙ ap last_of (sym (append-nil front))
+last_after front run (suc n) last next within is none some =
+    let at = some_at run n (omega arith) in
+    let before : suc n - 1 ≡ n = omega arith in
+    let count : n + 1 ≡ suc n = omega arith in
+    some (omega arith) ∙ ap (slice_get run) before ∙ at.1 ∙ sym (last_of-take front run n at.0 at.1) ∙ ap (λ k. last_of (front ++ take k run)) count
+
+-- ---- the walk
+
+module _ (p : Cell → Bool) (level : ℕ) (lead : Lead) (cells : List Cell) where
+  -- So many pages of the group were read, and all their cells pass; this is the last of them.
+  pub record Walked (index : ℕ) (last : Option Cell) : Type 0 where
+    pub front : List Cell
+    pub rest : List Cell
+    pub whole : cells ≡ front ++ rest
+    pub passes : AllByRecursion (λ cell. p cell ≡ true) front
+    pub pages : drop index (group_pages level lead cells) ≡ pages_from level lead index rest
+    pub counted : index ≤ length (group_pages level lead cells)
+    pub long : index ≤ length front
+    pub last_is : last ≡ last_of front
+
+  pub walk_start : Walked 0 None
+  unfolding last_of
+  walk_start = record { front = []; rest = cells; whole = refl; passes = tt; pages = sym (all_pages level lead cells); counted = omega arith; long = omega arith; last_is = refl }
+
+  -- the page at the walk's place
+  first_of : (index : ℕ) (last : Option Cell) (w : Walked index last) → slice_get (group_pages level lead cells) index ≡ slice_get (pages_from level lead index w.rest) 0
+  first_of index last w = slice_get-drop (group_pages level lead cells) index ∙ ap (λ ps. slice_get ps 0) w.pages
+
+  -- there is no page: the walk has seen all cells
+  no_rest : (index : ℕ) (last : Option Cell) (w : Walked index last) → slice_get (group_pages level lead cells) index ≡ None → w.rest ≡ []
+  no_rest index last w none = at_end w.rest refl
+    where
+      at_end : (rest : List Cell) → w.rest ≡ rest → w.rest ≡ []
+      at_end [] e = e
+      at_end (x ∷ r) e =
+          let is = sym none ∙ first_of index last w ∙ ap (λ ps. slice_get ps 0) (ap (pages_from level lead index) e ∙ next_page level lead index (x ∷ r) (omega arith)) in
+          absurd (cc)
+
+  pub walk_none : (index : ℕ) (last : Option Cell) → Walked index last → slice_get (group_pages level lead cells) index ≡ None → last ≡ last_of (take_while p cells)
+  walk_none index last w none =
+      w.last_is ∙ ap last_of (sym (ap (take_while p) (w.whole ∙ ap (λ r. w.front ++ r) (no_rest index last w none)) ∙ prefix_past p w.front [] w.passes ∙ append-nil w.front))
+
+  pub walk_none_fails : (index : ℕ) (last : Option Cell) → Walked index last → slice_get (group_pages level lead cells) index ≡ None → None ≡ find (λ c. not (p c)) cells
+  walk_none_fails index last w none = sym (ap (find (λ c. not (p c))) (w.whole ∙ ap (λ r. w.front ++ r) (no_rest index last w none)) ∙ fails_past p w.front [] w.passes)
+
+  -- the page of the run at the walk's place
+  record AtPage (index : ℕ) (rest : List Cell) (page : Page) : Type 0 where
+    some : 1 ≤ length rest
+    cells_are : page.cells ≡ take (page_room level) rest
+
+  at_page : (index : ℕ) (last : Option Cell) (page : Page) (w : Walked index last) → slice_get (group_pages level lead cells) index ≡ Some page → AtPage index w.rest page
+  at_page index last page w at = by_rest w.rest (sym (first_of index last w) ∙ at)
+    where
+      by_rest : (rest : List Cell) → slice_get (pages_from level lead index rest) 0 ≡ Some page → AtPage index rest page
+      by_rest [] is = let none = ap (λ ps. slice_get ps 0) (no_page level lead index [] refl) in absurd (cc)
+      by_rest (x ∷ r) is =
+          let first = ap (λ ps. slice_get ps 0) (next_page level lead index (x ∷ r) (omega arith)) in
+          record { some = omega arith; cells_are = same_cells (page_of_run level lead index (take (page_room level) (x ∷ r))) page (sym first ∙ is) }
+        where
+          same_cells : (a b : Page) → Some a ≡ Some b → b.cells ≡ a.cells
+          same_cells a b e = let same : a ≡ b = cc in ap (λ (q : Page). q.cells) (sym same)
+
+  -- the cells from the walk's place on
+  split_rest : (index : ℕ) (last : Option Cell) (page : Page) (w : Walked index last) → AtPage index w.rest page → w.rest ≡ page.cells ++ drop (page_room level) w.rest
+  split_rest index last page w at = sym (take-append-drop (page_room level) w.rest) ∙ ap (λ run. run ++ drop (page_room level) w.rest) (sym at.cells_are)
+
+  -- a cell of the page fails: the walk is at its end
+  pub walk_stop : (index : ℕ) (last next : Option Cell) (page : Page) (count : ℕ) → Walked index last → slice_get (group_pages level lead cells) index ≡ Some page → count ≡ prefix_len p page.cells → count < length page.cells
+      → (count ≡ 0 → next ≡ last) → (0 < count → next ≡ slice_get page.cells (count - 1)) → next ≡ last_of (take_while p cells)
+  walk_stop index last next page count w at counted below none some =
+      let run = at_page index last page w at in
+      let prefix : take_while p cells ≡ w.front ++ take count page.cells =
+      ap (take_while p) (w.whole ∙ ap (λ r. w.front ++ r) (split_rest index last page w run)) ∙ prefix_past p w.front (page.cells ++ drop (page_room level) w.rest) w.passes
+      ∙ ap (λ r. w.front ++ r) (prefix_within p page.cells (drop (page_room level) w.rest) (subst (λ n. n < length page.cells) counted below) ∙ ap (λ n. take n page.cells) (sym counted)) in
+      last_after w.front page.cells count last next (omega arith) w.last_is none some ∙ ap last_of (sym prefix)
+
+  -- and this one fails
+  pub walk_stop_fails : (index : ℕ) (last after : Option Cell) (page : Page) (count : ℕ) → Walked index last → slice_get (group_pages level lead cells) index ≡ Some page → count ≡ prefix_len p page.cells → count < length page.cells
+      → slice_get page.cells count ≡ after → after ≡ find (λ c. not (p c)) cells
+  walk_stop_fails index last after page count w at counted below is =
+      let run = at_page index last page w at in
+      let rest = drop (page_room level) w.rest in
+      sym (ap (find (λ c. not (p c))) (w.whole ∙ ap (λ r. w.front ++ r) (split_rest index last page w run)) ∙ fails_past p w.front (page.cells ++ rest) w.passes
+      ∙ fails_within p page.cells rest (subst (λ n. n < length page.cells) counted below) ∙ ap (slice_get page.cells) (sym counted) ∙ is)
+
+  -- all cells of the page pass: the walk goes on
+  pub walk_on : (index : ℕ) (last next : Option Cell) (page : Page) (count : ℕ) → Walked index last → slice_get (group_pages level lead cells) index ≡ Some page → count ≡ prefix_len p page.cells → count ≤ length page.cells → length page.cells ≤ count → 1 ≤ length page.cells
+      → (count ≡ 0 → next ≡ last) → (0 < count → next ≡ slice_get page.cells (count - 1)) → Walked (index + 1) next
+  walk_on index last next page count w at counted within all some_cell none some =
+      let run = at_page index last page w at in
+      let there = slice_get-within (group_pages level lead cells) index page at in
+      record {
+        front = w.front ++ page.cells;
+        rest = drop (page_room level) w.rest;
+        whole = w.whole ∙ ap (λ r. w.front ++ r) (split_rest index last page w run) ∙ sym (append_assoc w.front page.cells (drop (page_room level) w.rest));
+        passes = all_append (λ cell. p cell ≡ true) w.front page.cells w.passes (all_pass p page.cells (subst (λ n. length page.cells ≤ n) counted all));
+        pages = next_pages run.some;
+        counted = omega arith;
+        long = let l = w.long in omega (arith, length-append w.front page.cells);
+        last_is = last_after w.front page.cells count last next within w.last_is none some ∙ ap (λ xs. last_of (w.front ++ xs)) (take_all count page.cells all);
+      }
+    where
+      next_pages : 1 ≤ length w.rest → drop (index + 1) (group_pages level lead cells) ≡ pages_from level lead (index + 1) (drop (page_room level) w.rest)
+      next_pages more = sym (drop-drop 1 index (group_pages level lead cells)) ∙ ap (drop 1) (w.pages ∙ next_page level lead index w.rest more)
+
+-- ---- the first page of a group of level 0
+
+-- it has the group's first cell
+pub first_cell : (lead : Lead) (cells : List Cell) (page : Page) → slice_get (group_pages 0 lead cells) 0 ≡ Some page → slice_get page.cells 0 ≡ slice_get cells 0
+unfolding walk_start
+first_cell lead cells page at =
+    let every = λ (c : Cell). true in
+    ap (λ xs. slice_get xs 0) (at_page every 0 lead cells 0 None page (walk_start every 0 lead cells) at).cells_are ∙ front cells
+  where
+    front : (xs : List Cell) → slice_get (take 10 xs) 0 ≡ slice_get xs 0
+    front [] = refl
+    front (x ∷ xs) = refl
+
+-- where there is none, there is no cell
+pub no_first_cell : (lead : Lead) (cells : List Cell) → slice_get (group_pages 0 lead cells) 0 ≡ None → cells ≡ []
+unfolding walk_start
+no_first_cell lead cells none = let every = λ (c : Cell). true in no_rest every 0 lead cells 0 None (walk_start every 0 lead cells) none

@@ -1,0 +1,13 @@
+use Rattle.std.proofs.Common.{◌<◌}
+use Rattle.skip_levels.proofs.DescentSteps.{Descends}
+use Rattle.skip_levels.proofs.search.path_end.Given as goal
+
+abbrev pub invariant-loop-level : goal.invariant-loop-level
+invariant-loop-level g l = record {
+  within : l.level < l.height;
+  descends : Descends (g.P.Pages.state l.initial.pages) (g.P.Pages.state l.pages) l.height l.level l.key l.lead l.next;
+  follows : g.P.Pages.follows l.initial.pages l.pages;
+}
+
+abbrev pub decreases-loop-level : goal.decreases-loop-level
+decreases-loop-level g l = l.level

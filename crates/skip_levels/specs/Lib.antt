@@ -1,0 +1,9 @@
+pub mod Descent
+pub mod Floors
+pub mod GroupChanges
+pub mod Groups
+pub mod NextSearch
+pub mod PairsState
+pub mod Searches
+pub mod SearchPath
+pub mod ValidPairs

@@ -1,0 +1,16 @@
+//! Sorted lists of pairs: what each offers, the list in memory, and the skip list with blocks over any pages.
+#![tactic(auto)]
+
+mod change;
+mod map;
+mod next;
+mod ordered;
+mod search;
+mod skip_list;
+
+pub use map::MapPairs;
+pub use ordered::OrderedPairs;
+pub use skip_list::SkipList;
+
+#[cfg(test)]
+mod tests;

@@ -1,0 +1,79 @@
+//! The search for the first pair from a key on.
+
+ghost use Rattle.std.specs.Prelude.{◌≡◌, ◌≤◌};
+ghost use Rattle.std.specs.Option.{option_or};
+ghost use Rattle.skip_levels.specs.NextSearch.{pair_in, pair_at, IsFirstPair, IsNextSearch};
+
+use crate::search::{Neighbours, neighbours_in_group, path_end};
+use node_pages::{Cell, Pages};
+use store_base::{Fault, Key, Label, Lead, Value};
+
+/// The pair of a cell of level 0.
+fn pair_of(cell: Option<Cell>) -> Option<(Key, Value)>
+    ensures { result ≡ pair_in cell }
+{
+    let cell = cell?;
+    let value = cell.value?;
+    Some((cell.key, value))
+}
+
+/// The pair of the key, where the cell found is the key's.
+fn pair_here(found: Option<Cell>, key: &Key) -> Option<(Key, Value)>
+    ensures { result ≡ pair_at key.now found }
+{
+    let cell = found?;
+    if key.cmp(&cell.key).is_eq() {
+        pair_of(Some(cell))
+    } else {
+        None
+    }
+}
+
+/// The first pair from a key on, among the cells of level 0 next to it.
+fn pair_from(near: Neighbours, key: &Key) -> Option<(Key, Value)>
+    ensures { result ≡ option_or (pair_at key.now near.floor) (pair_in near.after) }
+{
+    pair_here(near.floor, key).or(pair_of(near.after))
+}
+
+/// The first pair of the group of level 0 that a key leads; `None` where there is no such group. One page is asked for.
+fn first_pair<P: Pages>(pages: &mut P, leader: Key) -> Result<Option<(Key, Value)>, Fault>
+    ensures call { IsFirstPair (P.state pages.old) (P.state pages.new) leader result }
+    ensures follows { P.follows pages.old pages.new }
+{
+    let _ = leader.as_bytes();
+    let label = Label {
+        level: 0,
+        lead: Lead::Key(leader),
+        index: 0,
+    };
+    let Some(page) = pages.get(&label)? else {
+        return Ok(None);
+    };
+    let _ = page.len();
+    Ok(pair_of(Some(page.cell(0))))
+}
+
+/// The first pair whose key is not below the given one, in the pages of a list of this height; `None` exactly where every
+/// key is below it. The groups of one search path are read, and where the pair leads the next group one page more. After
+/// a fault the pages are as they were.
+pub fn find_next<P: Pages>(
+    pages: &mut P,
+    height: u8,
+    key: &Key,
+) -> Result<Option<(Key, Value)>, Fault>
+    requires { 1 ≤ height }
+    ensures call { IsNextSearch (P.state pages.old) (P.state pages.new) height key.now result }
+    ensures follows { P.follows pages.old pages.new }
+{
+    let end = path_end(pages, height, key)?;
+    let near = neighbours_in_group(pages, 0, &end.lead, key)?;
+    let here = pair_from(near, key);
+    let Some(leader) = end.next else {
+        return Ok(here);
+    };
+    if here.is_some() {
+        return Ok(here);
+    }
+    first_pair(pages, leader)
+}
