@@ -12,7 +12,7 @@ use Rattle.store_model.specs.Pages.{Page}
 use Rattle.store_model.specs.Placement.{Table, probe, probes, is_free, put_at, put_first_free, put_all, page_cmp, place, pages_in}
 use Rattle.store_model.proofs.ListsLemmas.{in_order_of_rising, rising_from_map, all_replicate}
 use Rattle.store_model.proofs.PlacementLemmas.{IsPermutation-place}
-use Rattle.layout_scratch.specs.Layouts.{table_of, page_at, IsNumber, ArePlaces}
+use Rattle.layout_scratch.specs.Layouts.{table_of, numbered_page, IsNumber, ArePlaces}
 
 -- the places with a number where a search found one
 abbrev pub places_with : List (Option ℕ) → Option ℕ → ℕ → List (Option ℕ)
@@ -27,7 +27,7 @@ put_first_free-places d pages places number page found page_is found_is = put_by
   where
     put_by : (o : Option ℕ) → table_of pages (places_with places o number) ≡ put_at (table_of pages places) page o
     put_by None = refl
-    put_by (Some at) = map-set (page_at pages) places at (Some number) ∙ ap (slice_set (table_of pages places) at) page_is
+    put_by (Some at) = map-set (numbered_page pages) places at (Some number) ∙ ap (slice_set (table_of pages places) at) page_is
 
 -- so it is where the search began at the start that the draw gives of the page's label
 pub put_where_found : (d : Draw) (pages : List Page) (places : List (Option ℕ)) (number start : ℕ) (page : Page) (label : Label) (answer found : Option ℕ) → length places ≡ d.slots
@@ -65,7 +65,7 @@ none_placed d pages slots places slots_is places_are = subst (λ before. ArePlac
     none : ArePlaced d pages (replicate d.slots None) 0
     none = record { numbers = all_replicate (IsNumber pages) d.slots None tt; table = empty_table pages d.slots }
 
--- one more is placed where the next page comes into the first free slot of its probe sequence
+-- one more is placed where the next page is put first free
 pub one_more_placed : (d : Draw) (pages : List Page) (before after : List (Option ℕ)) (count : ℕ) → ArePlaced d pages before count → count < length pages → AllByRecursion (IsNumber pages) after
     → IfSome (slice_get pages count) (λ page. table_of pages after ≡ put_first_free d (table_of pages before) page) → ArePlaced d pages after (count + 1)
 one_more_placed d pages before after count placed below numbers put_in =

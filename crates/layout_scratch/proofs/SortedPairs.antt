@@ -12,11 +12,11 @@ use Rattle.store_model.specs.Draws.{Draw}
 use Rattle.store_model.specs.Paths.{key_cmp}
 use Rattle.store_model.specs.Pairs.{Pair, IsPair, IsPairs}
 use Rattle.store_model.proofs.ListsLemmas.{all_append, rising_to_map, is_sorted_from_rising}
-use Rattle.store_model.proofs.PlacementLemmas.{IsPermutation-in_order}
+use Rattle.store_model.proofs.ListsLemmasOrder.{AllByRecursion-permutation, IsPermutation-in_order, sorted_in_order, same_as_in_order, distinct_from_map}
 use Rattle.layout_scratch.specs.Sorting.{HasDistinctKeys, pair_cmp, by_key}
 use Rattle.layout_scratch.specs.declared.ranked.Ranked.{Ranked}
 use Rattle.layout_scratch.specs.Ranks.{key_of, pairs_of, AreRanked}
-use Rattle.layout_scratch.proofs.Rising.{rising_from_sorted, rising_in_order, all_permutation, same_as_in_order, distinct_from_map}
+use Rattle.layout_scratch.proofs.Rising.{rising_from_sorted}
 
 -- the first i pairs are ranked, and are pairs
 pub record RanksFirst (d : Draw) (pairs : List Pair) (i : ℕ) (ranked : List Ranked) : Type 0 where
@@ -69,6 +69,6 @@ sorted_by_key pairs ranked sorted pairs_are apart moves up =
 -- in order they are a finite map
 pub pairs_in_order : (pairs : List Pair) → AllByRecursion IsPair pairs → HasDistinctKeys pairs → IsPairs (by_key pairs)
 pairs_in_order pairs valid apart = record {
-  sorted = is_sorted_from_rising key_cmp (by_key pairs) (rising_in_order pair_cmp pair_cmp_total pairs (distinct_from_map key_cmp (λ (pair : Pair). pair.0) pairs apart));
-  pairs = all_permutation IsPair pairs (by_key pairs) (IsPermutation-in_order pair_cmp pairs) valid;
+  sorted = is_sorted_from_rising key_cmp (by_key pairs) (sorted_in_order pair_cmp pair_cmp_total pairs (distinct_from_map key_cmp (λ (pair : Pair). pair.0) pairs apart));
+  pairs = AllByRecursion-permutation IsPair pairs (by_key pairs) (IsPermutation-in_order pair_cmp pairs) valid;
 }

@@ -5,13 +5,13 @@ use Rattle.store_model.specs.Pages.{Page}
 use Rattle.store_model.specs.Placement.{Table, pages_in}
 
 -- what a slot holds that has the page of this number, or none
-abbrev pub page_at : List Page → Option ℕ → Option Page
-page_at pages None = None
-page_at pages (Some number) = slice_get pages number
+abbrev pub numbered_page : List Page → Option ℕ → Option Page
+numbered_page pages None = None
+numbered_page pages (Some number) = slice_get pages number
 
 -- the table whose slots hold the pages of these numbers
 abbrev pub table_of : List Page → List (Option ℕ) → Table
-table_of pages places = map (page_at pages) places
+table_of pages places = map (numbered_page pages) places
 
 -- the number is that of a page
 abbrev pub IsNumber : List Page → Option ℕ → Type 0

@@ -1,11 +1,15 @@
 -- Pairs in the order of their keys.
-use Rattle.std.specs.Prelude.{List, map}
+use Rattle.std.specs.Prelude.{ℕ, List, map}
 use Rattle.std.specs.List.{IsDistinct}
 use Rattle.std.specs.Ordering.{eq_by_cmp}
 use Rattle.std.specs.declared.cmp.Ordering.{Ordering}
 use Rattle.store_model.specs.Lists.{in_order}
 use Rattle.store_model.specs.Paths.{key_cmp}
 use Rattle.store_model.specs.Pairs.{Pair}
+
+-- the most pairs that are laid out: their pages on all levels are counted in 32 bits
+abbrev pub pairs_limit : ℕ
+pairs_limit = 268435456
 
 -- pairs are ordered as their keys
 abbrev pub pair_cmp : Pair → Pair → Ordering

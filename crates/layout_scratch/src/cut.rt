@@ -3,11 +3,12 @@
 ghost use Rattle.std.specs.Prelude.{◌≡◌, ◌≤◌, ◌++◌, length, map, IfOk, IfErr, OnOk};
 ghost use Rattle.std.specs.List.{flat_map};
 ghost use Rattle.std.specs.List.Sorted.{IsStrictlySortedBy};
+ghost use Rattle.store_model.specs.Parameters.{height_limit};
 ghost use Rattle.store_model.specs.Lists.{numbers_below};
 ghost use Rattle.store_model.specs.Labels.{label_cmp};
 ghost use Rattle.store_model.specs.Draws as draws;
 ghost use Rattle.store_model.specs.Pages.{level_pages, pages_of_pairs};
-ghost use Rattle.layout_scratch.specs.Sorting.{HasDistinctKeys, pair_cmp, by_key};
+ghost use Rattle.layout_scratch.specs.Sorting.{HasDistinctKeys, pair_cmp, by_key, pairs_limit};
 ghost use Rattle.layout_scratch.specs.Ranks.{pairs_of, AreRanked};
 ghost use Rattle.layout_scratch.specs.Faults.{IsRefusal};
 
@@ -60,8 +61,8 @@ pub fn cut_pages<W: Draw>(
     pairs: &PairList,
 ) -> Result<PageList, ScratchFault>
     requires distinct { HasDistinctKeys pairs.now }
-    requires few { length pairs.now ≤ 268435456 }
-    requires height { (W.drawn draw.now).height ≤ 8 }
+    requires few { length pairs.now ≤ pairs_limit }
+    requires height { (W.drawn draw.now).height ≤ height_limit }
     ensures value { IfOk result (λ pages. pages ≡ pages_of_pairs (W.drawn draw.now) (by_key pairs.now)) }
     ensures fits { IfOk result (λ pages. length pages ≤ (W.drawn draw.now).slots) }
     ensures ranked { IfOk result (λ pages. IsStrictlySortedBy label_cmp (map (λ page. page.label) pages)) }
@@ -76,34 +77,4 @@ pub fn cut_pages<W: Draw>(
         return Err(ScratchFault::Full { need, slots });
     }
     Ok(cut_levels(alloc, height, ranked)?)
-}
-
-#[cfg(test)]
-mod tests {
-    use super::*;
-    use seeded_draw::RulerDraw;
-    use std::test::Fail;
-    use store_base::{Key, Value};
-
-    /// The pair of the directory `/U`, whose key stands on levels 0 and 1.
-    fn one_pair(alloc: Global) -> Result<PairList, NoMemory>
-        ensures distinct { IfOk result HasDistinctKeys }
-        ensures one { IfOk result (λ pairs. length pairs ≡ 1) }
-    {
-        let mut key = [0; 124];
-        key[0] = b'U';
-        let mut pairs = PairList::new(alloc);
-        pairs.push((Key::new(key), Value::new(&[1])))?;
-        Ok(pairs)
-    }
-
-    #[test]
-    fn one_pair_on_two_levels(rt: HostRuntime) -> Result<(), Fail> {
-        let pairs = one_pair(rt.alloc())?;
-        let pages = cut_pages(rt.alloc(), &RulerDraw::new(2, 2), &pairs)?;
-        assert_eq!(rt; pages.len(), 2);
-        let refused = cut_pages(rt.alloc(), &RulerDraw::new(1, 2), &pairs).err();
-        assert_eq!(rt; refused, Some(ScratchFault::Full { need: 2, slots: 1 }));
-        Ok(())
-    }
 }

@@ -3,7 +3,6 @@
 ghost use Rattle.std.specs.Prelude.{◌≡◌};
 ghost use Rattle.layout_scratch.specs.declared.fault.ScratchFault.TheVariants as faults;
 
-use std::alloc::{AllocError, AllocFailed};
 use store_base::NoMemory;
 use thiserror::Error;
 
@@ -27,22 +26,6 @@ impl From<NoMemory> for ScratchFault {
     ghost from_gives = { λ _ fault. fault ≡ faults.NoMemory };
 
     fn from(_: NoMemory) -> Self {
-        ScratchFault::NoMemory
-    }
-}
-
-impl From<AllocError> for ScratchFault {
-    ghost from_gives = { λ _ fault. fault ≡ faults.NoMemory };
-
-    fn from(_: AllocError) -> Self {
-        ScratchFault::NoMemory
-    }
-}
-
-impl<T: Drop> From<AllocFailed<T>> for ScratchFault {
-    ghost from_gives = { λ _ fault. fault ≡ faults.NoMemory };
-
-    fn from(_: AllocFailed<T>) -> Self {
         ScratchFault::NoMemory
     }
 }

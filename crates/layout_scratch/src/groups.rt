@@ -7,6 +7,7 @@ ghost use Rattle.store_model.specs.Draws.{Draw};
 ghost use Rattle.store_model.specs.Pages as model;
 ghost use Rattle.store_model.specs.Pages.{cell_on, IsCell};
 ghost use Rattle.store_base.specs.Leads.{lead_of};
+ghost use Rattle.layout_scratch.specs.Sorting.{pairs_limit};
 ghost use Rattle.layout_scratch.specs.Ranks.{AreRanked, cells_on, IsFirstGroup};
 
 use crate::ranked::Ranked;
@@ -34,7 +35,7 @@ pub fn first_group<'a, 'p>(level: u8, ranked: &'a [Ranked<'p>]) -> &'a [Ranked<'
 
 /// How many cells a group has.
 pub fn cell_count(level: u8, group: &[Ranked]) -> u32
-    requires { length group.now ≤ 268435456 }
+    requires { length group.now ≤ pairs_limit }
     ensures { result ≡ length (cells_on level group.now) }
 {
     group.iter().filter(|pair| level <= pair.level).count() as u32

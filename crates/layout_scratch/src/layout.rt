@@ -7,7 +7,7 @@ ghost use Rattle.store_model.specs.Images.{slot_bytes};
 
 use node_pages::PageList;
 use std::marker::Model;
-use store_base::Slot;
+use store_base::{BLOCK, Slot};
 
 /// The table of a list of pairs. Contracts see it as the list of its slots, each empty or with a page.
 ///
@@ -47,7 +47,7 @@ impl Layout {
     {
         match self.places[at as usize] {
             Some(number) => *into = *self.pages.get(number).as_slot(),
-            None => *into = [0; 4096],
+            None => *into = [0; BLOCK],
         }
     }
 }

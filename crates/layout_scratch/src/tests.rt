@@ -1,5 +1,5 @@
-//! Tables that were worked out by hand from the format, with the draw `ruler`: the start of a label is the sum of
-//! its bytes, round the table.
+//! Tables that were worked out by hand from the format, with the draw `ruler`, under which a label starts at its
+//! bytes' sum, round the table.
 
 ghost use Rattle.std.specs.Prelude.{◌≡◌, ◌+◌, ◌≤◌, length, map, IfOk};
 ghost use Rattle.std.specs.List.{list_all, list_any};
@@ -88,7 +88,8 @@ fn places(
     let slots = table.len() as u32;
     let count = pages.len();
     assert!(rt; count <= slots);
-    let layout = place_pages(alloc, &RulerDraw::new(slots, 2), pages)?;
+    let params = Params::new(slots, 2, DrawKind::Ruler, [0; 32])?;
+    let layout = place_pages(alloc, &RulerDraw::new(&params), pages)?;
     assert_eq!(rt; layout.used(), count);
     for at in 0..slots {
         let mut slot = [7; 4096];
@@ -160,6 +161,46 @@ fn layout(
     }
     assert!(rt; pairs.len() <= 33);
     Ok(build(alloc, params, &pairs))
+}
+
+/// The key of seven letters `U` and a number: with the draw `ruler` it stands on all of eight levels.
+fn tall_key(number: u16) -> Key {
+    let mut bytes = [0; 124];
+    bytes[..7].copy_from_slice(b"UUUUUUU");
+    bytes[7..9].copy_from_slice(&number.to_be_bytes());
+    Key::new(bytes)
+}
+
+/// The layout of directories with such keys. Each leads a group of its own on seven levels, with one page; the
+/// highest level has a page for 31 of them.
+fn tall_layout(
+    rt: &impl Abort,
+    alloc: Global,
+    params: &Params,
+    count: u16,
+) -> Result<Result<Layout, ScratchFault>, Fail> {
+    let mut pairs = PairList::new(alloc);
+    for number in 0..count {
+        make(rt, &mut pairs, tall_key(number))?;
+    }
+    assert!(rt; pairs.len() <= 16384);
+    Ok(build(alloc, params, &pairs))
+}
+
+#[test]
+fn largest_table(rt: HostRuntime) -> Result<(), Fail> {
+    let params = Params::new(16384, 8, DrawKind::Ruler, [0; 32])?;
+    let layout = tall_layout(&rt, rt.alloc(), &params, 2329)??;
+    assert_eq!(rt; layout.used(), 7 * 2329 + 76);
+    let fault = tall_layout(&rt, rt.alloc(), &params, 2330)?.err();
+    assert_eq!(rt;
+        fault,
+        Some(ScratchFault::Full {
+            need: 7 * 2330 + 76,
+            slots: 16384
+        })
+    );
+    Ok(())
 }
 
 /// The slot with these bytes at their places and zeros elsewhere.
