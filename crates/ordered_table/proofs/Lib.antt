@@ -1,0 +1,5 @@
+pub mod Reading
+pub mod Searching
+pub mod Inserting
+pub mod InsertCalls
+pub mod Overwriting
