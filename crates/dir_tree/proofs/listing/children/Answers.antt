@@ -1,0 +1,71 @@
+use Rattle.std.proofs.Common.{List, length, refl, sym, ap, subst, ◌∙◌, arith}
+use Rattle.store_model.specs.Commands.{Child}
+use Rattle.tree_pairs.specs.Blocks.{tree_blocks}
+use Rattle.dir_tree.proofs.RefusalLemmas.{kept_itself, kept_on, still_holds}
+use Rattle.dir_tree.proofs.TreeLemmas.{held_blocks}
+use Rattle.dir_tree.proofs.ListingLemmas.{IsPartListed, none_listed, next_listed, none_listed_more, few_listed, low_enough, is_within, short_name}
+use Rattle.dir_tree.proofs.listing.children.Goals as goal
+
+pub loop-init : goal.loop-init
+loop-init g c = record {
+  faults = refl;
+  keeps = kept_itself (g.P.OrderedPairs.state c.args.pairs.now);
+  part = λ seen t p holds directory. subst (λ (entries : List Child). IsPartListed t c.args.path.now c.key-from.result 0 entries) (sym c.new-entries.ensures) (none_listed t c.args.path.now c.key-from.result holds.tree c.key-from.ensures.path c.key-from.ensures.value);
+  follows = g.met.P.OrderedPairs.follows_refl _;
+}
+
+pub name-requires : goal.name-requires
+name-requires g c = (is_within c.args.path.now c.in_ok-child.field-0 c.in-Some.child c.in-Some.is c.in_ok-child.ensures.call.within).below_root
+
+pub push-requires : goal.push-requires
+push-requires g c =
+    let within = is_within c.args.path.now c.in_ok-child.field-0 c.in-Some.child c.in-Some.is c.in_ok-child.ensures.call.within in
+    let short = short_name c.in-Some.child.path within.valid within.below_root in
+    omega (arith, ap length c.name.ensures)
+
+pub loop-preserved : goal.loop-preserved
+loop-preserved g c =
+    let old = g.P.OrderedPairs.state c.args.pairs.now in
+    let here = g.P.OrderedPairs.state c.loop.pairs in
+    let between = g.P.OrderedPairs.state c.next_within.new.pairs in
+    let kept = c.loop.invariant in
+    let search = c.in_ok-child.ensures in
+    let size = c.in_ok-size.ensures in
+    let keeps = kept_on old here between kept.keeps search.call.keeps in
+    record {
+      faults = size.call.faults ∙ search.call.faults ∙ kept.faults;
+      keeps = kept_on old between (g.P.OrderedPairs.state c.size_of.new.pairs) keeps size.call.keeps;
+      part = λ seen t p holds directory.
+          let part = kept.part seen t p holds directory in
+          let holds_here = still_holds old here t p kept.keeps seen holds in
+          next_listed t c.args.path.now c.loop.counter c.loop.from c.past-from.result c.loop.entries _ c.name.result.now c.in_ok-size.size c.in_ok-child.field-0 c.in-Some.child holds.tree c.key-from.ensures.path directory part c.in-Some.is search.call.within
+          (search.call.found (kept.keeps.observable seen) (tree_blocks t) (held_blocks here t p holds_here) c.key-from.ensures.path (low_enough c.args.path.now c.loop.from c.key-from.ensures.path part.between))
+          (record { above = c.past-from.ensures.above; below = c.past-from.ensures.below }) c.name.ensures (size.call.told (keeps.observable seen) t p (still_holds old between t p keeps seen holds)) c.in_ok-push.ensures.ok;
+      follows = g.met.P.OrderedPairs.follows_trans _ _ _ kept.follows (g.met.P.OrderedPairs.follows_trans _ _ _ search.follows size.follows);
+    }
+
+pub returns-in_default-clause-call : goal.returns-in_default-clause-call
+returns-in_default-clause-call g c =
+    let old = g.P.OrderedPairs.state c.args.pairs.now in
+    let here = g.P.OrderedPairs.state c.loop.pairs in
+    let kept = c.loop.invariant in
+    let search = c.in_ok-child.ensures in
+    record {
+      faults = search.call.faults ∙ kept.faults;
+      keeps = kept_on old here (g.P.OrderedPairs.state c.next_within.new.pairs) kept.keeps search.call.keeps;
+      listed = λ seen t p holds directory.
+          let part = kept.part seen t p holds directory in
+          none_listed_more t c.args.path.now c.loop.counter c.loop.from c.loop.entries c.in_ok-child.field-0 holds.tree part c.in_default.not-Some
+          (search.call.found (kept.keeps.observable seen) (tree_blocks t) (held_blocks here t p (still_holds old here t p kept.keeps seen holds)) c.key-from.ensures.path (low_enough c.args.path.now c.loop.from c.key-from.ensures.path part.between));
+    }
+
+pub returns-clause-call : goal.returns-clause-call
+returns-clause-call g c =
+    let kept = c.loop.invariant in
+    record {
+      faults = kept.faults;
+      keeps = kept.keeps;
+      listed = λ seen t p holds directory.
+          let few = few_listed (g.P.OrderedPairs.state c.args.pairs.now) t p c.args.path.now c.loop.from c.loop.counter c.loop.entries holds (g.met.P.OrderedPairs.few c.args.pairs.now seen) (kept.part seen t p holds directory) in
+          absurd (omega arith);
+    }

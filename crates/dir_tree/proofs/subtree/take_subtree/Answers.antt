@@ -1,0 +1,44 @@
+use Rattle.std.proofs.Common.{ℕ, List, subst, ◌∙◌, arith}
+use Rattle.std.specs.Prelude.{MatchOption}
+use Rattle.dir_tree.specs.SubtreeCalls.{LacksFrom, IsFirstFrom}
+use Rattle.dir_tree.proofs.OrderLemmas.{le_at_first}
+use Rattle.dir_tree.proofs.TakingLemmas.{next_taken, none_left}
+use Rattle.dir_tree.proofs.subtree.take_subtree.Goals as goal
+
+pub loop-preserved : goal.loop-preserved
+loop-preserved g c =
+    let here = g.P.OrderedPairs.state c.loop.pairs in
+    let search = c.in_ok-found.ensures in
+    let kept = c.loop.invariant in
+    let take = c.in_ok-take.ensures.call in
+    record {
+      faults = take.faults ∙ search.call.faults ∙ kept.faults;
+      observable = λ seen. (take.observed (search.call.keeps.observable (kept.observable seen))).observable;
+      part = λ seen blocks has. next_taken c.args.top.now blocks c.loop.counter here.pairs (g.P.OrderedPairs.state c.next_within.new.pairs).pairs (g.P.OrderedPairs.state c.take.new.self).pairs c.key-first.result c.key.result c.in_ok-found.field-0 c.in-Some.found
+          (kept.part seen blocks has) c.in-Some.is search.call.within (λ rest holds. search.call.found (kept.observable seen) rest holds c.key-first.ensures.path (le_at_first c.args.top.now c.key-first.result c.key-first.ensures.value))
+          (search.call.keeps.unchanged (kept.observable seen)) c.key.ensures (take.observed (search.call.keeps.observable (kept.observable seen))).changed;
+      follows = g.met.P.OrderedPairs.follows_trans _ _ _ kept.follows (g.met.P.OrderedPairs.follows_trans _ _ _ search.follows c.in_ok-take.ensures.follows);
+    }
+
+pub returns-after-loop-clause-call : goal.returns-after-loop-clause-call
+returns-after-loop-clause-call g c =
+    let kept = c.loop.invariant in
+    record {
+      faults = kept.faults;
+      valid = c.key-first.ensures.path;
+      observable = kept.observable;
+      taken = λ seen blocks has. let few = (kept.part seen blocks has).counted in absurd (omega arith);
+    }
+
+pub returns-in_default-clause-call : goal.returns-in_default-clause-call
+returns-in_default-clause-call g c =
+    let kept = c.loop.invariant in
+    let search = c.in_ok-found.ensures in
+    record {
+      faults = search.call.faults ∙ kept.faults;
+      valid = c.key-first.ensures.path;
+      observable = λ seen. search.call.keeps.observable (kept.observable seen);
+      taken = λ seen blocks has. none_left c.args.top.now blocks c.loop.counter (g.P.OrderedPairs.state c.loop.pairs).pairs (g.P.OrderedPairs.state c.next_within.new.pairs).pairs c.in_ok-found.field-0 c.key-first.ensures.path (kept.part seen blocks has) c.in_default.not-Some
+          (λ rest holds. subst (λ (k : List ℕ). MatchOption c.in_ok-found.field-0 (LacksFrom k c.args.top.now rest) (λ at. IsFirstFrom k rest at.path at.number)) c.key-first.ensures.value (search.call.found (kept.observable seen) rest holds c.key-first.ensures.path (le_at_first c.args.top.now c.key-first.result c.key-first.ensures.value)))
+          (search.call.keeps.unchanged (kept.observable seen));
+    }

@@ -1,0 +1,97 @@
+//! Making directories, and removing files and empty directories. A command is tested before a pair changes.
+
+ghost use Rattle.store_model.specs.Commands.Command.{Make, Remove};
+ghost use Rattle.store_model.specs.Commands.Reply.{Acknowledged};
+ghost use Rattle.skip_levels.specs.PairsState.{IsObservable};
+ghost use Rattle.tree_pairs.specs.TreeCalls.{CarriesOut, HasRoom};
+ghost use Rattle.dir_tree.specs.RefusalCalls.{TellsRefusal, TellsChild};
+
+use crate::subtree::{next_within, take_subtree};
+use path_keys::Path;
+use skip_levels::OrderedPairs;
+use store_base::{Answer, Fault, Refusal};
+use tree_pairs::{Kind, directory_value, kind_of};
+
+/// Makes a directory.
+///
+/// It is refused, in this order: `Root` for the root, `Parent` where the parent is neither the root nor a directory,
+/// `Exists` where something stands there. A refusal changes nothing. A fault of the pairs is handed on; nothing is
+/// promised of the pairs after it.
+pub fn make<P: OrderedPairs>(pairs: &mut P, path: &Path) -> Result<Answer<()>, Fault>
+    requires room { HasRoom (P.state pairs.old) }
+    ensures call { CarriesOut (λ _. Acknowledged) (Make path.now) (P.state pairs.old) (P.state pairs.new) result }
+    ensures follows { P.follows pairs.old pairs.new }
+{
+    if let Some(refusal) = refusal_to_make(pairs, path)? {
+        return Ok(Err(refusal));
+    }
+    pairs.put(path.key(0), directory_value())?;
+    Ok(Ok(()))
+}
+
+/// Why no directory is made at the path, if it is refused: `Root`, `Parent` or `Exists`, as `make` says. A move to the
+/// path is tested so too. The pairs stay as they were, also after a fault, which is handed on.
+pub fn refusal_to_make<P: OrderedPairs>(
+    pairs: &mut P,
+    path: &Path,
+) -> Result<Option<Refusal>, Fault>
+    ensures call { TellsRefusal (Make path.now) (P.state pairs.old) (P.state pairs.new) result }
+    ensures hidden { IsObservable (P.state pairs.new) → IsObservable (P.state pairs.old) }
+    ensures follows { P.follows pairs.old pairs.new }
+{
+    let Some(parent) = path.parent() else {
+        return Ok(Some(Refusal::Root));
+    };
+    let Kind::Dir = kind_of(pairs, &parent)? else {
+        return Ok(Some(Refusal::Parent));
+    };
+    match kind_of(pairs, path)? {
+        Kind::Absent => Ok(None),
+        _ => Ok(Some(Refusal::Exists)),
+    }
+}
+
+/// Removes a file or an empty directory.
+///
+/// It is refused, in this order: `Root` for the root, `Missing` where nothing stands there, `NotEmpty` where a
+/// directory with a child does. A refusal changes nothing. A fault of the pairs is handed on; nothing is promised of
+/// the pairs after it.
+pub fn remove<P: OrderedPairs>(pairs: &mut P, path: &Path) -> Result<Answer<()>, Fault>
+    ensures call { CarriesOut (λ _. Acknowledged) (Remove path.now) (P.state pairs.old) (P.state pairs.new) result }
+    ensures follows { P.follows pairs.old pairs.new }
+{
+    if let Some(refusal) = refusal_to_remove(pairs, path)? {
+        return Ok(Err(refusal));
+    }
+    take_subtree(pairs, path)?;
+    Ok(Ok(()))
+}
+
+/// Why what stands at the path is not removed, if it is refused.
+fn refusal_to_remove<P: OrderedPairs>(pairs: &mut P, path: &Path) -> Result<Option<Refusal>, Fault>
+    ensures call { TellsRefusal (Remove path.now) (P.state pairs.old) (P.state pairs.new) result }
+    ensures follows { P.follows pairs.old pairs.new }
+{
+    if path.is_root() {
+        return Ok(Some(Refusal::Root));
+    }
+    match kind_of(pairs, path)? {
+        Kind::Absent => Ok(Some(Refusal::Missing)),
+        Kind::File(_) => Ok(None),
+        Kind::Dir => {
+            if has_child(pairs, path)? {
+                Ok(Some(Refusal::NotEmpty))
+            } else {
+                Ok(None)
+            }
+        }
+    }
+}
+
+/// Whether anything stands below a directory.
+fn has_child<P: OrderedPairs>(pairs: &mut P, path: &Path) -> Result<bool, Fault>
+    ensures call { TellsChild path.now (P.state pairs.old) (P.state pairs.new) result }
+    ensures follows { P.follows pairs.old pairs.new }
+{
+    Ok(next_within(pairs, &path.key(1), path)?.is_some())
+}

@@ -1,0 +1,62 @@
+//! The children of a directory.
+
+ghost use Rattle.store_model.specs.Commands.Command.{ListChildren};
+ghost use Rattle.store_model.specs.Commands.Reply.{Listing};
+ghost use Rattle.tree_pairs.specs.TreeCalls.{CarriesOut, KeepsPairs};
+ghost use Rattle.dir_tree.specs.ListCalls.{ListsChildren, TellsSize};
+
+use crate::subtree::next_within;
+use path_keys::Path;
+use skip_levels::OrderedPairs;
+use std::alloc::Global;
+use store_base::{Answer, Entries, Fault, Refusal};
+use tree_pairs::{Kind, kind_of};
+
+/// The children of a directory or of the root, in the order of their names.
+///
+/// It is refused, in this order: `Missing` where nothing stands there, `Kind` where a file does. The pairs stay as they
+/// were, also after a fault of the pairs, which is handed on, and after want of memory.
+pub fn list<P: OrderedPairs>(
+    alloc: Global,
+    pairs: &mut P,
+    path: &Path,
+) -> Result<Answer<Entries>, Fault>
+    ensures call { CarriesOut Listing (ListChildren path.now) (P.state pairs.old) (P.state pairs.new) result }
+    ensures keeps { KeepsPairs (P.state pairs.old) (P.state pairs.new) }
+    ensures follows { P.follows pairs.old pairs.new }
+{
+    match kind_of(pairs, path)? {
+        Kind::Absent => Ok(Err(Refusal::Missing)),
+        Kind::File(_) => Ok(Err(Refusal::Kind)),
+        Kind::Dir => Ok(Ok(children(alloc, pairs, path)?)),
+    }
+}
+
+/// The children of a directory: each is the first path past the one before it and all that lies below that.
+fn children<P: OrderedPairs>(alloc: Global, pairs: &mut P, path: &Path) -> Result<Entries, Fault>
+    ensures call { ListsChildren path.now (P.state pairs.old) (P.state pairs.new) result }
+    ensures follows { P.follows pairs.old pairs.new }
+{
+    let mut entries = Entries::new(alloc);
+    let mut from = path.key(1);
+    for _ in 0..u32::MAX {
+        let Some(child) = next_within(pairs, &from, path)? else {
+            return Ok(entries);
+        };
+        let size = size_of(pairs, &child.path)?;
+        entries.push(child.path.name(), size)?;
+        from = child.path.past();
+    }
+    Ok(entries)
+}
+
+/// The size of a file, and nothing for a directory.
+fn size_of<P: OrderedPairs>(pairs: &mut P, path: &Path) -> Result<Option<u32>, Fault>
+    ensures call { TellsSize path.now (P.state pairs.old) (P.state pairs.new) result }
+    ensures follows { P.follows pairs.old pairs.new }
+{
+    match kind_of(pairs, path)? {
+        Kind::File(size) => Ok(Some(size)),
+        _ => Ok(None),
+    }
+}

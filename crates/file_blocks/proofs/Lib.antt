@@ -1,0 +1,6 @@
+pub mod RunLemmas
+pub mod FileLemmas
+pub mod PutLemmas
+pub mod CarryLemmas
+pub mod ReadLemmas
+pub mod CutLemmas

@@ -1,0 +1,60 @@
+use Rattle.std.proofs.Common.{◌≡◌, ◌∙◌, length, take, None, ap, refl, subst, sym, arith}
+use Rattle.store_model.specs.Trees.{contents, node_at}
+use Rattle.store_model.specs.Commands.Command.{Cut}
+use Rattle.store_model.specs.Commands.Reply.{Acknowledged}
+use Rattle.store_model.specs.Steps.{first_refusal, refusal_of, reply_of}
+use Rattle.tree_pairs.specs.Blocks.{tree_blocks}
+use Rattle.tree_pairs.proofs.CallLemmas.{step_done}
+use Rattle.file_blocks.specs.FileCalls.{HasFile}
+use Rattle.file_blocks.specs.Refusals.{cut_conditions, size_of}
+use Rattle.file_blocks.proofs.CarryLemmas.{refused_by_kind, refusal-cut, size_of-node, cut_fits, cut_allowed, has_contents, pairs-cut, pairs-uncut}
+use Rattle.file_blocks.proofs.cutting.cut.Goals as goal
+
+pub returns-in-Err-clause-call : goal.returns-in-Err-clause-call
+returns-in-Err-clause-call g c =
+    refused_by_kind (λ _. Acknowledged) (Cut c.args.path.now c.args.len) c.args.path.now c.in_ok-kind.kind c.in-Err.refusal (λ kind. cut_conditions kind c.args.len)
+    (g.P.OrderedPairs.state c.args.pairs.now) (g.P.OrderedPairs.state c.kind_of.new.pairs) c.in_ok-kind.ensures.call (λ seen t p holds. refusal-cut t c.args.path.now c.args.len) c.in-Err.ensures
+
+pub returns-then-size-len-clause-call : goal.returns-then-size-len-clause-call
+unfolding reply_of
+returns-then-size-len-clause-call g c =
+    let told = c.in_ok-kind.ensures.call in
+    record {
+      faults = told.faults;
+      observable = told.keeps.observable;
+      carried = λ seen t p holds.
+          let path = c.args.path.now in
+          let kind_is = told.told seen t p holds in
+          let free : refusal_of t (Cut path c.args.len) ≡ None = refusal-cut t path c.args.len ∙ ap (λ kind. first_refusal (cut_conditions kind c.args.len)) (sym kind_is) ∙ c.in-Ok.ensures.0 in
+          let size_is : c.in-Ok.size ≡ length (contents t path) = c.in-Ok.ensures.1 ∙ ap size_of kind_is ∙ size_of-node (node_at t path) in
+          step_done (λ _. Acknowledged) tt t (Cut path c.args.len) p (g.P.OrderedPairs.state c.kind_of.new.pairs) free refl
+          (pairs-uncut t p path c.args.len (g.P.OrderedPairs.state c.kind_of.new.pairs).pairs holds.tree (omega arith) free (sym size_is ∙ c.if-size-len.true) (told.keeps.unchanged seen ∙ holds.pairs_are));
+    }
+
+pub cut_bytes-requires-clause-shorter : goal.cut_bytes-requires-clause-shorter
+cut_bytes-requires-clause-shorter g c = let fits = cut_fits c.in_ok-kind.kind c.args.len c.in-Ok.ensures.0 in let e = c.in-Ok.ensures.1 in omega arith
+
+pub returns-clause-call : goal.returns-clause-call
+unfolding reply_of
+returns-clause-call g c =
+    let told = c.in_ok-kind.ensures.call in
+    let cuts = c.in_ok-cut_bytes.ensures.call in
+    let last = c.in_ok-put.ensures.call in
+    record {
+      faults = last.faults ∙ cuts.faults ∙ told.faults;
+      observable = λ seen. (last.observed (cuts.observable (told.keeps.observable seen))).observable;
+      carried = λ seen t p holds.
+          let path = c.args.path.now in
+          let kind_is = told.told seen t p holds in
+          let free : refusal_of t (Cut path c.args.len) ≡ None = refusal-cut t path c.args.len ∙ ap (λ kind. first_refusal (cut_conditions kind c.args.len)) (sym kind_is) ∙ c.in-Ok.ensures.0 in
+          let allowed = cut_allowed t path c.args.len free in
+          let seen_between = told.keeps.observable seen in
+          let size_is : c.in-Ok.size ≡ length (contents t path) = c.in-Ok.ensures.1 ∙ ap size_of kind_is ∙ size_of-node (node_at t path) in
+          let before : HasFile path (tree_blocks t path 0) (contents t path) (tree_blocks t) (g.P.OrderedPairs.state c.kind_of.new.pairs).pairs =
+          subst (HasFile path (tree_blocks t path 0) (contents t path) (tree_blocks t)) (sym (told.keeps.unchanged seen ∙ holds.pairs_are)) (has_contents t p path holds.tree allowed.0) in
+          let after : HasFile path (tree_blocks t path 0) (take c.args.len (contents t path)) (tree_blocks t) (g.P.OrderedPairs.state c.cut_bytes.new.pairs).pairs =
+          cuts.cut seen_between (tree_blocks t path 0) (contents t path) (tree_blocks t) (omega arith) before in
+          step_done (λ _. Acknowledged) tt t (Cut path c.args.len) p (g.P.OrderedPairs.state c.put.new.self) free refl
+          (pairs-cut t p path c.args.len c.key.result c.file_value.result (g.P.OrderedPairs.state c.cut_bytes.new.pairs).pairs (g.P.OrderedPairs.state c.put.new.self).pairs
+          holds.tree c.key.ensures.path (omega arith) free after c.key.ensures.value c.file_value.ensures (last.observed (cuts.observable seen_between)).changed);
+    }

@@ -1,0 +1,44 @@
+use Rattle.std.proofs.Common.{◌≡◌, ◌-◌, ◌≤◌, ◌∙◌, length, min, None, ap, subst, sym, arith}
+use Rattle.store_model.specs.Trees.{contents, node_at}
+use Rattle.store_model.specs.Commands.Command.{Read}
+use Rattle.store_model.specs.Commands.Reply.{Content}
+use Rattle.store_model.specs.Steps.{first_refusal, refusal_of, reply_of}
+use Rattle.tree_pairs.specs.Blocks.{tree_blocks}
+use Rattle.tree_pairs.proofs.CallLemmas.{step_done}
+use Rattle.file_blocks.specs.FileCalls.{HasFile}
+use Rattle.file_blocks.specs.Refusals.{read_conditions, size_of}
+use Rattle.file_blocks.proofs.CarryLemmas.{refused_by_kind, refusal-read, size_of-node, read_fits, read_allowed, has_contents, take_there, pairs-read}
+use Rattle.file_blocks.proofs.reading.read_at.Goals as goal
+
+pub read_bytes-requires-clause-few : goal.read_bytes-requires-clause-few
+read_bytes-requires-clause-few g c = let few = read_fits c.in_ok-kind.kind c.args.at c.args.len c.in-Ok.ensures.0 in let e = c.in-Ok.ensures.1 in omega arith
+
+pub returns-in-Err-clause-call : goal.returns-in-Err-clause-call
+returns-in-Err-clause-call g c =
+    refused_by_kind Content (Read c.args.path.now c.args.at c.args.len) c.args.path.now c.in_ok-kind.kind c.in-Err.refusal (λ kind. read_conditions kind c.args.at c.args.len)
+    (g.P.OrderedPairs.state c.args.pairs.now) (g.P.OrderedPairs.state c.kind_of.new.pairs) c.in_ok-kind.ensures.call (λ seen t p holds. refusal-read t c.args.path.now c.args.at c.args.len) c.in-Err.ensures
+
+pub returns-in_ok-read_bytes-in-Ok-clause-call : goal.returns-in_ok-read_bytes-in-Ok-clause-call
+unfolding reply_of
+returns-in_ok-read_bytes-in-Ok-clause-call g c =
+    let told = c.in_ok-kind.ensures.call in
+    let reads = c.in_ok-read_bytes-in-Ok.ensures.call in
+    record {
+      faults = reads.faults ∙ told.faults;
+      observable = λ seen. reads.keeps.observable (told.keeps.observable seen);
+      carried = λ seen t p holds.
+          let path = c.args.path.now in
+          let kind_is = told.told seen t p holds in
+          let free : refusal_of t (Read path c.args.at c.args.len) ≡ None =
+          refusal-read t path c.args.at c.args.len ∙ ap (λ kind. first_refusal (read_conditions kind c.args.at c.args.len)) (sym kind_is) ∙ c.in-Ok.ensures.0 in
+          let allowed = read_allowed t path c.args.at c.args.len free in
+          let within : c.args.at ≤ length (contents t path) = allowed.1 in
+          let seen_between = told.keeps.observable seen in
+          let before : HasFile path (tree_blocks t path 0) (contents t path) (tree_blocks t) (g.P.OrderedPairs.state c.kind_of.new.pairs).pairs =
+          subst (HasFile path (tree_blocks t path 0) (contents t path) (tree_blocks t)) (sym (told.keeps.unchanged seen ∙ holds.pairs_are)) (has_contents t p path holds.tree allowed.0) in
+          let count_is : c.in-Ok.count ≡ min c.args.len (length (contents t path) - c.args.at) =
+          c.in-Ok.ensures.1 ∙ ap (λ m. min c.args.len (m - c.args.at)) (ap size_of kind_is ∙ size_of-node (node_at t path)) in
+          step_done Content c.in_ok-read_bytes-in-Ok.field-0 t (Read path c.args.at c.args.len) p (g.P.OrderedPairs.state c.read_bytes.new.pairs) free
+          (ap Content (reads.read seen_between (tree_blocks t path 0) (contents t path) (tree_blocks t) (omega arith) before ∙ take_there (contents t path) c.args.at c.args.len c.in-Ok.count count_is))
+          (pairs-read t p path c.args.at c.args.len (g.P.OrderedPairs.state c.read_bytes.new.pairs).pairs (reads.keeps.unchanged seen_between ∙ told.keeps.unchanged seen ∙ holds.pairs_are));
+    }

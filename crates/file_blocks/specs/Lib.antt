@@ -1,0 +1,2 @@
+pub mod FileCalls
+pub mod Refusals

@@ -1,0 +1,123 @@
+//! Cutting a file short.
+
+ghost use Rattle.std.specs.Prelude.{◌≡◌, ◌+◌, ◌*◌, ◌/◌, ◌≤◌, length, take, OnOk};
+ghost use Rattle.skip_levels.specs.PairsState.{IsObservable};
+ghost use Rattle.store_model.specs.Commands.Command.{Cut};
+ghost use Rattle.store_model.specs.Commands.Reply.{Acknowledged};
+ghost use Rattle.tree_pairs.specs.TreeCalls.{CarriesOut, HasRoom};
+ghost use Rattle.file_blocks.specs.FileCalls.{CutsBytes};
+ghost use Rattle.file_blocks.specs.Refusals.{IsUnless, cut_conditions, size_of};
+
+use crate::FILE_BLOCK;
+use path_keys::Path;
+use skip_levels::OrderedPairs;
+use store_base::{Answer, Fault, Refusal, Value};
+use tree_pairs::{Kind, file_value, kind_of};
+
+/// Leaves the first bytes of the file alone, so many.
+///
+/// It is refused, in this order: `Missing` where nothing stands there, `Kind` where a directory does, `Gap` where the
+/// file has fewer bytes. A refusal changes nothing. A fault of the pairs is handed on; nothing is promised of the pairs
+/// after it.
+pub fn cut<P: OrderedPairs>(pairs: &mut P, path: &Path, len: u32) -> Result<Answer<()>, Fault>
+    requires room { HasRoom (P.state pairs.old) }
+    ensures call { CarriesOut (λ _. Acknowledged) (Cut path.now len) (P.state pairs.old) (P.state pairs.new) result }
+    ensures hidden { IsObservable (P.state pairs.new) → IsObservable (P.state pairs.old) }
+    ensures follows { P.follows pairs.old pairs.new }
+{
+    let kind = kind_of(pairs, path)?;
+    let size = match size_to_cut(kind, len) {
+        Ok(size) => size,
+        Err(refusal) => return Ok(Err(refusal)),
+    };
+    if size == len {
+        return Ok(Ok(()));
+    }
+    cut_bytes(pairs, path, size, len)?;
+    pairs.put(path.key(0), file_value(len))?;
+    Ok(Ok(()))
+}
+
+/// The length of a file that has so many bytes, or why it is not cut to them.
+#[tactic(auto, unfolding(store_model::specs::Steps::first_refusal))]
+fn size_to_cut(kind: Kind, len: u32) -> Answer<u32>
+    ensures { IsUnless (cut_conditions kind len) (size_of kind) result }
+{
+    let size = match kind {
+        Kind::Absent => return Err(Refusal::Missing),
+        Kind::Dir => return Err(Refusal::Kind),
+        Kind::File(size) => size,
+    };
+    if len > size {
+        return Err(Refusal::Gap);
+    }
+    Ok(size)
+}
+
+/// Takes the file's bytes past the first ones away, from its blocks alone.
+fn cut_bytes<P: OrderedPairs>(pairs: &mut P, path: &Path, size: u32, len: u32) -> Result<(), Fault>
+    requires shorter { len ≤ size }
+    requires room { HasRoom (P.state pairs.old) }
+    ensures call { CutsBytes path.now size len (P.state pairs.old) (P.state pairs.new) result }
+    ensures fewer { IsObservable (P.state pairs.old) → OnOk result (length (P.state pairs.new).pairs ≤ length (P.state pairs.old).pairs + 1) }
+    ensures hidden { IsObservable (P.state pairs.new) → IsObservable (P.state pairs.old) }
+    ensures follows { P.follows pairs.old pairs.new }
+{
+    drop_blocks(
+        pairs,
+        path,
+        size.div_ceil(FILE_BLOCK),
+        len.div_ceil(FILE_BLOCK),
+    )?;
+    cut_block(pairs, path, len)
+}
+
+/// Takes the blocks behind the first ones away, so many, the last one first.
+fn drop_blocks<P: OrderedPairs>(
+    pairs: &mut P,
+    path: &Path,
+    blocks: u32,
+    kept: u32,
+) -> Result<(), Fault>
+    requires { kept ≤ blocks }
+    ensures call { CutsBytes path.now (256 * blocks) (256 * kept) (P.state pairs.old) (P.state pairs.new) result }
+    ensures fewer { IsObservable (P.state pairs.old) → OnOk result (length (P.state pairs.new).pairs ≤ length (P.state pairs.old).pairs) }
+    ensures hidden { IsObservable (P.state pairs.new) → IsObservable (P.state pairs.old) }
+    ensures follows { P.follows pairs.old pairs.new }
+{
+    let mut left = blocks;
+    while left > kept {
+        pairs.take(&path.key(left))?;
+        left -= 1;
+    }
+    Ok(())
+}
+
+/// Cuts the last block to what it holds of the first bytes, so many.
+fn cut_block<P: OrderedPairs>(pairs: &mut P, path: &Path, len: u32) -> Result<(), Fault>
+    requires room { HasRoom (P.state pairs.old) }
+    ensures call { CutsBytes path.now (256 * ((len + 255) / 256)) len (P.state pairs.old) (P.state pairs.new) result }
+    ensures fewer { IsObservable (P.state pairs.old) → OnOk result (length (P.state pairs.new).pairs ≤ length (P.state pairs.old).pairs + 1) }
+    ensures hidden { IsObservable (P.state pairs.new) → IsObservable (P.state pairs.old) }
+    ensures follows { P.follows pairs.old pairs.new }
+{
+    let rest = (len % FILE_BLOCK) as usize;
+    if rest == 0 {
+        return Ok(());
+    }
+    let key = path.key(len / FILE_BLOCK + 1);
+    match pairs.get(&key)? {
+        Some(last) => pairs.put(key, front_of(last.as_slice(), rest)),
+        None => Ok(()),
+    }
+}
+
+/// The first bytes of a block as its value.
+fn front_of(block: &[u8], len: usize) -> Value
+    requires some { 1 ≤ len }
+    requires block { 1 ≤ length block.now }
+    requires fits { length block.now ≤ 256 }
+    ensures { result ≡ take len block.now }
+{
+    Value::new(&block[..len.min(block.len())])
+}

@@ -1,0 +1,31 @@
+//! The bytes of files, over any list of pairs that holds a tree. A file has a first pair, which tells its length, and
+//! a pair for each 256 bytes, numbered from 1. Each call reads and changes the first pair and those of the blocks
+//! that it touches, and no others.
+#![tactic(auto)]
+
+ghost use Rattle.std.specs.Prelude.{◌≡◌};
+ghost use Rattle.file_blocks.specs.FileCalls.{block_bytes};
+
+mod cutting;
+mod reading;
+#[cfg(test)]
+mod tests;
+mod writing;
+
+pub use cutting::cut;
+pub use reading::read_at;
+use store_base::Value;
+pub use writing::write_at;
+
+/// The bytes of a file in one pair; its last pair has the rest.
+const FILE_BLOCK: u32 = 256;
+
+/// The bytes of a block: none where there is no pair.
+fn bytes_of(block: &Option<Value>) -> &[u8]
+    ensures { result.now ≡ block_bytes block.now }
+{
+    match block {
+        Some(value) => value.as_slice(),
+        None => &[],
+    }
+}

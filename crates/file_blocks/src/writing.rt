@@ -1,0 +1,134 @@
+//! Writing bytes of a file.
+
+ghost use Rattle.std.specs.Prelude.{◌≡◌, ◌+◌, ◌%◌, ◌<◌, ◌≤◌, length, max};
+ghost use Rattle.store_model.specs.Trees.{file_limit};
+ghost use Rattle.store_model.specs.Lists.{overwrite};
+ghost use Rattle.store_model.specs.Commands.Command.{Write};
+ghost use Rattle.store_model.specs.Commands.Reply.{Acknowledged};
+ghost use Rattle.skip_levels.specs.PairsState.{IsObservable, most_pairs};
+ghost use Rattle.tree_pairs.specs.TreeCalls.{CarriesOut, HasRoom, HasParent};
+ghost use Rattle.file_blocks.specs.FileCalls.{PutsBytes};
+ghost use Rattle.file_blocks.specs.Refusals.{IsUnless, write_conditions, size_of};
+
+use crate::{FILE_BLOCK, bytes_of};
+use path_keys::Path;
+use skip_levels::OrderedPairs;
+use store_base::{Answer, Bytes, Fault, Refusal, Value};
+use tree_pairs::{Kind, file_value, kind_of};
+
+/// The most bytes that a file has.
+const FILE_LIMIT: usize = 1_048_576;
+
+/// Writes the bytes into the file from a place on: they replace those that stand there, and the file grows where they
+/// pass its end. An absent file is made. A block that the bytes fill is not read, and the first pair stays where the
+/// length does.
+///
+/// It is refused, in this order: `Kind` where a directory stands there, `Gap` where the place is greater than the
+/// file's length (0 where it is absent), `Big` where the file would pass 1,048,576 bytes. A refusal changes nothing. A
+/// fault of the pairs is handed on; nothing is promised of the pairs after it.
+pub fn write_at<P: OrderedPairs>(
+    pairs: &mut P,
+    path: &Path,
+    at: u32,
+    bytes: &Bytes,
+) -> Result<Answer<()>, Fault>
+    requires parent { HasParent (P.state pairs.old) path.now }
+    requires room { HasRoom (P.state pairs.old) }
+    ensures call { CarriesOut (λ _. Acknowledged) (Write path.now at bytes.now) (P.state pairs.old) (P.state pairs.new) result }
+    ensures hidden { IsObservable (P.state pairs.new) → IsObservable (P.state pairs.old) }
+    ensures follows { P.follows pairs.old pairs.new }
+{
+    let kind = kind_of(pairs, path)?;
+    let len = match written_len(kind, at, bytes.as_slice().len()) {
+        Ok(len) => len,
+        Err(refusal) => return Ok(Err(refusal)),
+    };
+    put_bytes(pairs, path, at, bytes.as_slice())?;
+    if kind == Kind::File(len) {
+        return Ok(Ok(()));
+    }
+    pairs.put(path.key(0), file_value(len))?;
+    Ok(Ok(()))
+}
+
+/// The length that a file has once so many bytes are put at a place, or why they are not put.
+#[tactic(auto, unfolding(store_model::specs::Steps::first_refusal))]
+fn written_len(kind: Kind, at: u32, count: usize) -> Answer<u32>
+    requires { count ≤ Bytes.MAX_LEN }
+    ensures { IsUnless (write_conditions kind at count) (max (size_of kind) (at + count)) result }
+{
+    let size = match kind {
+        Kind::Absent => 0,
+        Kind::Dir => return Err(Refusal::Kind),
+        Kind::File(size) => size,
+    };
+    if at > size {
+        return Err(Refusal::Gap);
+    }
+    let end = at as usize + count;
+    if end > FILE_LIMIT {
+        return Err(Refusal::Big);
+    }
+    Ok(size.max(end as u32))
+}
+
+/// Puts the bytes into the file's blocks, block after block.
+fn put_bytes<P: OrderedPairs>(
+    pairs: &mut P,
+    path: &Path,
+    at: u32,
+    bytes: &[u8],
+) -> Result<(), Fault>
+    requires fits { at + length bytes.now ≤ file_limit }
+    requires room { HasRoom (P.state pairs.old) }
+    ensures call { PutsBytes path.now at bytes.now (P.state pairs.old) (P.state pairs.new) result }
+    ensures hidden { IsObservable (P.state pairs.new) → IsObservable (P.state pairs.old) }
+    ensures follows { P.follows pairs.old pairs.new }
+{
+    let mut done = 0;
+    while done < bytes.len() {
+        let place = at + done as u32;
+        let room = (FILE_BLOCK - place % FILE_BLOCK) as usize;
+        let end = bytes.len().min(done + room);
+        put_piece(pairs, path, place, &bytes[done..end])?;
+        done = end;
+    }
+    Ok(())
+}
+
+/// Puts bytes into one block of the file, which is read where they don't fill it.
+fn put_piece<P: OrderedPairs>(
+    pairs: &mut P,
+    path: &Path,
+    at: u32,
+    piece: &[u8],
+) -> Result<(), Fault>
+    requires some { 1 ≤ length piece.now }
+    requires within { at % 256 + length piece.now ≤ 256 }
+    requires room { IsObservable (P.state pairs.old) → length (P.state pairs.old).pairs < most_pairs }
+    ensures call { PutsBytes path.now at piece.now (P.state pairs.old) (P.state pairs.new) result }
+    ensures hidden { IsObservable (P.state pairs.new) → IsObservable (P.state pairs.old) }
+    ensures follows { P.follows pairs.old pairs.new }
+{
+    let key = path.key(at / FILE_BLOCK + 1);
+    if piece.len() == Value::MAX_LEN {
+        return pairs.put(key, Value::new(piece));
+    }
+    let old = pairs.get(&key)?;
+    let value = overlaid(bytes_of(&old), (at % FILE_BLOCK) as usize, piece);
+    pairs.put(key, value)
+}
+
+/// A block with the piece at a place in it, over what is there and past the end. Zeros fill a gap before it.
+fn overlaid(old: &[u8], at: usize, piece: &[u8]) -> Value
+    requires old { length old.now ≤ 256 }
+    requires some { 1 ≤ length piece.now }
+    requires within { at + length piece.now ≤ 256 }
+    ensures { at ≤ length old.now → result ≡ overwrite old.now at piece.now }
+{
+    let mut block = [0; Value::MAX_LEN];
+    block[..old.len()].copy_from_slice(old);
+    let end = at + piece.len();
+    block[at..end].copy_from_slice(piece);
+    Value::new(&block[..old.len().max(end)])
+}

@@ -1,0 +1,117 @@
+use Rattle.std.proofs.Common.{◌≡◌, false, refl, sym, ◌∙◌}
+use Rattle.std.proofs.lemmas.Bool.{or_left, or_right}
+use Rattle.store_model.specs.Paths.{is_root}
+use Rattle.store_model.specs.Trees.{node_at}
+use Rattle.dir_tree.proofs.RefusalLemmas.{nothing_stands, something_stands, none_found, kept_itself, kept_on, still_holds}
+use Rattle.subtree_move.proofs.RenameLemmas.{rename_at_root, rename_of_none, rename_inside, rename_to_taken, rename_too_long, rename_free}
+use Rattle.subtree_move.proofs.moving.refusal_to_rename.Goals as goal
+use Rattle.subtree_move.proofs.moving.refusal_to_rename.Goals.{then-is_root-via-then-is_root, then-is_root-via-else-is_root+then-is_root-2}
+
+pub returns-then-is_root-clause-call : goal.returns-then-is_root-clause-call
+returns-then-is_root-clause-call g c = record {
+  faults = refl;
+  keeps = kept_itself (g.P.OrderedPairs.state c.args.pairs.now);
+  told = λ seen t p holds. rename_at_root t c.args.from.now c.args.to.now (elim c.then-is_root.branch [
+    | then-is_root-via-then-is_root w ↦ or_right (is_root c.args.from.now) (is_root c.args.to.now) (sym c.is_root.ensures.value ∙ w.if-is_root.true)
+    | then-is_root-via-else-is_root+then-is_root-2 w ↦ or_left (is_root c.args.from.now) (is_root c.args.to.now) (sym w.is_root-else-is_root.ensures.value ∙ w.if-is_root-2.true)
+  ]);
+}
+
+pub returns-in-Absent-clause-call : goal.returns-in-Absent-clause-call
+returns-in-Absent-clause-call g c =
+    let at = c.in_ok-kind_of.ensures.call in
+    let low : is_root c.args.from.now ≡ false = sym c.is_root-else-is_root.ensures.value ∙ c.if-is_root-2.false in
+    let low_to : is_root c.args.to.now ≡ false = sym c.is_root.ensures.value ∙ c.if-is_root.false in
+    record {
+      faults = at.faults;
+      keeps = at.keeps;
+      told = λ seen t p holds. rename_of_none t c.args.from.now c.args.to.now low low_to (nothing_stands (node_at t c.args.from.now) c.in_ok-kind_of.field-0 (at.told seen t p holds) c.in-Absent.is);
+    }
+
+pub returns-then-is_inside : goal.returns-then-is_inside
+returns-then-is_inside g c =
+    let at = c.in_ok-kind_of.ensures in
+    let low : is_root c.args.from.now ≡ false = sym c.is_root-else-is_root.ensures.value ∙ c.if-is_root-2.false in
+    let low_to : is_root c.args.to.now ≡ false = sym c.is_root.ensures.value ∙ c.if-is_root.false in
+    record {
+      call = record {
+        faults = at.call.faults;
+        keeps = at.call.keeps;
+        told = λ seen t p holds.
+            let stands = something_stands (node_at t c.args.from.now) c.in_ok-kind_of.field-0 (at.call.told seen t p holds) c.in_default.not-Absent in
+            rename_inside t c.args.from.now c.args.to.now low low_to stands.0 stands.1 (sym c.is_inside.ensures.value ∙ c.if-is_inside.true);
+      };
+      valid = c.is_root.ensures.valid;
+      follows = at.follows;
+    }
+
+pub returns-in-Some : goal.returns-in-Some
+returns-in-Some g c =
+    let old = g.P.OrderedPairs.state c.args.pairs.now in
+    let between = g.P.OrderedPairs.state c.kind_of.new.pairs in
+    let at = c.in_ok-kind_of.ensures in
+    let make = c.in_ok-refusal.ensures in
+    let low : is_root c.args.from.now ≡ false = sym c.is_root-else-is_root.ensures.value ∙ c.if-is_root-2.false in
+    let low_to : is_root c.args.to.now ≡ false = sym c.is_root.ensures.value ∙ c.if-is_root.false in
+    record {
+      call = record {
+        faults = make.call.faults ∙ at.call.faults;
+        keeps = kept_on old between (g.P.OrderedPairs.state c.refusal_to_make.new.pairs) at.call.keeps make.call.keeps;
+        told = λ seen t p holds.
+            let stands = something_stands (node_at t c.args.from.now) c.in_ok-kind_of.field-0 (at.call.told seen t p holds) c.in_default.not-Absent in
+            rename_to_taken t c.args.from.now c.args.to.now low low_to stands.0 stands.1 (sym c.is_inside.ensures.value ∙ c.if-is_inside.false) c.in-Some.refusal c.in_ok-refusal.field-0 c.in-Some.is
+            (make.call.told (at.call.keeps.observable seen) t p (still_holds old between t p at.call.keeps seen holds));
+      };
+      valid = c.is_root.ensures.valid;
+      follows = g.met.P.OrderedPairs.follows_trans _ _ _ at.follows make.follows;
+    }
+
+pub returns-then-branch : goal.returns-then-branch
+returns-then-branch g c =
+    let old = g.P.OrderedPairs.state c.args.pairs.now in
+    let between = g.P.OrderedPairs.state c.kind_of.new.pairs in
+    let third = g.P.OrderedPairs.state c.refusal_to_make.new.pairs in
+    let at = c.in_ok-kind_of.ensures in
+    let make = c.in_ok-refusal.ensures in
+    let grow = c.in_ok-outgrows.ensures in
+    let keeps = kept_on old between third at.call.keeps make.call.keeps in
+    let low : is_root c.args.from.now ≡ false = sym c.is_root-else-is_root.ensures.value ∙ c.if-is_root-2.false in
+    let low_to : is_root c.args.to.now ≡ false = sym c.is_root.ensures.value ∙ c.if-is_root.false in
+    record {
+      call = record {
+        faults = grow.call.faults ∙ make.call.faults ∙ at.call.faults;
+        keeps = kept_on old third (g.P.OrderedPairs.state c.outgrows.new.pairs) keeps grow.call.keeps;
+        told = λ seen t p holds.
+            let stands = something_stands (node_at t c.args.from.now) c.in_ok-kind_of.field-0 (at.call.told seen t p holds) c.in_default.not-Absent in
+            rename_too_long t c.args.from.now c.args.to.now low low_to stands.0 stands.1 (sym c.is_inside.ensures.value ∙ c.if-is_inside.false) c.in_ok-refusal.field-0 (none_found c.in_ok-refusal.field-0 c.in_default-2.not-Some)
+            (make.call.told (at.call.keeps.observable seen) t p (still_holds old between t p at.call.keeps seen holds))
+            (sym (grow.call.told (keeps.observable seen) t p (still_holds old third t p keeps seen holds)) ∙ c.if-branch.true);
+      };
+      valid = c.is_root.ensures.valid;
+      follows = g.met.P.OrderedPairs.follows_trans _ _ _ at.follows (g.met.P.OrderedPairs.follows_trans _ _ _ make.follows grow.follows);
+    }
+
+pub returns : goal.returns
+returns g c =
+    let old = g.P.OrderedPairs.state c.args.pairs.now in
+    let between = g.P.OrderedPairs.state c.kind_of.new.pairs in
+    let third = g.P.OrderedPairs.state c.refusal_to_make.new.pairs in
+    let at = c.in_ok-kind_of.ensures in
+    let make = c.in_ok-refusal.ensures in
+    let grow = c.in_ok-outgrows.ensures in
+    let keeps = kept_on old between third at.call.keeps make.call.keeps in
+    let low : is_root c.args.from.now ≡ false = sym c.is_root-else-is_root.ensures.value ∙ c.if-is_root-2.false in
+    let low_to : is_root c.args.to.now ≡ false = sym c.is_root.ensures.value ∙ c.if-is_root.false in
+    record {
+      call = record {
+        faults = grow.call.faults ∙ make.call.faults ∙ at.call.faults;
+        keeps = kept_on old third (g.P.OrderedPairs.state c.outgrows.new.pairs) keeps grow.call.keeps;
+        told = λ seen t p holds.
+            let stands = something_stands (node_at t c.args.from.now) c.in_ok-kind_of.field-0 (at.call.told seen t p holds) c.in_default.not-Absent in
+            rename_free t c.args.from.now c.args.to.now low low_to stands.0 stands.1 (sym c.is_inside.ensures.value ∙ c.if-is_inside.false) c.in_ok-refusal.field-0 (none_found c.in_ok-refusal.field-0 c.in_default-2.not-Some)
+            (make.call.told (at.call.keeps.observable seen) t p (still_holds old between t p at.call.keeps seen holds))
+            (sym (grow.call.told (keeps.observable seen) t p (still_holds old third t p keeps seen holds)) ∙ c.if-branch.false);
+      };
+      valid = c.is_root.ensures.valid;
+      follows = g.met.P.OrderedPairs.follows_trans _ _ _ at.follows (g.met.P.OrderedPairs.follows_trans _ _ _ make.follows grow.follows);
+    }

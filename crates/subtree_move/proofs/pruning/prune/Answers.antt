@@ -1,0 +1,18 @@
+use Rattle.std.proofs.Common.{refl}
+use Rattle.store_model.specs.Commands.Command.{Prune}
+use Rattle.store_model.specs.Commands.Reply.{Acknowledged}
+use Rattle.store_model.specs.Steps.{reply_of}
+use Rattle.tree_pairs.specs.Blocks.{tree_blocks}
+use Rattle.dir_tree.proofs.RefusalLemmas.{carried, none_found}
+use Rattle.dir_tree.proofs.TreeLemmas.{pruned, held_blocks}
+use Rattle.subtree_move.proofs.pruning.prune.Goals as goal
+
+pub returns-clause-call : goal.returns-clause-call
+unfolding reply_of
+returns-clause-call g c =
+    let between = g.P.OrderedPairs.state c.refusal_to_prune.new.pairs in
+    let new = g.P.OrderedPairs.state c.take_subtree.new.pairs in
+    let take = c.in_ok-take_subtree.ensures.call in
+    carried (λ x. Acknowledged) (Prune c.args.path.now) tt c.in_ok-refusal.field-0 (g.P.OrderedPairs.state c.args.pairs.now) between new c.in_ok-refusal.ensures.call (none_found c.in_ok-refusal.field-0 c.in_default.not-Some)
+    take.faults take.observable (λ t p. refl)
+    (λ seen t p holds none. pruned t p c.args.path.now new.pairs holds.tree take.valid none (take.taken seen (tree_blocks t) (held_blocks between t p holds)))

@@ -1,0 +1,114 @@
+//! Moving a path with all that lies below it. Each path is tested before a pair changes.
+
+ghost use Rattle.std.specs.Prelude.{IsTrue};
+ghost use Rattle.store_model.specs.Paths.{is_path, is_at_or_inside};
+ghost use Rattle.store_model.specs.Commands.Command.{Rename};
+ghost use Rattle.store_model.specs.Commands.Reply.{Acknowledged};
+ghost use Rattle.tree_pairs.specs.TreeCalls.{CarriesOut};
+ghost use Rattle.dir_tree.specs.RefusalCalls.{TellsRefusal};
+ghost use Rattle.subtree_move.specs.MoveCalls.{TellsGrowth, MovesBlock, MovesSubtree};
+
+use dir_tree::{Block, Kind, kind_of, next_within, refusal_to_make};
+use path_keys::Path;
+use skip_levels::OrderedPairs;
+use store_base::{Answer, Fault, Refusal};
+
+/// Moves what stands at `from`, and all that lies below it, to `to`.
+///
+/// It is refused, in this order: `Root` where either is the root, `Missing` where nothing stands at `from`, `Inside`
+/// where `to` lies below `from`, `Parent` where the parent of `to` is neither the root nor a directory, `Exists` where
+/// something stands at `to`, `Path` where a moved path would have more than 120 bytes. Each path is tested before a
+/// pair changes, so a refusal changes nothing. A fault of the pairs is handed on; nothing is promised of the pairs
+/// after it.
+pub fn rename<P: OrderedPairs>(pairs: &mut P, from: &Path, to: &Path) -> Result<Answer<()>, Fault>
+    ensures call { CarriesOut (λ _. Acknowledged) (Rename from.now to.now) (P.state pairs.old) (P.state pairs.new) result }
+    ensures follows { P.follows pairs.old pairs.new }
+{
+    if let Some(refusal) = refusal_to_rename(pairs, from, to)? {
+        return Ok(Err(refusal));
+    }
+    move_subtree(pairs, from, to)?;
+    Ok(Ok(()))
+}
+
+/// Why nothing is moved, if it is refused.
+fn refusal_to_rename<P: OrderedPairs>(
+    pairs: &mut P,
+    from: &Path,
+    to: &Path,
+) -> Result<Option<Refusal>, Fault>
+    ensures call { TellsRefusal (Rename from.now to.now) (P.state pairs.old) (P.state pairs.new) result }
+    ensures valid { IsTrue (is_path to.now) }
+    ensures follows { P.follows pairs.old pairs.new }
+{
+    if to.is_root() || from.is_root() {
+        return Ok(Some(Refusal::Root));
+    }
+    if let Kind::Absent = kind_of(pairs, from)? {
+        return Ok(Some(Refusal::Missing));
+    }
+    if to.is_inside(from) {
+        return Ok(Some(Refusal::Inside));
+    }
+    if let Some(refusal) = refusal_to_make(pairs, to)? {
+        return Ok(Some(refusal));
+    }
+    if outgrows(pairs, from, to)? {
+        return Ok(Some(Refusal::Path));
+    }
+    Ok(None)
+}
+
+/// Whether a path at `from` or below it would be too long, were it moved. The walk jumps from path to path, past the
+/// blocks of each.
+fn outgrows<P: OrderedPairs>(pairs: &mut P, from: &Path, to: &Path) -> Result<bool, Fault>
+    ensures call { TellsGrowth from.now to.now (P.state pairs.old) (P.state pairs.new) result }
+    ensures follows { P.follows pairs.old pairs.new }
+{
+    let mut next = from.key(0);
+    for _ in 0..u32::MAX {
+        let Some(found) = next_within(pairs, &next, from)? else {
+            return Ok(false);
+        };
+        if found.path.replant(from, to).is_none() {
+            return Ok(true);
+        }
+        next = found.path.key(u32::MAX);
+    }
+    Ok(false)
+}
+
+/// Moves the pairs at `from` and below it to `to`, one after another.
+fn move_subtree<P: OrderedPairs>(pairs: &mut P, from: &Path, to: &Path) -> Result<(), Fault>
+    ensures call { MovesSubtree from.now to.now (P.state pairs.old) (P.state pairs.new) result }
+    ensures follows { P.follows pairs.old pairs.new }
+{
+    let first = from.key(0);
+    for _ in 0..u32::MAX {
+        let Some(found) = next_within(pairs, &first, from)? else {
+            break;
+        };
+        move_block(pairs, &found, from, to)?;
+    }
+    Ok(())
+}
+
+/// Moves one pair at `from` or below it.
+fn move_block<P: OrderedPairs>(
+    pairs: &mut P,
+    block: &Block,
+    from: &Path,
+    to: &Path,
+) -> Result<(), Fault>
+    requires within { IsTrue (is_at_or_inside block.now.path from.now) }
+    ensures call { MovesBlock block.now from.now to.now (P.state pairs.old) (P.state pairs.new) result }
+    ensures follows { P.follows pairs.old pairs.new }
+{
+    let Some(path) = block.path.replant(from, to) else {
+        return Ok(());
+    };
+    if let Some(value) = pairs.take(&block.key())? {
+        pairs.put(path.key(block.number), value)?;
+    }
+    Ok(())
+}

@@ -1,0 +1,158 @@
+-- Lemmas on changes of a list of pairs: putting and taking the pair of a block, and what trees they lead to.
+use Rattle.std.proofs.Common.{◌≡◌, ℕ, ◌<◌, List, [], ◌∷◌, Bool, true, false, not, cond, ◌&&◌, IsTrue, T, Option, Some, None, refl, sym, ap, ap₂, subst, ◌∙◌, Less, Equal, Greater, nat_cmp}
+use Rattle.std.specs.Ordering.{eq_by_cmp}
+use Rattle.std.specs.Cmp.Lexicographic.{nat_list_cmp_total}
+use Rattle.std.specs.List.{AllByRecursion, filter}
+use Rattle.std.specs.FinMap.{find, put, slice_cmp-IsAntisymmetric, nat_cmp-IsAntisymmetric}
+use Rattle.std.specs.FinMap.Entries.{by_order, is_sorted-put, is_sorted-where_key, find-put, find-where_key}
+use Rattle.store_model.specs.Parameters.{Parameters}
+use Rattle.store_model.specs.Paths.{Path, is_path, path_cmp, same_path, is_at_or_inside, key, key_cmp}
+use Rattle.store_model.specs.Pairs.{Pair, pairs}
+use Rattle.store_model.specs.Trees.{Tree, Node, IsTree, with_node, without, without_subtree}
+use Rattle.store_model.proofs.ListsLemmas.{all_filter}
+use Rattle.store_model.proofs.TreesLemmasPaths.{path_cmp_total, same_from_tie, same_from_test}
+use Rattle.tree_pairs.specs.Blocks.{BlockMap, block_value, tree_blocks, with_blocks, IsBlockPair, HasBlocks}
+use Rattle.tree_pairs.proofs.BlocksLemmas.{tie_of_keys, same_numbers, tied_number, blocks_alike, pairs_have_blocks, pairs_from_blocks}
+use Rattle.std.proofs.lemmas.Bool.{both_ways}
+
+-- a test that holds
+holds : (b : Bool) → T b → IsTrue b
+holds true h = refl
+holds false h = absurd h
+
+-- ---- the pair of a block is put
+
+all_put : (P : Pair → Type 0) (k v : List ℕ) (s : List Pair) → ((old : List ℕ) → P (k, old)) → AllByRecursion P s → AllByRecursion P (put key_cmp k v s)
+all_put P k v [] h g = (h v, tt)
+all_put P k v (e ∷ s) h g =
+    elim (key_cmp k e.0) as (λ r. key_cmp k e.0 ≡ r → AllByRecursion P (by_order r ((k, v) ∷ e ∷ s) ((e.0, v) ∷ s) (e ∷ put key_cmp k v s))) [
+      | Less ↦ λ p. (h v, g)
+      | Equal ↦ λ p. (subst (λ (x : List ℕ). P (x, v)) (slice_cmp-IsAntisymmetric nat_cmp-IsAntisymmetric k e.0 p) (h v), g.1)
+      | Greater ↦ λ p. (g.0, all_put P k v s h g.1)
+    ] refl
+
+-- the blocks with one that is put
+blocks_put : (x : Path) (old new : ℕ → Option (List ℕ)) (rest : BlockMap) (i : ℕ) (v : List ℕ) → new i ≡ Some v → ((j : ℕ) → (j ≡ i → ⊥) → new j ≡ old j)
+    → (y : Path) (j : ℕ) → cond (same_path y x && eq_by_cmp nat_cmp j i) (Some v) (with_blocks x old rest y j) ≡ with_blocks x new rest y j
+blocks_put x old new rest i v is others y j = by_tests (same_path y x) (eq_by_cmp nat_cmp j i) refl
+  where
+    by_tests : (a b : Bool) → eq_by_cmp nat_cmp j i ≡ b → cond (a && b) (Some v) (cond a (old j) (rest y j)) ≡ cond a (new j) (rest y j)
+    by_tests true true e = sym is ∙ ap new (sym (same_numbers j i e))
+    by_tests true false e = sym (others j (λ s. absurd (both_ways _ e (ap (λ k. eq_by_cmp nat_cmp k i) s ∙ tied_number i))))
+    by_tests false b e = refl
+
+-- a list in which the pair of any block is put
+pub put_any : (old new : BlockMap) (x : Path) (i : ℕ) (v : List ℕ) (s : List Pair) → IsTrue (is_path x) → i < 4294967296 → ((y : Path) (j : ℕ) → cond (same_path y x && eq_by_cmp nat_cmp j i) (Some v) (old y j) ≡ new y j)
+    → HasBlocks old s → HasBlocks new (put key_cmp (key x i) v s)
+put_any old new x i v s path l changed h = record {
+  sorted = holds _ (is_sorted-put key_cmp nat_list_cmp_total (key x i) v s (subst T (sym h.sorted) tt));
+  each = λ y j g m.
+      find-put key_cmp nat_list_cmp_total (key y j) (key x i) v s
+      ∙ ap₂ (λ b o. cond b (Some v) o) (tie_of_keys y x j i g path m l) (h.each y j g m)
+      ∙ changed y j;
+  only = all_put IsBlockPair (key x i) v s (λ w. record { path = x; block = i; valid = path; in_range = l; key_is = refl }) h.only;
+}
+
+-- the same where it is one of a path whose blocks are known
+pub put_block : (x : Path) (old new : ℕ → Option (List ℕ)) (rest : BlockMap) (i : ℕ) (v : List ℕ) (s : List Pair) → IsTrue (is_path x) → i < 4294967296 → new i ≡ Some v → ((j : ℕ) → (j ≡ i → ⊥) → new j ≡ old j)
+    → HasBlocks (with_blocks x old rest) s → HasBlocks (with_blocks x new rest) (put key_cmp (key x i) v s)
+put_block x old new rest i v s path l is others h = put_any (with_blocks x old rest) (with_blocks x new rest) x i v s path l (λ y j. blocks_put x old new rest i v is others y j) h
+
+-- ---- the pair of a block is taken
+
+-- a path is the same as another where that is the same as it
+same_path-sym : (x y : Path) → same_path x y ≡ same_path y x
+same_path-sym x y = by_tests (same_path x y) (same_path y x) refl refl
+  where
+    by_tests : (a b : Bool) → same_path x y ≡ a → same_path y x ≡ b → same_path x y ≡ same_path y x
+    by_tests true b e f = ap (λ z. same_path z y) (same_from_test x y e) ∙ ap (same_path y) (sym (same_from_test x y e))
+    by_tests false true e f = ap (λ z. same_path x z) (same_from_test y x f) ∙ ap (λ z. same_path z x) (sym (same_from_test y x f))
+    by_tests false false e f = e ∙ sym f
+
+blocks_taken : (x : Path) (old new : ℕ → Option (List ℕ)) (rest : BlockMap) (i : ℕ) → new i ≡ None → ((j : ℕ) → (j ≡ i → ⊥) → new j ≡ old j)
+    → (y : Path) (j : ℕ) → cond (not (same_path x y && eq_by_cmp nat_cmp i j)) (with_blocks x old rest y j) None ≡ with_blocks x new rest y j
+blocks_taken x old new rest i is others y j =
+    ap (λ b. cond (not (b && eq_by_cmp nat_cmp i j)) (with_blocks x old rest y j) None) (same_path-sym x y) ∙ by_tests (same_path y x) (eq_by_cmp nat_cmp i j) refl
+  where
+    by_tests : (a b : Bool) → eq_by_cmp nat_cmp i j ≡ b → cond (not (a && b)) (cond a (old j) (rest y j)) None ≡ cond a (new j) (rest y j)
+    by_tests true true e = sym is ∙ ap new (same_numbers i j e)
+    by_tests true false e = sym (others j (λ s. absurd (both_ways _ e (ap (eq_by_cmp nat_cmp i) s ∙ tied_number i))))
+    by_tests false b e = refl
+
+-- a list without the pair of any block
+pub take_any : (old new : BlockMap) (x : Path) (i : ℕ) (s : List Pair) → IsTrue (is_path x) → i < 4294967296 → ((y : Path) (j : ℕ) → cond (not (same_path x y && eq_by_cmp nat_cmp i j)) (old y j) None ≡ new y j)
+    → HasBlocks old s → HasBlocks new (filter (λ pair. not (eq_by_cmp key_cmp (key x i) pair.0)) s)
+take_any old new x i s path l changed h =
+    let keep : List ℕ → Bool = λ k. not (eq_by_cmp key_cmp (key x i) k) in
+    record {
+      sorted = holds _ (is_sorted-where_key key_cmp keep s (subst T (sym h.sorted) tt));
+      each = λ y j g m.
+          find-where_key key_cmp keep (key y j) (λ k t. ap keep (sym (slice_cmp-IsAntisymmetric nat_cmp-IsAntisymmetric (key y j) k t))) s
+          ∙ ap₂ (λ b o. cond (not b) o None) (tie_of_keys x y i j path g l m) (h.each y j g m)
+          ∙ changed y j;
+      only = all_filter IsBlockPair (λ pair. keep pair.0) s h.only;
+    }
+
+-- the same where it is one of a path whose blocks are known
+pub take_block : (x : Path) (old new : ℕ → Option (List ℕ)) (rest : BlockMap) (i : ℕ) (s : List Pair) → IsTrue (is_path x) → i < 4294967296 → new i ≡ None → ((j : ℕ) → (j ≡ i → ⊥) → new j ≡ old j)
+    → HasBlocks (with_blocks x old rest) s → HasBlocks (with_blocks x new rest) (filter (λ pair. not (eq_by_cmp key_cmp (key x i) pair.0)) s)
+take_block x old new rest i s path l is others h = take_any (with_blocks x old rest) (with_blocks x new rest) x i s path l (λ y j. blocks_taken x old new rest i is others y j) h
+
+-- ---- the blocks of changed trees
+
+-- the blocks of a tree, said with those at one path apart
+pub tree_blocks-split : (t : Tree) (x y : Path) (i : ℕ) → tree_blocks t y i ≡ with_blocks x (λ j. tree_blocks t x j) (tree_blocks t) y i
+tree_blocks-split t x y i = by_test (same_path y x) refl
+  where
+    by_test : (b : Bool) → same_path y x ≡ b → tree_blocks t y i ≡ cond b (tree_blocks t x i) (tree_blocks t y i)
+    by_test true e = ap (λ z. tree_blocks t z i) (same_from_test y x e)
+    by_test false e = refl
+
+-- a node at a path gives the path its blocks, and changes no other
+pub tree_blocks-with_node : (t : Tree) (x : Path) (node : Node) (y : Path) (i : ℕ) → with_blocks x (λ j. block_value (Some node) j) (tree_blocks t) y i ≡ tree_blocks (with_node t x node) y i
+tree_blocks-with_node t x node y i = sym (ap (λ o. block_value o i) (find-put path_cmp path_cmp_total y x node t) ∙ by_test (same_path y x))
+  where
+    by_test : (b : Bool) → block_value (cond b (Some node) (find path_cmp y t)) i ≡ cond b (block_value (Some node) i) (block_value (find path_cmp y t) i)
+    by_test true = refl
+    by_test false = refl
+
+-- without a path it has no blocks, and others have theirs
+pub tree_blocks-without : (t : Tree) (x y : Path) (i : ℕ) → with_blocks x (λ j. None) (tree_blocks t) y i ≡ tree_blocks (without t x) y i
+unfolding without
+tree_blocks-without t x y i =
+    sym (ap (λ o. block_value o i) (find-where_key path_cmp (λ z. not (same_path z x)) y (λ z e. ap (λ w. not (same_path w x)) (sym (same_from_tie y z e))) t) ∙ by_test (same_path y x))
+  where
+    by_test : (b : Bool) → block_value (cond (not b) (find path_cmp y t) None) i ≡ cond b None (block_value (find path_cmp y t) i)
+    by_test true = refl
+    by_test false = refl
+
+-- without a subtree the paths in it have no blocks, and others have theirs
+pub tree_blocks-without_subtree : (t : Tree) (x y : Path) (i : ℕ) → cond (is_at_or_inside y x) None (tree_blocks t y i) ≡ tree_blocks (without_subtree t x) y i
+unfolding without_subtree
+tree_blocks-without_subtree t x y i =
+    sym (ap (λ o. block_value o i) (find-where_key path_cmp (λ z. not (is_at_or_inside z x)) y (λ z e. ap (λ w. not (is_at_or_inside w x)) (sym (same_from_tie y z e))) t) ∙ by_test (is_at_or_inside y x))
+  where
+    by_test : (b : Bool) → block_value (cond (not b) (find path_cmp y t) None) i ≡ cond b None (block_value (find path_cmp y t) i)
+    by_test true = refl
+    by_test false = refl
+
+-- ---- from a list of blocks to the pairs of a changed tree
+
+-- the pairs of a tree have the blocks of what stands at a path there, and those of the other paths
+pub blocks_at : (t : Tree) (p : Parameters) (x : Path) → IsTree t → HasBlocks (with_blocks x (λ i. tree_blocks t x i) (tree_blocks t)) (pairs t p)
+blocks_at t p x h = blocks_alike (tree_blocks t) _ (pairs t p) (λ y i. tree_blocks-split t x y i) (pairs_have_blocks t p h)
+
+-- a list with a node's blocks at a path is that of the tree with the node
+pub pairs-with_node : (t : Tree) (p : Parameters) (x : Path) (node : Node) (s : List Pair) → IsTree (with_node t x node)
+    → HasBlocks (with_blocks x (λ i. block_value (Some node) i) (tree_blocks t)) s → s ≡ pairs (with_node t x node) p
+pairs-with_node t p x node s h g = pairs_from_blocks (with_node t x node) p s h (blocks_alike _ (tree_blocks (with_node t x node)) s (λ y i. tree_blocks-with_node t x node y i) g)
+
+-- a list with no block at a path is that of the tree without the path
+pub pairs-without : (t : Tree) (p : Parameters) (x : Path) (s : List Pair) → IsTree (without t x)
+    → HasBlocks (with_blocks x (λ i. None) (tree_blocks t)) s → s ≡ pairs (without t x) p
+pairs-without t p x s h g = pairs_from_blocks (without t x) p s h (blocks_alike _ (tree_blocks (without t x)) s (λ y i. tree_blocks-without t x y i) g)
+
+-- a list with no block in a subtree is that of the tree without it
+pub pairs-without_subtree : (t : Tree) (p : Parameters) (x : Path) (s : List Pair) → IsTree (without_subtree t x)
+    → HasBlocks (λ y i. cond (is_at_or_inside y x) None (tree_blocks t y i)) s → s ≡ pairs (without_subtree t x) p
+pairs-without_subtree t p x s h g = pairs_from_blocks (without_subtree t x) p s h (blocks_alike _ (tree_blocks (without_subtree t x)) s (λ y i. tree_blocks-without_subtree t x y i) g)

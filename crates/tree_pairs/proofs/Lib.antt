@@ -1,0 +1,5 @@
+pub mod BlocksLemmas
+pub mod ChangesLemmas
+pub mod KindLemmas
+pub mod CallLemmas
+pub mod NextLemmas

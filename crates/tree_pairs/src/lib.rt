@@ -1,0 +1,11 @@
+//! What stands at a path of the tree that a list of pairs holds. Files, directories and moves share it: what a call
+//! that carries out a command does to the list (`specs/TreeCalls.antt`), the values that say what stands at a path,
+//! and the laws between a tree and its list (`proofs/`).
+#![tactic(auto)]
+
+mod kind;
+pub mod laws;
+#[cfg(test)]
+mod tests;
+
+pub use kind::{Kind, directory_value, file_value, kind_of};
