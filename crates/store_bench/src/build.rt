@@ -4,7 +4,7 @@ ghost use Rattle.std.specs.Prelude.{◌≡◌, ◌<◌, map, length, IsTrue, IfO
 ghost use Rattle.std.specs.List.Sorted.{IsStrictlySortedBy};
 ghost use Rattle.store_model.specs.Paths.{key_cmp};
 
-use crate::ratio;
+use crate::{Ratio, name_of, no_memory};
 use layout_scratch::build;
 use node_pages::PairList;
 use std::alloc::Global;
@@ -90,24 +90,11 @@ fn measure_draw(rt: &HostRuntime, pages: u32, kind: DrawKind, pairs: &PairList) 
         name_of(kind)
     )?;
     eprintln!(rt;
-        "build {} us, sort of the same keys {} us, in hundredths of that {}",
+        "  build {} us, sort of the same keys {} us: {}",
         building.as_micros(),
         sorting.as_micros(),
-        ratio(building, sorting)
+        Ratio::new(building, sorting)
     )
-}
-
-/// The word for a draw.
-fn name_of(kind: DrawKind) -> &'static str {
-    match kind {
-        DrawKind::Ruler => "ruler",
-        DrawKind::Sha256 => "sha256",
-    }
-}
-
-/// Want of memory as an error of the program.
-fn no_memory(_: NoMemory) -> io::Error {
-    io::ErrorKind::OutOfMemory.into()
 }
 
 /// Lays out the pairs of so many full pages, at most 16,384 of them, under both draws.

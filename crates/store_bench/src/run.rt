@@ -1,6 +1,6 @@
 //! How long a run takes that makes many directories.
 
-use crate::ratio;
+use crate::{Ratio, no_memory};
 use disk_model::{Disk, MemDisk};
 use script_lines::{MemSink, MemSource};
 use std::alloc::Global;
@@ -23,11 +23,6 @@ const FORMAT: [&str; 5] = [
     "ruler",
     "0000000000000000000000000000000000000000000000000000000000000000",
 ];
-
-/// Want of memory as an error of the program.
-fn no_memory(_: NoMemory) -> io::Error {
-    io::ErrorKind::OutOfMemory.into()
-}
 
 /// These words.
 fn words_of(alloc: Global, texts: &[&str]) -> Result<Words, NoMemory> {
@@ -92,9 +87,9 @@ pub fn measure(rt: &HostRuntime, lines: u32) -> io::Result<()> {
     )?;
     let floor = bare(rt, writes, syncs)?;
     eprintln!(rt;
-        "run {} us, its writes and syncs made bare {} us, in hundredths of that {}",
+        "  run {} us, its writes and syncs made bare {} us: {}",
         running.as_micros(),
         floor.as_micros(),
-        ratio(running, floor)
+        Ratio::new(running, floor)
     )
 }

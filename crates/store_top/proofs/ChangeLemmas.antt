@@ -7,7 +7,8 @@ use Rattle.std.proofs.lemmas.Option.{slice_get-get_or}
 use Rattle.store_model.specs.Pages.{Page}
 use Rattle.store_model.specs.Placement.{Table}
 use Rattle.store_model.specs.Images.{slot_bytes}
-use Rattle.store_top.specs.Changes.{bytes_of, changes_of, AreDifferences}
+use Rattle.store_top.proofs.DifferLemmas.{differing-none, differing-same, differing-other}
+use Rattle.store_top.specs.Changes.{bytes_of, changes_of, differing, AreDifferences}
 
 -- the bytes of a slot, by what it holds
 pub held_bytes : (table : Table) (i : ℕ) (held : Option Page) → slice_get table i ≡ Some held → bytes_of table i ≡ slot_bytes held
@@ -22,6 +23,7 @@ bytes_held table i bytes below has =
 -- the slots below n in which the tables differ, in rising order
 pub record IsScanned (old new : Table) (n : ℕ) (slots : List ℕ) : Type 0 where
   pub few : length slots ≤ n
+  pub counted : length slots ≡ differing old new n
   pub rising : (j k : ℕ) → j < k → k < length slots → slice_index slots j < slice_index slots k
   pub below : (k : ℕ) → k < length slots → slice_index slots k < n
   pub whole : (k : ℕ) → k < length slots → length (bytes_of new (slice_index slots k)) ≡ 4096
@@ -31,6 +33,7 @@ pub record IsScanned (old new : Table) (n : ℕ) (slots : List ℕ) : Type 0 whe
 pub scanned_none : (old new : Table) → IsScanned old new 0 []
 scanned_none old new = record {
   few = omega arith;
+  counted = sym (differing-none old new);
   rising = λ j k lt low. absurd (omega arith);
   below = λ k low. absurd (omega arith);
   whole = λ k low. absurd (omega arith);
@@ -46,6 +49,7 @@ last_or_below n i h = grind arith
 pub scanned_same : (old new : Table) (n : ℕ) (slots : List ℕ) → bytes_of old n ≡ bytes_of new n → IsScanned old new n slots → IsScanned old new (n + 1) slots
 scanned_same old new n slots same h = record {
   few = let few = h.few in omega arith;
+  counted = h.counted ∙ sym (differing-same old new n same);
   rising = h.rising;
   below = λ k low. let below = h.below k low in omega arith;
   whole = h.whole;
@@ -69,6 +73,7 @@ module _ (old new : Table) (n : ℕ) (slots : List ℕ) (h : IsScanned old new n
   pub scanned_more : bytes_of old n ≢ bytes_of new n → length (bytes_of new n) ≡ 4096 → IsScanned old new (n + 1) (slots ++ n ∷ [])
   scanned_more other whole = record {
     few = let few = h.few in omega (arith, length-append slots (n ∷ []));
+    counted = omega (arith, h.counted, length-append slots (n ∷ []), differing-other old new n other);
     rising = λ j k lt low. elim (last_or_below (length slots) k (omega (arith, length-append slots (n ∷ [])))) [
       | inl less ↦
           let before : get_or (slots ++ n ∷ []) j 0 ≡ get_or slots j 0 = get_or-append slots (n ∷ []) 0 j (omega arith) in
@@ -97,4 +102,5 @@ scanned_all old new slots found h = record {
   bytes = λ k low. refl;
   others = h.others;
   differ = h.differ;
+  count_is = h.counted;
 }

@@ -22,7 +22,7 @@ use Rattle.script_lines.specs.declared.command.Command as own
 use Rattle.script_lines.specs.declared.command.Command.TheVariants as declared
 use Rattle.store_model.specs.Placement.{Table}
 use Rattle.store_top.specs.Directories.{tree_of, table_of, HasPlace, IsStore}
-use Rattle.store_top.specs.TodayLines.{is_served}
+use Rattle.store_top.specs.ServedLines.{is_served}
 
 -- what is found among directories is a directory
 found_directory : (paths : List Path) (q : Path) → is_some (find path_cmp q (tree_of paths)) ≡ is_directory_node (find path_cmp q (tree_of paths))
@@ -147,7 +147,7 @@ made_tree paths path at tree valid none place =
 -- and the store of it
 pub made_store : (p : Parameters) (paths : List Path) (path : Path) (at : ℕ) (old new : Table) → IsStore p paths old → IsTrue (is_path path) → refusal_of (tree_of paths) (Make path) ≡ None → HasPlace paths path at
     → Fits (tree_of (insert paths at path)) p → new ≡ table_of (tree_of (insert paths at path)) p → IsStore p (insert paths at path) new
-made_store p paths path at old new store valid none place fits is = record { served = store.served; tree = made_tree paths path at store.tree valid none place; fits = fits; table_is = is }
+made_store p paths path at old new store valid none place fits is = record { valid = store.valid; tree = made_tree paths path at store.tree valid none place; fits = fits; table_is = is }
 
 -- what the step makes of it, by the test of its pages
 abbrev made_by : Tree → Parameters → Tree → Bool → Step

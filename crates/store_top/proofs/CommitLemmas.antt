@@ -20,12 +20,12 @@ use Rattle.store_top.specs.Directories.{tree_of, IsStore}
 -- a layout represents its tree
 pub standing_represents : (paths : List Path) (p : Parameters) (table : Table) (image : List ℕ) → IsStore p paths table → image ≡ layout (tree_of paths) p → Represents image (tree_of paths) p
 standing_represents paths p table image store is =
-    recovered-represents image (tree_of paths) p store.served.valid store.tree store.fits (ap length is ∙ length-layout (tree_of paths) p store.served.valid store.tree store.fits)
-    (ap (recovered p.slots) is ∙ recovered-layout (tree_of paths) p store.served.valid store.tree store.fits)
+    recovered-represents image (tree_of paths) p store.valid store.tree store.fits (ap length is ∙ length-layout (tree_of paths) p store.valid store.tree store.fits)
+    (ap (recovered p.slots) is ∙ recovered-layout (tree_of paths) p store.valid store.tree store.fits)
 
 -- and has an empty journal
 pub standing_is_empty : (paths : List Path) (p : Parameters) (table : Table) (image : List ℕ) → IsStore p paths table → image ≡ layout (tree_of paths) p → HasEmptyJournal p.slots image
-standing_is_empty paths p table image store is = subst (HasEmptyJournal p.slots) (sym is) (layout-has-empty-journal (tree_of paths) p store.served.valid store.tree store.fits)
+standing_is_empty paths p table image store is = subst (HasEmptyJournal p.slots) (sym is) (layout-has-empty-journal (tree_of paths) p store.valid store.tree store.fits)
 
 -- a disk that stands at a tree, and of which nothing is asked
 pub still_leaves : (paths : List Path) (p : Parameters) (table : Table) (u : Tree) (disk : DiskState) → IsStore p paths table → IsSound disk → Stands disk (tree_of paths) p
@@ -47,7 +47,7 @@ module _ (before after : List Path) (p : Parameters) (was is : Table) (from : Is
     -- the changes make the new layout of the old one
     becomes : with_slots p.slots changes (layout (tree_of before) p) ≡ layout (tree_of after) p
     becomes =
-        with-slots-layout (tree_of before) (tree_of after) p from.served.valid from.tree to.tree from.fits to.fits changes are.rise
+        with-slots-layout (tree_of before) (tree_of after) p from.valid from.tree to.tree from.fits to.fits changes are.rise
         (λ k content low at. are.bytes k low ∙ held_bytes is (changes.slot k) content (ap (λ (table : Table). slice_get table (changes.slot k)) to.table_is ∙ at))
         (λ i old new low none at_old at_new.
         sym (held_bytes was i old (ap (λ (table : Table). slice_get table i) from.table_is ∙ at_old)) ∙ are.others i low none
@@ -57,14 +57,14 @@ module _ (before after : List Path) (p : Parameters) (was is : Table) (from : Is
       -- a commit that failed
       pub moves_failed : {U F : Type 0} (fault : F) → Moves {T = U} (tree_of before) (tree_of after) p old new (Err fault)
       moves_failed fault = record {
-        crash = commit-leaves (tree_of before) (tree_of after) p from.served.valid from.tree to.tree from.fits to.fits changes are.rise old new result stands.layout_is becomes commits;
-        reads = commit-reads (tree_of before) (tree_of after) p from.served.valid from.tree to.tree from.fits to.fits changes are.rise old new result stands.layout_is becomes commits;
+        crash = commit-leaves (tree_of before) (tree_of after) p from.valid from.tree to.tree from.fits to.fits changes are.rise old new result stands.layout_is becomes commits;
+        reads = commit-reads (tree_of before) (tree_of after) p from.valid from.tree to.tree from.fits to.fits changes are.rise old new result stands.layout_is becomes commits;
         stands = tt;
       }
 
       -- a commit that was done reads the new layout
       pub moved : OnOk result (new.bytes ≡ layout (tree_of after) p)
-      moved = commit-done (tree_of before) (tree_of after) p from.served.valid from.tree to.tree from.fits to.fits changes are.rise old new result stands.layout_is becomes commits
+      moved = commit-done (tree_of before) (tree_of after) p from.valid from.tree to.tree from.fits to.fits changes are.rise old new result stands.layout_is becomes commits
 
     -- a commit that was done
     pub moves_done : {T E U F : Type 0} (old new : DiskState) (given : T) (value : U) → Stands old (tree_of before) p → Commits {E = E} p.slots changes old new (Ok given) → Moves {E = F} (tree_of before) (tree_of after) p old new (Ok value)

@@ -56,6 +56,13 @@ pub crash_start : (trees : ℕ → Tree) (p : Parameters) (disk : DiskState) (t 
 crash_start trees p disk t sound may here =
     LeavesOnly-refl disk (RepresentsOneOf trees 0 p) sound (λ image left. one_of trees 0 0 p image (omega arith) (subst (λ (v : Tree). Represents image v p) (sym here) (may image left)))
 
+-- what stands at a tree still does after reads
+pub stands_reading : (old new : DiskState) (t : Tree) (p : Parameters) → ReadsOnly old new → Stands old t p → Stands new t p
+stands_reading old new t p reads stands = record {
+  layout_is = reads.bytes ∙ stands.layout_is;
+  durable = λ image left. stands.durable image ((reads.crash image).0 left) ∙ sym reads.bytes;
+}
+
 -- the call ended between two lines or for want of memory
 pub crashes_between : (status : Status) (done : ℕ) (trees : ℕ → Tree) (old new : DiskState) (p : Parameters) → (status ≡ statuses.DiskFault → ⊥) → LeavesOnly old new (RepresentsOneOf trees done p) → Stands new (trees done) p
     → PromisesCrashes status done trees old new p
@@ -68,12 +75,15 @@ crashes_between status done trees old new p other leaves stands = record {
 }
 
 -- a line in which a fault came
-pub crashes_fault : (cause : Fault) (done : ℕ) (trees : ℕ → Tree) (first now next : DiskState) (p : Parameters) (t u : Tree) → (cause ≡ causes.NoMemory → next ≡ now)
+pub crashes_fault : (cause : Fault) (done : ℕ) (trees : ℕ → Tree) (first now next : DiskState) (p : Parameters) (t u : Tree) → (cause ≡ causes.NoMemory → ReadsOnly now next) → IsSound now
     → LeavesOnly first now (RepresentsOneOf trees done p) → Stands now (trees done) p → LeavesOnly now next (λ image. Represents image t p ⊎ Represents image u p) → IsSound next → trees done ≡ t → trees (done + 1) ≡ u
     → PromisesCrashes (fault_status cause) done trees first next p
-crashes_fault causes.NoMemory done trees first now next p t u same leaves stands line sound here after =
-    subst (λ (disk : DiskState). PromisesCrashes statuses.NoMemory done trees first disk p) (sym (same refl)) (crashes_between statuses.NoMemory done trees first now p (λ e. cc) leaves stands)
-crashes_fault causes.Disk done trees first now next p t u same leaves stands line sound here after = record {
+crashes_fault causes.NoMemory done trees first now next p t u reads sound_now leaves stands line sound here after =
+    let may = MayLeaveOnly-end first now (RepresentsOneOf trees done p) sound_now leaves in
+    crashes_between statuses.NoMemory done trees first next p (λ e. cc)
+    (LeavesOnly-trans first now next (RepresentsOneOf trees done p) leaves (LeavesOnly-weaken now next now.crash_images (RepresentsOneOf trees done p) may (reads refl).leaves))
+    (stands_reading now next (trees done) p (reads refl) stands)
+crashes_fault causes.Disk done trees first now next p t u reads sound_now leaves stands line sound here after = record {
   during = λ h. absurd (h refl);
   during_fault = λ e. crash_more trees done p first now next t u leaves line here after;
   between = λ h. absurd h;
@@ -119,4 +129,4 @@ crashes_refused status trees old new p t other sound leaves here =
 
 -- an image that the disk reads is one that a crash may leave
 pub reads_served : (disk : DiskState) (t : Tree) (p : Parameters) → IsSound disk → MayLeaveServed disk t p → IsServedImage disk.bytes t p
-reads_served disk t p sound may = record { served = may.served; directories = may.directories; represents = may.represents disk.bytes sound.read_image }
+reads_served disk t p sound may = record { directories = may.directories; represents = may.represents disk.bytes sound.read_image }

@@ -19,6 +19,7 @@ use Rattle.store_model.proofs.PagesLemmas.{cells_of_level_0}
 use Rattle.store_model.proofs.PagesLemmasOrder.{page_of}
 use Rattle.store_model.proofs.PagesLemmasSizes.{tree_pages_are_pages, tree_pages_by_rank}
 use Rattle.store_model.proofs.PlacementLemmas.{first_free, length-put_first_free, IsPermutation-put_first_free, pages_in-replicate, length-place, IsPermutation-place}
+use Rattle.store_model.proofs.TreesLemmasLayouts.{pages_on_level}
 use Rattle.store_model.proofs.PlacementLemmasDraws.{IsLawful-draw_of}
 use Rattle.store_top.specs.Directories.{tree_of, table_of, IsDirectoryEntry}
 use Rattle.store_top.specs.Attached.{IsDirectoryCell, IsDirectorySlot, keys_in, keys_of, keys_of_paths}
@@ -32,14 +33,6 @@ lowest_cells page = if page.label.level == 0 then page.cells else []
 -- the keys of those
 abbrev lowest_keys : Page → List (List ℕ)
 lowest_keys page = keys_in (Some page)
-
--- the pages of a level are of that level
-pages_on_level : (d : Draw) (s : List Pair) (level : ℕ) → AllByRecursion (λ page. page.label.level ≡ level) (level_pages d s level)
-unfolding level_pages group_pages
-pages_on_level d s level =
-    all_flat_map (λ cells. Unit {0}) (λ page. page.label.level ≡ level) (λ cells. group_pages level (lead_of d level cells) cells)
-    (λ cells u. all_map (λ run. Unit {0}) (λ page. page.label.level ≡ level) (page_of level (lead_of d level cells)) (λ run v. refl) (enumerate_from 0 (runs (page_room level) cells)) (all_none _ (λ run. tt) (enumerate_from 0 (runs (page_room level) cells))))
-    (groups d s level) (all_none _ (λ cells. tt) (groups d s level))
 
 -- pages of level 0 give all their cells, and others none
 cells_on_level_0 : (ps : List Page) → AllByRecursion (λ page. page.label.level ≡ 0) ps → flat_map lowest_cells ps ≡ flat_map (λ page. page.cells) ps

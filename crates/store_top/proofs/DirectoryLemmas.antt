@@ -57,7 +57,7 @@ pub used-store : (p : Parameters) (paths : List Path) (table : Table) → IsStor
 unfolding draw_of
 used-store p paths table store =
     ap (λ (t : Table). length (pages_in t)) store.table_is
-    ∙ length_permutation (pages (tree_of paths) p) (pages_in (table_of (tree_of paths) p)) (IsPermutation-place (draw_of p) (pages (tree_of paths) p) (IsLawful-draw_of p store.served.valid) store.fits)
+    ∙ length_permutation (pages (tree_of paths) p) (pages_in (table_of (tree_of paths) p)) (IsPermutation-place (draw_of p) (pages (tree_of paths) p) (IsLawful-draw_of p store.valid) store.fits)
 
 -- and has a slot for each of the parameters'
 pub slots-store : (p : Parameters) (paths : List Path) (table : Table) → IsStore p paths table → length table ≡ p.slots
@@ -69,7 +69,7 @@ pub few-store : (p : Parameters) (paths : List Path) (table : Table) → IsStore
 unfolding draw_of pages
 few-store p paths table store =
     let pairs_of : length (pairs (tree_of paths) p) ≡ length paths = ap length (pairs-tree_of paths p) ∙ length-map paths pair_of in
-    let full = pairs_per_page (draw_of p) (pairs (tree_of paths) p) store.served.valid.some_level in
+    let full = pairs_per_page (draw_of p) (pairs (tree_of paths) p) store.valid.some_level in
     let fits = store.fits in
     omega arith
 

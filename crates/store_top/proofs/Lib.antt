@@ -1,6 +1,10 @@
+pub mod JournalLemmas
+pub mod CostLemmas
+pub mod DifferLemmas
 pub mod DirectoryKeys
 pub mod DiskLemmas
 pub mod FaultLemmas
+pub mod OutsideLemmas
 pub mod PathLemmas
 pub mod RisingLemmas
 pub mod ServedLemmas

@@ -14,15 +14,16 @@ use Rattle.store_top.specs.declared.status.Status.{Status}
 use Rattle.store_top.specs.declared.status.Status.TheVariants as statuses
 use Rattle.store_top.specs.declared.attach.AttachFault.{AttachFault}
 use Rattle.store_top.specs.declared.attach.AttachFault.TheVariants as faults
-use Rattle.store_top.specs.Directories.{NamesServed, IsServedImage}
-use Rattle.store_top.specs.Disks.{IsUnwritten, Stands}
+use Rattle.store_top.specs.Directories.{IsImageWith, IsServedImage}
+use Rattle.store_top.specs.Disks.{IsOnlySynced, Stands}
 use Rattle.store_top.specs.Promises.{IsBetweenLines, PromisesImage}
 use Rattle.store_top.specs.Runs.{RepliesKept, KeepsLimit, run_trees}
 use Rattle.store_top.specs.Steps.{attach_status}
+use Rattle.store_top.proofs.DiskLemmas.{no_sync}
 
 -- an image that is served names its parameters
-pub names : (image : List ℕ) (t : Tree) (p : Parameters) → IsServedImage image t p → NamesServed image p
-names image t p h = record { served = h.served; names = h.represents.names; length_is = h.represents.length_is }
+pub names : (image : List ℕ) (t : Tree) (p : Parameters) → IsServedImage image t p → IsImageWith image p
+names image t p h = record { names = h.represents.names; length_is = h.represents.length_is }
 
 -- and it has one tree and one list of parameters
 pub one_tree : (image : List ℕ) (t u : Tree) (p q : Parameters) → IsServedImage image t p → IsServedImage image u q → t ≡ u
@@ -45,7 +46,7 @@ not_between faults.Damaged h = h
 
 -- the store could not be had
 pub image_refused : (fault : AttachFault) (t : Tree) (script : List ℕ) (old new : DiskState) (p : Parameters)
-    → ((fault ≡ faults.Disk → ⊥) → IsUnwritten old new) → (fault ≡ faults.Disk → Represents new.bytes t p)
+    → ((fault ≡ faults.Disk → ⊥) → IsOnlySynced old new) → (fault ≡ faults.Disk → Represents new.bytes t p)
     → PromisesImage (attach_status fault) 0 (run_trees t script p) old new p
 image_refused fault t script old new p unwritten after = record {
   between = λ between. absurd (not_between fault between);
@@ -69,7 +70,7 @@ image_refused fault t script old new p unwritten after = record {
 pub image_left : (t : Tree) (script : List ℕ) (disk : DiskState) (p : Parameters) → PromisesImage statuses.NoMemory 0 (run_trees t script p) disk disk p
 image_left t script disk p = record {
   between = λ between. absurd between;
-  no_memory = λ e. inr (refl, record { bytes = refl; writes = refl });
+  no_memory = λ e. inr (refl, no_sync disk);
   fault = λ e. absurd (cc);
 }
 

@@ -1,52 +1,46 @@
 -- Lemmas on a script that is answered line after line.
 use Rattle.std.proofs.Common.{◌≡◌, ℕ, suc, ◌+◌, ◌-◌, ◌<◌, ◌≤◌, List, [], ◌∷◌, ◌++◌, length, take, drop, true, false, IsTrue, Result, Ok, Err, refl, sym, ap, ◌∙◌, subst, arith, append_assoc, length-append, length-drop, length-take}
-use Rattle.std.specs.List.{AllByRecursion}
 use Rattle.std.proofs.lemmas.List.{take_at, drop_at, append-nil, take-append-drop, drop-drop}
 use Rattle.std.proofs.lemmas.List.Concat.{flat_map-append}
 use Rattle.store_model.specs.Parameters.{Parameters}
 use Rattle.store_model.specs.Trees.{Tree}
 use Rattle.store_model.specs.Commands.{Reply, reply_text}
 use Rattle.store_model.specs.Scripts.{lines, replies_by, tree_by, replies_text, script_limit}
-use Rattle.store_model.proofs.ListsLemmas.{all_front, all_back}
 use Rattle.store_model.proofs.ScriptsLemmas.{replies_by-append, tree_by-append}
 use Rattle.script_lines.specs.SourceState.{SourceState}
-use Rattle.script_lines.specs.SinkState.{SinkState, AppendsPrefix, IsPut}
-use Rattle.script_lines.specs.LineState as line
-use Rattle.script_lines.specs.declared.lines.LineFault.{LineFault}
-use Rattle.disk_model.specs.DiskState.{DiskState}
-use Rattle.store_top.specs.Disks.{KeepsDisk}
+use Rattle.script_lines.specs.SinkState.{SinkState, AppendsPrefix}
 use Rattle.std.specs.Result.{is_err, OnErr, OnOk}
 use Rattle.script_lines.specs.Lines.{ended_lines}
-use Rattle.script_lines.specs.LineState.{LineState, left, to_come, ended_within, Takes, Answers, FailsBetween, PassesLimit, NextLine}
+use Rattle.script_lines.specs.LineState.{LineState, Falls, unread, left, to_come, ended_within, Takes, Answers, FailsBetween, PassesLimit, NextLine}
 use Rattle.script_lines.specs.declared.lines.Line.{Line}
 use Rattle.script_lines.specs.declared.lines.Line.TheVariants as answers
 use Rattle.script_lines.proofs.StateLemmas.{Answers-refl, Answers-trans, Takes-trans}
 use Rattle.script_lines.proofs.LineLemmas.{lines-none}
 use Rattle.store_base.specs.declared.store_fault.Fault.{Fault}
 use Rattle.store_base.specs.declared.store_fault.Fault.TheVariants as causes
-use Rattle.store_top.specs.Steps.{fault_status, IsRefused}
+use Rattle.store_top.specs.Steps.{fault_status}
 use Rattle.store_top.specs.declared.status.Status.{Status}
 use Rattle.store_top.specs.declared.status.Status.TheVariants as statuses
-use Rattle.store_top.specs.TodayLines.{answer_today}
-use Rattle.store_top.specs.Runs.{run_replies, run_trees, RepliesKept, HasTaken, KeepsLimit, IsLine, IsEndOfRun, KeepsSource, KeepsSink}
+use Rattle.store_top.specs.ServedLines.{served_answer}
+use Rattle.store_top.specs.Runs.{run_replies, run_trees, RepliesKept, HasTaken, KeepsLimit, IsLine, IsEndOfRun}
 
 -- the replies to lines, and the tree after them
 abbrev pub replies_on : Tree → List (List ℕ) → Parameters → List Reply
-replies_on t texts p = replies_by (λ u text. answer_today u text p) t texts
+replies_on t texts p = replies_by (λ u text. served_answer u text p) t texts
 
 abbrev pub tree_on : Tree → List (List ℕ) → Parameters → Tree
-tree_on t texts p = tree_by (λ u text. answer_today u text p) t texts
+tree_on t texts p = tree_by (λ u text. served_answer u text p) t texts
 
 length-replies_on : (t : Tree) (texts : List (List ℕ)) (p : Parameters) → length (replies_on t texts p) ≡ length texts
 unfolding replies_by
 length-replies_on t [] p = refl
-length-replies_on t (text ∷ texts) p = ap suc (length-replies_on (answer_today t text p).tree texts p)
+length-replies_on t (text ∷ texts) p = ap suc (length-replies_on (served_answer t text p).tree texts p)
 
-one_reply : (t : Tree) (text : List ℕ) (p : Parameters) → replies_on t (text ∷ []) p ≡ (answer_today t text p).reply ∷ []
+one_reply : (t : Tree) (text : List ℕ) (p : Parameters) → replies_on t (text ∷ []) p ≡ (served_answer t text p).reply ∷ []
 unfolding replies_by
 one_reply t text p = refl
 
-one_tree : (t : Tree) (text : List ℕ) (p : Parameters) → tree_on t (text ∷ []) p ≡ (answer_today t text p).tree
+one_tree : (t : Tree) (text : List ℕ) (p : Parameters) → tree_on t (text ∷ []) p ≡ (served_answer t text p).tree
 unfolding tree_by
 one_tree t text p = refl
 
@@ -92,15 +86,15 @@ module _ {R : Type 0} (state : R → SourceState) where
 
   -- one line more, whose reply was written
   pub halfway_more : (first now next : LineState R) (sink_first sink_now sink_next : SinkState) (t_first t_now t_next : Tree) (p : Parameters) (done : ℕ) (text : List ℕ)
-      → Halfway first now sink_first sink_now t_first t_now p done → Answers state now next (text ∷ []) → t_next ≡ (answer_today t_now text p).tree
-      → (IsTrue sink_first.is_observable → sink_next.written ≡ sink_now.written ++ reply_text (answer_today t_now text p).reply)
+      → Halfway first now sink_first sink_now t_first t_now p done → Answers state now next (text ∷ []) → t_next ≡ (served_answer t_now text p).tree
+      → (IsTrue sink_first.is_observable → sink_next.written ≡ sink_now.written ++ reply_text (served_answer t_now text p).reply)
       → Halfway first next sink_first sink_next t_first t_next p (done + 1)
   halfway_more first now next sink_first sink_now sink_next t_first t_now t_next p done text h answers tree written =
-      let step = answer_today t_now text p in
-      let tree_after : tree_on t_first (h.texts ++ text ∷ []) p ≡ (answer_today t_now text p).tree =
-      tree_by-append (λ u x. answer_today u x p) t_first h.texts (text ∷ []) ∙ ap (λ u. tree_on u (text ∷ []) p) (sym h.tree) ∙ one_tree t_now text p in
-      let replies_after : replies_on t_first (h.texts ++ text ∷ []) p ≡ replies_on t_first h.texts p ++ (answer_today t_now text p).reply ∷ [] =
-      replies_by-append (λ u x. answer_today u x p) t_first h.texts (text ∷ [])
+      let step = served_answer t_now text p in
+      let tree_after : tree_on t_first (h.texts ++ text ∷ []) p ≡ (served_answer t_now text p).tree =
+      tree_by-append (λ u x. served_answer u x p) t_first h.texts (text ∷ []) ∙ ap (λ u. tree_on u (text ∷ []) p) (sym h.tree) ∙ one_tree t_now text p in
+      let replies_after : replies_on t_first (h.texts ++ text ∷ []) p ≡ replies_on t_first h.texts p ++ (served_answer t_now text p).reply ∷ [] =
+      replies_by-append (λ u x. served_answer u x p) t_first h.texts (text ∷ [])
       ∙ ap (λ u. replies_on t_first h.texts p ++ replies_on u (text ∷ []) p) (sym h.tree) ∙ ap (λ rs. replies_on t_first h.texts p ++ rs) (one_reply t_now text p) in
       record {
         texts = h.texts ++ text ∷ [];
@@ -108,11 +102,11 @@ module _ {R : Type 0} (state : R → SourceState) where
         count = omega (arith, h.count, length-append h.texts (text ∷ []));
         tree = tree ∙ sym tree_after;
         written = λ o.
-            written o ∙ ap (λ xs. xs ++ reply_text (answer_today t_now text p).reply) (h.written o)
-            ∙ append_assoc sink_first.written (replies_text (replies_on t_first h.texts p)) (reply_text (answer_today t_now text p).reply)
+            written o ∙ ap (λ xs. xs ++ reply_text (served_answer t_now text p).reply) (h.written o)
+            ∙ append_assoc sink_first.written (replies_text (replies_on t_first h.texts p)) (reply_text (served_answer t_now text p).reply)
             ∙ ap (λ xs. sink_first.written ++ xs) (
-            ap (λ xs. replies_text (replies_on t_first h.texts p) ++ xs) (sym (replies_text-one (answer_today t_now text p).reply))
-            ∙ sym (replies_text-append (replies_on t_first h.texts p) ((answer_today t_now text p).reply ∷ []))
+            ap (λ xs. replies_text (replies_on t_first h.texts p) ++ xs) (sym (replies_text-one (served_answer t_now text p).reply))
+            ∙ sym (replies_text-append (replies_on t_first h.texts p) ((served_answer t_now text p).reply ∷ []))
             ∙ ap replies_text (sym replies_after));
       }
 
@@ -135,7 +129,7 @@ module _ {R : Type 0} (state : R → SourceState) where
     replies_split : (now : LineState R) (texts : List (List ℕ)) (t : Tree) (p : Parameters) → Answers state first now texts
         → run_replies t (left state first) p ≡ replies_on t texts p ++ replies_on (tree_on t texts p) (lines (to_come state now)) p
     replies_split now texts t p answers =
-        ap (λ xs. replies_on t xs p) (lines_split now texts answers) ∙ replies_by-append (λ u x. answer_today u x p) t texts (lines (to_come state now))
+        ap (λ xs. replies_on t xs p) (lines_split now texts answers) ∙ replies_by-append (λ u x. served_answer u x p) t texts (lines (to_come state now))
 
     pub replies_at : (now : LineState R) (sink_first sink_now : SinkState) (t_first t_now : Tree) (p : Parameters) (done : ℕ)
         (h : Halfway first now sink_first sink_now t_first t_now p done) → take done (run_replies t_first (left state first) p) ≡ replies_on t_first h.texts p
@@ -246,18 +240,18 @@ module _ {R : Type 0} (state : R → SourceState) where
     -- a reply that could not be written
     pub at_sink_fault : (now next : LineState R) (sink_first sink_now sink_next : SinkState) (t_first t_now : Tree) (p : Parameters) (done : ℕ) (text : List ℕ)
         → Halfway first now sink_first sink_now t_first t_now p done → Answers state now next (text ∷ []) → IsTrue sink_first.is_observable
-        → AppendsPrefix sink_now.written sink_next.written (reply_text (answer_today t_now text p).reply)
+        → AppendsPrefix sink_now.written sink_next.written (reply_text (served_answer t_now text p).reply)
         → RepliesKept statuses.SinkFault (done + 1) (run_replies t_first (left state first) p) (state first.source) (state next.source) sink_first sink_next
     at_sink_fault now next sink_first sink_now sink_next t_first t_now p done text h answers o appends =
         let all = replies_split now h.texts t_first p h.answers in
         let before : done + 1 - 1 ≡ done = omega arith in
         let size : length (replies_on t_first h.texts p) ≡ done = length-replies_on t_first h.texts p ∙ sym h.count in
-        let last : take 1 (drop (done + 1 - 1) (run_replies t_first (left state first) p)) ≡ (answer_today t_now text p).reply ∷ [] =
+        let last : take 1 (drop (done + 1 - 1) (run_replies t_first (left state first) p)) ≡ (served_answer t_now text p).reply ∷ [] =
         ap (λ n. take 1 (drop n (run_replies t_first (left state first) p))) before ∙ ap (λ rs. take 1 (drop done rs)) all
         ∙ ap (take 1) (drop_at (replies_on t_first h.texts p) (replies_on (tree_on t_first h.texts p) (lines (to_come state now)) p) done size)
         ∙ ap (λ u. take 1 (replies_on u (lines (to_come state now)) p)) (sym h.tree)
         ∙ ap (λ xs. take 1 (replies_on t_now xs p)) answers.lines
-        ∙ ap (take 1) (replies_by-append (λ u x. answer_today u x p) t_now (text ∷ []) (lines (to_come state next)))
+        ∙ ap (take 1) (replies_by-append (λ u x. served_answer u x p) t_now (text ∷ []) (lines (to_come state next)))
         ∙ ap (λ rs. take 1 (rs ++ replies_on (tree_on t_now (text ∷ []) p) (lines (to_come state next)) p)) (one_reply t_now text p) in
         record {
           taken = take (next.taken - first.taken) (left state first);
@@ -269,12 +263,12 @@ module _ {R : Type 0} (state : R → SourceState) where
             answered = λ c. absurd c;
             in_part = λ e. record {
               part = appends.part;
-              front = record { rest = appends.rest; whole = ap replies_text last ∙ replies_text-one (answer_today t_now text p).reply ∙ appends.is_prefix };
+              front = record { rest = appends.rest; whole = ap replies_text last ∙ replies_text-one (served_answer t_now text p).reply ∙ appends.is_prefix };
               written_is = ap (λ rs. replies_text rs ++ appends.part) (sym (replies_at now sink_first sink_now t_first t_now p done h) ∙ ap (λ n. take n (run_replies t_first (left state first) p)) (sym before));
             };
             ended = λ e. absurd (cc);
             ended_in_limit = λ e. absurd (cc);
-            counted = one_more (run_replies t_first (left state first) p) (answer_today t_now text p).reply done (ap (λ n. take 1 (drop n (run_replies t_first (left state first) p))) (sym before) ∙ last);
+            counted = one_more (run_replies t_first (left state first) p) (served_answer t_now text p).reply done (ap (λ n. take 1 (drop n (run_replies t_first (left state first) p))) (sym before) ∙ last);
             some_line = λ e. omega arith;
             is_image = λ e. cc;
             is_whole = λ e. cc;
@@ -377,31 +371,12 @@ line_answered state answers.End shown a b other e h = absurd (other refl)
 
 -- the tree after one line more, whether or not its reply was written
 pub trees_next : {R : Type 0} (state : R → SourceState) (first : LineState R) (held : first.held ≡ []) (none_taken : first.taken ≡ 0) (now next : LineState R) (sink_first sink_now : SinkState) (t_first t_now t_next : Tree) (p : Parameters) (done : ℕ) (text : List ℕ)
-    → Halfway state first now sink_first sink_now t_first t_now p done → Answers state now next (text ∷ []) → t_next ≡ (answer_today t_now text p).tree
+    → Halfway state first now sink_first sink_now t_first t_now p done → Answers state now next (text ∷ []) → t_next ≡ (served_answer t_now text p).tree
     → run_trees t_first (left state first) p (done + 1) ≡ t_next
 trees_next state first held none_taken now next sink_first sink_now t_first t_now t_next p done text h answers tree =
-    let sink_next : SinkState = record { is_observable = true; written = sink_now.written ++ reply_text (answer_today t_now text p).reply; faults = 0 } in
+    let sink_next : SinkState = record { is_observable = true; written = sink_now.written ++ reply_text (served_answer t_now text p).reply; faults = 0 } in
     trees_at state first held none_taken next sink_first sink_next t_first t_next p (done + 1)
     (halfway_more state first now next sink_first sink_now sink_next t_first t_now t_next p done text h answers tree (λ o. refl))
-
--- where all replies up to one line more are refusals, those before are, and that of the line is
-pub refused_more : {R : Type 0} (state : R → SourceState) (first : LineState R) (held : first.held ≡ []) (none_taken : first.taken ≡ 0) (now next : LineState R) (sink_first sink_now : SinkState) (t_first t_now : Tree) (p : Parameters) (done : ℕ) (text : List ℕ)
-    → Halfway state first now sink_first sink_now t_first t_now p done → Answers state now next (text ∷ [])
-    → AllByRecursion IsRefused (take (done + 1) (run_replies t_first (left state first) p))
-    → AllByRecursion IsRefused (take done (run_replies t_first (left state first) p)) × IsRefused (answer_today t_now text p).reply
-unfolding halfway_more
-refused_more state first held none_taken now next sink_first sink_now t_first t_now p done text h answers all =
-    let reply = (answer_today t_now text p).reply in
-    let sink_next : SinkState = record { is_observable = true; written = sink_now.written ++ reply_text reply; faults = 0 } in
-    let longer = halfway_more state first now next sink_first sink_now sink_next t_first t_now (answer_today t_now text p).tree p done text h answers refl (λ o. refl) in
-    let after = replies_at state first held none_taken next sink_first sink_next t_first (answer_today t_now text p).tree p (done + 1) longer in
-    let split : replies_on t_first (h.texts ++ text ∷ []) p ≡ replies_on t_first h.texts p ++ reply ∷ [] =
-    replies_by-append (λ u x. answer_today u x p) t_first h.texts (text ∷ [])
-    ∙ ap (λ u. replies_on t_first h.texts p ++ replies_on u (text ∷ []) p) (sym h.tree) ∙ ap (λ rs. replies_on t_first h.texts p ++ rs) (one_reply t_now text p) in
-    let whole = subst (λ rs. AllByRecursion IsRefused rs) (after ∙ split) all in (
-      subst (λ rs. AllByRecursion IsRefused rs) (sym (replies_at state first held none_taken now sink_first sink_now t_first t_now p done h)) (all_front IsRefused (replies_on t_first h.texts p) (reply ∷ []) whole),
-      (all_back IsRefused (replies_on t_first h.texts p) (reply ∷ []) whole).0,
-    )
 
 -- ---- faults
 
@@ -441,13 +416,10 @@ pub at_ok : {T E P : Type 0} (r : Result T E) → is_err r ≡ false → OnOk r 
 at_ok (Ok x) h p = p
 at_ok (Err x) h p = absurd (cc)
 
--- ---- calls one after another
+-- ---- the end of a loop over lines
 
-pub KeepsDisk-trans : (a b c : DiskState) → KeepsDisk a b → KeepsDisk b c → KeepsDisk a c
-KeepsDisk-trans a b c first then = record { size = then.size ∙ first.size; observable = then.observable ∙ first.observable; faults = omega (arith, first.faults, then.faults) }
-
-pub KeepsSource-trans : {T : Type 0} (a b c : SourceState) (result : Result T LineFault) → KeepsSource a b → line.KeepsSource b c result → KeepsSource a c
-KeepsSource-trans a b c result first then = record { observable = then.observable ∙ first.observable; faults = omega (arith, first.faults, then.faults) }
-
-pub KeepsSink-trans : {T E : Type 0} (a b c : SinkState) (bytes : List ℕ) (result : Result T E) → KeepsSink a b → IsPut b c bytes result → KeepsSink a c
-KeepsSink-trans a b c bytes result first then = record { observable = then.observable ∙ first.observable; faults = omega (arith, first.faults, then.faults) }
+-- a line that was answered leaves fewer bytes to come
+pub falls_line : {R : Type 0} (old new : LineState R) (line : Line) → (line ≡ answers.End → ⊥) → Falls old new line → unread new < unread old
+falls_line old new answers.Text other falls = falls
+falls_line old new answers.Long other falls = falls
+falls_line old new answers.End other falls = absurd (other refl)

@@ -17,7 +17,7 @@ use Rattle.layout_scratch.specs.declared.fault.ScratchFault.{ScratchFault}
 use Rattle.layout_scratch.specs.declared.fault.ScratchFault.TheVariants as causes
 use Rattle.store_top.specs.declared.attach.AttachFault.TheVariants as faults
 use Rattle.gate_journal.specs.Places.{ReadsOnly}
-use Rattle.store_top.specs.Directories.{NamesServed, IsServedImage, IsDirectoryEntry, tree_of, table_of, IsTooBig}
+use Rattle.store_top.specs.Directories.{IsImageWith, IsServedImage, IsDirectoryEntry, tree_of, table_of, IsTooBig}
 use Rattle.store_top.specs.Attached.{IsDirectorySlot, ShowsTable, keys_of, keys_of_paths, layout_fault_of}
 use Rattle.store_top.proofs.DirectoryKeys.{table_keys, table_slots, length-table_of, tree_of_entries}
 
@@ -31,8 +31,8 @@ pub record HasDirectories (image : List ℕ) (p : Parameters) : Type 0 where
   pub keys : IsPermutation (keys_of (table_of (tree_of paths) p)) (keys_of_paths paths)
 
 -- an image that represents a tree names its parameters
-pub named_by : (image : List ℕ) (t : Tree) (p : Parameters) → IsServedImage image t p → NamesServed image p
-named_by image t p is = record { served = is.served; names = is.represents.names; length_is = is.represents.length_is }
+pub named_by : (image : List ℕ) (t : Tree) (p : Parameters) → IsServedImage image t p → IsImageWith image p
+named_by image t p is = record { names = is.represents.names; length_is = is.represents.length_is }
 
 -- and its slots are those of the tree's table
 shows_table : (image : List ℕ) (t : Tree) (p : Parameters) → Represents image t p → ShowsTable p.slots image (table_of t p)
@@ -50,8 +50,8 @@ directories_of image t p is =
       tree = represents.tree;
       fits = represents.fits;
       shows = shows_table image (tree_of paths) p represents;
-      slots = table_slots paths p is.served.valid represents.tree represents.fits;
-      keys = IsPermutation-sym (keys_of_paths paths) (keys_of (table_of (tree_of paths) p)) (table_keys paths p is.served.valid represents.tree represents.fits);
+      slots = table_slots paths p is.represents.names.in_range represents.tree represents.fits;
+      keys = IsPermutation-sym (keys_of_paths paths) (keys_of (table_of (tree_of paths) p)) (table_keys paths p is.represents.names.in_range represents.tree represents.fits);
     }
 
 -- what was only read has them still
@@ -72,9 +72,8 @@ directory_entries [] = tt
 directory_entries (path ∷ paths) = (refl, directory_entries paths)
 
 -- an image whose slots are those of the table of directories represents them
-pub served_by_slots : (image : List ℕ) (paths : List Path) (p : Parameters) → NamesServed image p → IsTree (tree_of paths) → Fits (tree_of paths) p → ShowsTable p.slots image (table_of (tree_of paths) p) → IsServedImage image (tree_of paths) p
+pub served_by_slots : (image : List ℕ) (paths : List Path) (p : Parameters) → IsImageWith image p → IsTree (tree_of paths) → Fits (tree_of paths) p → ShowsTable p.slots image (table_of (tree_of paths) p) → IsServedImage image (tree_of paths) p
 served_by_slots image paths p named tree fits shows = record {
-  served = named.served;
   directories = record { tree = tree; directories = directory_entries paths };
   represents = slots-represent image (tree_of paths) p named.names named.length_is tree fits (λ i held below there. shows.slot i held there);
 }
@@ -83,7 +82,7 @@ served_by_slots image paths p named tree fits shows = record {
 pub represents_as : (old new : List ℕ) (t u : Tree) (p q : Parameters) → IsServedImage old t p → IsServedImage old u q → length new ≡ length old → recovered q.slots new ≡ recovered q.slots old → Represents new t p
 represents_as old new t u p q is other long same =
     let one = (images_tell old t u p q is.represents other.represents).1 in
-    recovered-represents new t p is.served.valid is.represents.tree is.represents.fits (long ∙ is.represents.length_is)
+    recovered-represents new t p is.represents.names.in_range is.represents.tree is.represents.fits (long ∙ is.represents.length_is)
     (subst (λ (r : Parameters). recovered r.slots new ≡ recovered r.slots old) (sym one) same ∙ is.represents.layout_is)
 
 -- a table is shown after reads as before them

@@ -1,70 +1,49 @@
--- Lemmas on the words that are served today.
+-- Lemmas on the words that are served.
 use Rattle.std.proofs.Common.{◌≡◌, ◌≢◌, ℕ, ◌<◌, ◌≤◌, List, [], ◌∷◌, length, Bool, true, false, cond, ◌&&◌, Option, Some, None, eqb, leb, refl, sym, ap, ◌∙◌, inl, inr, ◌⊎◌, ⊎_elim, arith, codes, if◌then◌else◌, Result, Ok, Err, IsOk, IfOk, ◌↔◌}
 use Rattle.std.specs.Option.{option_map}
+use Rattle.std.specs.Cmp.Lexicographic.{bytes_decides}
 use Rattle.std.specs.Result.{result_ok, OkIff}
 use Rattle.std.proofs.lemmas.Bool.{cases_Bool, false≢true, eqb-true, eq-eqb, le-leb, lt-leb, leb-true}
 use Rattle.hex.specs.Hex.{decode_of, decode_sized}
 use Rattle.hex.specs.declared.error.FromHexError.{FromHexError}
 use Rattle.hex.proofs.HexLemmas.{decode_sized-twice, decode_sized-ok}
-use Rattle.store_model.specs.Parameters.{Parameters, IsParameters}
+use Rattle.store_model.specs.Parameters.{Parameters, IsParameters, slots_limit}
 use Rattle.store_model.specs.declared.draw_kind.DrawKind.{DrawKind}
-use Rattle.store_model.specs.declared.draw_kind.DrawKind.TheVariants.{Ruler, Sha256}
 use Rattle.store_model.specs.Lists.{IsBytes, same_bytes}
-use Rattle.store_model.specs.Grammar.{number_of, ◌>>=◌, ok_value}
-use Rattle.store_model.specs.Words.{Request, request_of, number_in, kind_of_word, seed_of_word, on_command}
+use Rattle.store_model.specs.Grammar.{number_of, ◌>>=◌, ok_value, on_word}
+use Rattle.store_model.specs.Words.{Request, request_of, number_in, kind_of_word, seed_of_word}
 use Rattle.store_model.specs.Words.Request.{Format, Run, Check, Scrub, Wipe, Big}
 use Rattle.store_model.proofs.ListsLemmas.{first_true, second_true}
-use Rattle.store_top.specs.TodayWords.{request_today, served}
+use Rattle.store_top.specs.ServedWords.{served_request, served}
+
+-- the parameters of two numbers, a draw and a seed
+abbrev pub params_of : ℕ → ℕ → DrawKind → List ℕ → Parameters
+params_of n h kind seed = record { slots = n; height = h; kind = kind; seed = seed }
 
 -- what `format` asks for, by what its four arguments spell
 abbrev format_by : Option ℕ → Option ℕ → Option DrawKind → Option (List ℕ) → Option Request
-format_by slots height kind seed = slots >>= λ n. height >>= λ h. kind >>= λ k. seed >>= λ s. Some (Format (record { slots = n; height = h; kind = k; seed = s }))
+format_by slots height kind seed = slots >>= λ n. height >>= λ h. kind >>= λ k. seed >>= λ s. Some (Format (params_of n h k s))
 
 -- another word asks for nothing
-pub other_word : (w a b k s : List ℕ) → same_bytes w (codes "format") ≡ false → request_today (w ∷ a ∷ b ∷ k ∷ s ∷ []) ≡ None
-unfolding request_today request_of
+pub other_word : (w a b k s : List ℕ) → same_bytes w (codes "format") ≡ false → served_request (w ∷ a ∷ b ∷ k ∷ s ∷ []) ≡ None
+unfolding served_request request_of
 other_word w a b k s h = rw h refl
 
-other_kind : (c : Bool) (n h : Option ℕ) (k : Option DrawKind) (s : Option (List ℕ)) → (k ≡ Some Sha256) ⊎ (k ≡ None) → ((cond c (format_by n h k s) None) >>= served) ≡ None
-other_kind false n h k s o = refl
-other_kind true None h k s o = refl
-other_kind true (Some n) None k s o = refl
-other_kind true (Some n) (Some h) k None (inl e) = rw e refl
-other_kind true (Some n) (Some h) k (Some s) (inl e) = rw e refl
-other_kind true (Some n) (Some h) k s (inr e) = rw e refl
+-- the words of `format`
+abbrev pub format_words : List ℕ → List ℕ → List ℕ → List ℕ → List (List ℕ)
+format_words a b k s = codes "format" ∷ a ∷ b ∷ k ∷ s ∷ []
 
-other_kind_of_word : (k : List ℕ) → same_bytes k (codes "ruler") ≡ false → (kind_of_word k ≡ Some Sha256) ⊎ (kind_of_word k ≡ None)
-unfolding kind_of_word
-other_kind_of_word k e =
-    rw e (elim (same_bytes k (codes "sha256")) as (λ b. ((if b then Some Sha256 else None) ≡ Some Sha256) ⊎ ((if b then Some Sha256 else None) ≡ None)) [ true ↦ inl refl | false ↦ inr refl ])
+served_format : (n h : Option ℕ) (k : Option DrawKind) (s : Option (List ℕ)) → (format_by n h k s >>= served) ≡ format_by n h k s
+served_format None h k s = refl
+served_format (Some n) None k s = refl
+served_format (Some n) (Some h) None s = refl
+served_format (Some n) (Some h) (Some k) None = refl
+served_format (Some n) (Some h) (Some k) (Some s) = refl
 
--- another draw is not served
-pub other_draw : (w a b k s : List ℕ) → same_bytes k (codes "ruler") ≡ false → request_today (w ∷ a ∷ b ∷ k ∷ s ∷ []) ≡ None
-unfolding request_today request_of
-other_draw w a b k s h =
-    other_kind (same_bytes w (codes "format")) (number_in 1 16384 a) (number_in 1 8 b) (kind_of_word k) (seed_of_word s) (other_kind_of_word k h)
-
--- the words of `format` with the draw `ruler`
-abbrev pub ruler_words : List ℕ → List ℕ → List ℕ → List (List ℕ)
-ruler_words a b s = codes "format" ∷ a ∷ b ∷ codes "ruler" ∷ s ∷ []
-
--- the parameters of two numbers and a seed, with that draw
-abbrev pub ruler_of : ℕ → ℕ → List ℕ → Parameters
-ruler_of n h seed = record { slots = n; height = h; kind = Ruler; seed = seed }
-
--- what those words ask for
-abbrev ruler_request : Option ℕ → Option ℕ → Option (List ℕ) → Option Request
-ruler_request slots height seed = slots >>= λ n. height >>= λ h. seed >>= λ s. Some (Format (ruler_of n h s))
-
-served_ruler : (n h : Option ℕ) (s : Option (List ℕ)) → (format_by n h (Some Ruler) s >>= served) ≡ ruler_request n h s
-served_ruler None h s = refl
-served_ruler (Some n) None s = refl
-served_ruler (Some n) (Some h) None = refl
-served_ruler (Some n) (Some h) (Some s) = refl
-
-today_ruler : (a b s : List ℕ) → request_today (ruler_words a b s) ≡ ruler_request (number_in 1 16384 a) (number_in 1 8 b) (seed_of_word s)
-unfolding request_today request_of kind_of_word
-today_ruler a b s = served_ruler (number_in 1 16384 a) (number_in 1 8 b) (seed_of_word s)
+-- what they ask for
+asked : (a b k s : List ℕ) → served_request (format_words a b k s) ≡ format_by (number_in 1 slots_limit a) (number_in 1 8 b) (kind_of_word k) (seed_of_word s)
+unfolding served_request request_of
+asked a b k s = served_format (number_in 1 slots_limit a) (number_in 1 8 b) (kind_of_word k) (seed_of_word s)
 
 -- a number, where it lies in the range
 abbrev in_range : ℕ → ℕ → ℕ → Option ℕ
@@ -84,27 +63,37 @@ number_in_some : (low high n : ℕ) (w : List ℕ) → number_of w ≡ Some n �
 unfolding number_in
 number_in_some low high n w e = rw e refl
 
-no_height_request : (n : Option ℕ) (s : Option (List ℕ)) → ruler_request n None s ≡ None
-no_height_request None s = refl
-no_height_request (Some n) s = refl
+no_height_request : (n : Option ℕ) (k : Option DrawKind) (s : Option (List ℕ)) → format_by n None k s ≡ None
+no_height_request None k s = refl
+no_height_request (Some n) k s = refl
 
-no_seed_request : (n h : Option ℕ) → ruler_request n h None ≡ None
-no_seed_request None h = refl
-no_seed_request (Some n) None = refl
-no_seed_request (Some n) (Some h) = refl
+no_kind_request : (n h : Option ℕ) (s : Option (List ℕ)) → format_by n h None s ≡ None
+no_kind_request None h s = refl
+no_kind_request (Some n) None s = refl
+no_kind_request (Some n) (Some h) s = refl
 
--- a word that spells no number of slots, or of levels, or no seed
-pub no_slots : (a b s : List ℕ) → number_of a ≡ None → request_today (ruler_words a b s) ≡ None
-no_slots a b s e = rw (today_ruler a b s, number_in_none 1 16384 a e) refl
+no_seed_request : (n h : Option ℕ) (k : Option DrawKind) → format_by n h k None ≡ None
+no_seed_request None h k = refl
+no_seed_request (Some n) None k = refl
+no_seed_request (Some n) (Some h) None = refl
+no_seed_request (Some n) (Some h) (Some k) = refl
 
-pub no_height : (a b s : List ℕ) → number_of b ≡ None → request_today (ruler_words a b s) ≡ None
-no_height a b s e = rw (today_ruler a b s, number_in_none 1 8 b e) (no_height_request (number_in 1 16384 a) (seed_of_word s))
+-- a word that spells no number of slots, or of levels, or no draw, or no seed
+pub no_slots : (a b k s : List ℕ) → number_of a ≡ None → served_request (format_words a b k s) ≡ None
+no_slots a b k s e = rw (asked a b k s, number_in_none 1 slots_limit a e) refl
 
-pub great_height : (a b s : List ℕ) (h : ℕ) → number_of b ≡ Some h → 8 < h → request_today (ruler_words a b s) ≡ None
-great_height a b s h e great = rw (today_ruler a b s, number_in_some 1 8 h b e, in_range_no 1 8 h great) (no_height_request (number_in 1 16384 a) (seed_of_word s))
+pub no_height : (a b k s : List ℕ) → number_of b ≡ None → served_request (format_words a b k s) ≡ None
+no_height a b k s e = rw (asked a b k s, number_in_none 1 8 b e) (no_height_request (number_in 1 slots_limit a) (kind_of_word k) (seed_of_word s))
 
-pub no_seed : (a b s : List ℕ) → seed_of_word s ≡ None → request_today (ruler_words a b s) ≡ None
-no_seed a b s e = rw (today_ruler a b s, e) (no_seed_request (number_in 1 16384 a) (number_in 1 8 b))
+pub great_height : (a b k s : List ℕ) (h : ℕ) → number_of b ≡ Some h → 8 < h → served_request (format_words a b k s) ≡ None
+great_height a b k s h e great =
+    rw (asked a b k s, number_in_some 1 8 h b e, in_range_no 1 8 h great) (no_height_request (number_in 1 slots_limit a) (kind_of_word k) (seed_of_word s))
+
+pub no_kind : (a b k s : List ℕ) → kind_of_word k ≡ None → served_request (format_words a b k s) ≡ None
+no_kind a b k s e = rw (asked a b k s, e) (no_kind_request (number_in 1 slots_limit a) (number_in 1 8 b) (seed_of_word s))
+
+pub no_seed : (a b k s : List ℕ) → seed_of_word s ≡ None → served_request (format_words a b k s) ≡ None
+no_seed a b k s e = rw (asked a b k s, e) (no_seed_request (number_in 1 slots_limit a) (number_in 1 8 b) (kind_of_word k))
 
 -- a number that is read into a byte, and one that does not fit
 pub fits_byte : {E : Type 0} (r : Result ℕ E) (n x : ℕ) → OkIff r (n < 256) n → Some x ≡ result_ok r → x ≡ n
@@ -115,14 +104,14 @@ pub passes_byte : {E : Type 0} (r : Result ℕ E) (n : ℕ) → OkIff r (n < 256
 passes_byte (Ok y) n h e = absurd (cc)
 passes_byte (Err d) n h e = omega (arith, h)
 
--- what is made of two numbers and a seed of 32 bytes, exactly where they are in range, is what the words ask for
-made : {E : Type 0} (r : Result Parameters E) (n h : ℕ) (seed : List ℕ) → length seed ≡ 32 → IsBytes seed
-    → IsOk r ↔ IsParameters (ruler_of n h seed) → IfOk r (λ p. p ≡ ruler_of n h seed)
-    → option_map Format (result_ok r) ≡ ruler_request (in_range 1 16384 n) (in_range 1 8 h) (Some seed)
-made (Ok p) n h seed size bytes exact value =
+-- what is made of two numbers, a draw and a seed of 32 bytes, exactly where they are in range, is what the words ask for
+made : {E : Type 0} (r : Result Parameters E) (n h : ℕ) (kind : DrawKind) (seed : List ℕ) → length seed ≡ 32 → IsBytes seed
+    → IsOk r ↔ IsParameters (params_of n h kind seed) → IfOk r (λ p. p ≡ params_of n h kind seed)
+    → option_map Format (result_ok r) ≡ format_by (in_range 1 slots_limit n) (in_range 1 8 h) (Some kind) (Some seed)
+made (Ok p) n h kind seed size bytes exact value =
     let valid = exact.0 refl in
-    rw (in_range_yes 1 16384 n valid.some_slot valid.slots_in_range, in_range_yes 1 8 h valid.some_level valid.height_in_range) (ap (λ q. Some (Format q)) value)
-made (Err e) n h seed size bytes exact value =
+    rw (in_range_yes 1 slots_limit n valid.some_slot valid.slots_in_range, in_range_yes 1 8 h valid.some_level valid.height_in_range) (ap (λ q. Some (Format q)) value)
+made (Err e) n h kind seed size bytes exact value =
     ⊎_elim
     (λ few. ⊎_elim
     (λ low. absurd (false≢true (exact.1 (record {
@@ -133,27 +122,27 @@ made (Err e) n h seed size bytes exact value =
       seed_length = size;
       seed_bytes = bytes;
     }))))
-    (λ low. rw low (sym (no_height_request (in_range 1 16384 n) (Some seed))))
+    (λ low. rw low (sym (no_height_request (in_range 1 slots_limit n) (Some kind) (Some seed))))
     (cases_Bool (leb 1 h && leb h 8)))
     (λ few. rw few refl)
-    (cases_Bool (leb 1 n && leb n 16384))
+    (cases_Bool (leb 1 n && leb n slots_limit))
 
-pub made_today : {E : Type 0} (r : Result Parameters E) (a b s : List ℕ) (n h : ℕ) (seed : List ℕ)
-    → number_of a ≡ Some n → number_of b ≡ Some h → seed_of_word s ≡ Some seed → length seed ≡ 32 → IsBytes seed
-    → IsOk r ↔ IsParameters (ruler_of n h seed) → IfOk r (λ p. p ≡ ruler_of n h seed)
-    → option_map Format (result_ok r) ≡ request_today (ruler_words a b s)
-made_today r a b s n h seed slots height digits size bytes exact value =
-    rw (today_ruler a b s, number_in_some 1 16384 n a slots, number_in_some 1 8 h b height, digits) (made r n h seed size bytes exact value)
+pub made_request : {E : Type 0} (r : Result Parameters E) (a b k s : List ℕ) (n h : ℕ) (kind : DrawKind) (seed : List ℕ)
+    → number_of a ≡ Some n → number_of b ≡ Some h → kind_of_word k ≡ Some kind → seed_of_word s ≡ Some seed → length seed ≡ 32 → IsBytes seed
+    → IsOk r ↔ IsParameters (params_of n h kind seed) → IfOk r (λ p. p ≡ params_of n h kind seed)
+    → option_map Format (result_ok r) ≡ served_request (format_words a b k s)
+made_request r a b k s n h kind seed slots height draw digits size bytes exact value =
+    rw (asked a b k s, number_in_some 1 slots_limit n a slots, number_in_some 1 8 h b height, draw, digits) (made r n h kind seed size bytes exact value)
 
 -- a single word is served where it is `run`
-pub single_word : (w : List ℕ) → request_today (w ∷ []) ≡ (if same_bytes w (codes "run") then Some Run else None)
-unfolding request_today request_of
+pub single_word : (w : List ℕ) → served_request (w ∷ []) ≡ (if same_bytes w (codes "run") then Some Run else None)
+unfolding served_request request_of
 single_word w =
-    elim (same_bytes w (codes "run")) as (λ b. ((cond b (Some Run) (on_command w (codes "check") (Some Check) (on_command w (codes "scrub") (Some Scrub) (on_command w (codes "wipe") (Some Wipe) None)))) >>= served) ≡ cond b (Some Run) None) [
+    elim (same_bytes w (codes "run")) as (λ b. ((cond b (Some Run) (on_word w (codes "check") (Some Check) (on_word w (codes "scrub") (Some Scrub) (on_word w (codes "wipe") (Some Wipe) None)))) >>= served) ≡ cond b (Some Run) None) [
       | true ↦ refl
-      | false ↦ elim (same_bytes w (codes "check")) as (λ b. ((cond b (Some Check) (on_command w (codes "scrub") (Some Scrub) (on_command w (codes "wipe") (Some Wipe) None))) >>= served) ≡ None) [
+      | false ↦ elim (same_bytes w (codes "check")) as (λ b. ((cond b (Some Check) (on_word w (codes "scrub") (Some Scrub) (on_word w (codes "wipe") (Some Wipe) None))) >>= served) ≡ None) [
         | true ↦ refl
-        | false ↦ elim (same_bytes w (codes "scrub")) as (λ b. ((cond b (Some Scrub) (on_command w (codes "wipe") (Some Wipe) None)) >>= served) ≡ None) [
+        | false ↦ elim (same_bytes w (codes "scrub")) as (λ b. ((cond b (Some Scrub) (on_word w (codes "wipe") (Some Wipe) None)) >>= served) ≡ None) [
           | true ↦ refl
           | false ↦ elim (same_bytes w (codes "wipe")) as (λ b. ((cond b (Some Wipe) None) >>= served) ≡ None) [ true ↦ refl | false ↦ refl ]
         ]
@@ -167,8 +156,8 @@ big_is_none true (Some n) (Some k) = refl
 big_is_none false o q = refl
 
 -- lists of other lengths are not served
-pub other_words : (ws : List (List ℕ)) → length ws ≢ 1 → length ws ≢ 5 → request_today ws ≡ None
-unfolding request_today request_of
+pub other_words : (ws : List (List ℕ)) → length ws ≢ 1 → length ws ≢ 5 → served_request ws ≡ None
+unfolding served_request request_of
 other_words [] one five = refl
 other_words (a ∷ []) one five = absurd (one refl)
 other_words (a ∷ b ∷ []) one five = refl
@@ -200,3 +189,11 @@ seed_decoded w r e =
     (λ h. ap result_ok (decode_sized-twice w 32 (eqb-true _ _ h)) ∙ same_value (decode_of w) ∙ sym (seed_right w h))
     (λ h. no_value (decode_sized w 32) (λ bytes q. false≢true (sym h ∙ eq-eqb _ _ (decode_sized-ok w 32 bytes q))) ∙ sym (seed_wrong w h))
     (cases_Bool (eqb (length w) 64))
+
+not_same : (xs ys : List ℕ) → xs ≢ ys → same_bytes xs ys ≡ false
+not_same xs ys other = ⊎_elim (λ yes. absurd (other ((bytes_decides xs ys).0 yes))) (λ no. no) (cases_Bool (same_bytes xs ys))
+
+-- a word that is neither of the two names no draw
+pub other_kind : (w : List ℕ) → w ≢ codes "ruler" → w ≢ codes "sha256" → kind_of_word w ≡ None
+unfolding kind_of_word
+other_kind w ruler sha = rw (not_same w (codes "ruler") ruler, not_same w (codes "sha256") sha) refl

@@ -25,6 +25,10 @@ abbrev pub keys_in : Option Page → List (List ℕ)
 keys_in None = []
 keys_in (Some page) = if page.label.level == 0 then map (λ cell. cell.key) page.cells else []
 
+-- the most keys that an image has: ten in a slot
+abbrev pub keys_limit : ℕ
+keys_limit = 163840
+
 -- the keys that a table holds on level 0, slot after slot
 abbrev pub keys_of : Table → List (List ℕ)
 keys_of table = flat_map keys_in table

@@ -1,6 +1,8 @@
 -- The slots in which two tables differ.
-use Rattle.std.specs.Prelude.{◌≡◌, ◌≢◌, ℕ, ◌<◌, List, [], length, slice_get, slice_index}
+use Rattle.std.specs.Prelude.{◌≡◌, ◌≢◌, ℕ, ◌<◌, List, [], length, not, slice_get, slice_index}
+use Rattle.std.specs.List.{count_by}
 use Rattle.std.specs.Option.{option_map_or}
+use Rattle.store_model.specs.Lists.{numbers_below, same_bytes}
 use Rattle.store_model.specs.Placement.{Table}
 use Rattle.store_model.specs.Images.{slot_bytes}
 use Rattle.gate_journal.specs.Changes as journal
@@ -8,6 +10,10 @@ use Rattle.gate_journal.specs.Changes as journal
 -- the bytes of slot i of the table, and none past its end
 abbrev pub bytes_of : Table → ℕ → List ℕ
 bytes_of table i = option_map_or slot_bytes (slice_get table i) []
+
+-- how many of the first slots have other bytes in the one table than in the other
+abbrev pub differing : Table → Table → ℕ → ℕ
+differing old new slots = count_by (λ i. not (same_bytes (bytes_of old i) (bytes_of new i))) (numbers_below slots)
 
 -- these slots, with the bytes that they have in the table
 abbrev pub changes_of : Table → List ℕ → journal.Changes
@@ -22,3 +28,4 @@ pub record AreDifferences (old new : Table) (slots : ℕ) (changes : journal.Cha
   pub others : (i : ℕ) → i < slots → ((k : ℕ) → k < changes.count → changes.slot k ≢ i) → bytes_of old i ≡ bytes_of new i
   -- each that is among them has other bytes
   pub differ : (k : ℕ) → k < changes.count → bytes_of old (changes.slot k) ≢ bytes_of new (changes.slot k)
+  pub count_is : changes.count ≡ differing old new slots

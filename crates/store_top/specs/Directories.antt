@@ -2,7 +2,7 @@
 use Rattle.std.specs.Prelude.{◌≡◌, ℕ, ◌<◌, ◌≤◌, List, map, length}
 use Rattle.std.specs.List.{AllByRecursion, insert}
 use Rattle.std.specs.FinMap.{put}
-use Rattle.store_model.specs.Parameters.{Parameters, image_len}
+use Rattle.store_model.specs.Parameters.{Parameters, IsParameters, image_len}
 use Rattle.store_model.specs.Paths.{Path, path_cmp, key}
 use Rattle.store_model.specs.Trees.{Tree, Node, IsTree}
 use Rattle.store_model.specs.Trees.Node.{Directory}
@@ -14,7 +14,6 @@ use Rattle.store_model.specs.Images.{NamesParameters, Represents}
 use Rattle.disk_model.specs.DiskState.{DiskState, MayLeaveOnly}
 use Rattle.layout_scratch.specs.declared.fault.ScratchFault.{ScratchFault}
 use Rattle.layout_scratch.specs.declared.fault.ScratchFault.TheVariants.{Full, NoMemory}
-use Rattle.store_top.specs.TodayWords.{IsServed}
 
 -- the tree with these directories
 abbrev pub tree_of : List Path → Tree
@@ -38,21 +37,18 @@ pub record IsDirectoryTree (t : Tree) : Type 0 where
   pub tree : IsTree t
   pub directories : AllByRecursion IsDirectoryEntry t
 
--- the image's header names parameters that are served, and the image has their length
-pub record NamesServed (image : List ℕ) (p : Parameters) : Type 0 where
-  pub served : IsServed p
+-- the image's header names these parameters, and the image has their length
+pub record IsImageWith (image : List ℕ) (p : Parameters) : Type 0 where
   pub names : NamesParameters image p
   pub length_is : length image ≡ image_len p.slots
 
 -- the image represents such a tree under such parameters
 pub record IsServedImage (image : List ℕ) (t : Tree) (p : Parameters) : Type 0 where
-  pub served : IsServed p
   pub directories : IsDirectoryTree t
   pub represents : Represents image t p
 
 -- each image that a crash at this moment may leave represents such a tree under such parameters
 pub record MayLeaveServed (disk : DiskState) (t : Tree) (p : Parameters) : Type 0 where
-  pub served : IsServed p
   pub directories : IsDirectoryTree t
   pub represents : MayLeaveOnly disk (λ image. Represents image t p)
 
@@ -62,7 +58,7 @@ table_of t p = place (draw_of p) (pages t p)
 
 -- a store with these parameters, directories and table: the directories are a tree that fits, and the table is its
 pub record IsStore (p : Parameters) (paths : List Path) (table : Table) : Type 0 where
-  pub served : IsServed p
+  pub valid : IsParameters p
   pub tree : IsTree (tree_of paths)
   pub fits : Fits (tree_of paths) p
   pub table_is : table ≡ table_of (tree_of paths) p

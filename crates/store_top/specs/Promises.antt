@@ -14,7 +14,7 @@ use Rattle.disk_model.specs.DiskCalls.{LeavesOnly}
 use Rattle.script_lines.specs.Lines.{ended_lines}
 use Rattle.store_top.specs.declared.status.Status.{Status}
 use Rattle.store_top.specs.declared.status.Status.TheVariants as statuses
-use Rattle.store_top.specs.Disks.{Stands, IsUnwritten}
+use Rattle.store_top.specs.Disks.{Stands, IsOnlySynced}
 
 -- the call ended before the script did, and not because of the sink: by the source, the disk, the script's length or
 -- want of memory
@@ -69,7 +69,7 @@ pub record PromisesImage (status : Status) (done : ℕ) (trees : ℕ → Tree) (
   -- between two lines it is the layout of the tree after the lines carried out, and durable
   pub between : IsBetweenLines status → Stands new (trees done) p
   -- for want of memory it is so too, or nothing was done
-  pub no_memory : status ≡ statuses.NoMemory → Stands new (trees done) p ⊎ ((done ≡ 0) × IsUnwritten old new)
+  pub no_memory : status ≡ statuses.NoMemory → Stands new (trees done) p ⊎ ((done ≡ 0) × IsOnlySynced old new)
   -- where the disk failed the image represents the tree before or after the line in progress
   pub fault : status ≡ statuses.DiskFault → Represents new.bytes (trees done) p ⊎ Represents new.bytes (trees (done + 1)) p
 

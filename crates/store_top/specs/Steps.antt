@@ -1,18 +1,10 @@
 -- Words for the calls of a store.
-use Rattle.std.specs.Prelude.{◌≡◌}
-use Rattle.store_model.specs.declared.refusal.Refusal.{Refusal}
-use Rattle.store_model.specs.Commands.{Reply}
-use Rattle.store_model.specs.Commands.Reply.{Refused}
 use Rattle.store_base.specs.declared.store_fault.Fault.{Fault}
 use Rattle.store_base.specs.declared.store_fault.Fault.TheVariants as causes
 use Rattle.store_top.specs.declared.status.Status.{Status}
 use Rattle.store_top.specs.declared.status.Status.TheVariants as statuses
 use Rattle.store_top.specs.declared.attach.AttachFault.{AttachFault}
 use Rattle.store_top.specs.declared.attach.AttachFault.TheVariants as faults
-
--- the reply is a refusal
-abbrev pub IsRefused : Reply → Type 0
-IsRefused reply = (refusal : Refusal) × (reply ≡ Refused refusal)
 
 -- why a store could not be had, where a call that stands below failed
 abbrev pub attach_fault_of : Fault → AttachFault

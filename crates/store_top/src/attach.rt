@@ -1,7 +1,6 @@
 //! How an image becomes a store: it is checked as recovery would leave it, and then recovered.
 
 ghost use Rattle.std.specs.Prelude.{◌≡◌, ◌⊎◌, ◌≢◌, ℕ, List, [], length, IsErrOf, IfOk, IfErr, OnOk};
-ghost use Rattle.store_base.specs.Counts.{Rose};
 ghost use Rattle.store_model.specs.Parameters as model;
 ghost use Rattle.store_model.specs.Trees.{Tree};
 ghost use Rattle.store_model.specs.Images.{Represents};
@@ -9,9 +8,10 @@ ghost use Rattle.disk_model.specs.DiskState.{IsObservable};
 ghost use Rattle.disk_model.specs.DiskCalls.{LeavesOnly};
 ghost use Rattle.gate_journal.specs.Phases.{HasEmptyJournal};
 ghost use Rattle.gate_journal.specs.Places.{ReadsOnly};
-ghost use Rattle.store_top.specs.Disks.{KeepsDisk, IsUnwritten, Stands};
-ghost use Rattle.store_top.specs.TodayWords.{IsServed};
-ghost use Rattle.store_top.specs.Directories.{NamesServed, IsServedImage, IsStore, tree_of};
+ghost use Rattle.store_top.specs.Faults.{attach_faults_after};
+ghost use Rattle.store_top.specs.Costs.{CountsOpening};
+ghost use Rattle.store_top.specs.Disks.{KeepsDisk, IsOnlySynced, IsUnwritten, Stands};
+ghost use Rattle.store_top.specs.Directories.{IsImageWith, IsServedImage, IsStore, tree_of};
 ghost use Rattle.store_top.specs.declared.attach.AttachFault.TheVariants as faults;
 
 mod compare;
@@ -124,25 +124,30 @@ pub struct Shown {
 ///
 /// `NotImage`, exactly where the header names no parameters that are served or the length is not theirs; `Damaged`,
 /// exactly where what recovery would leave is no layout of a tree of directories. After these and after `NoMemory`
-/// nothing was written.
+/// nothing was written, and the sync before the check was the only one. An image with an empty journal takes one sync
+/// more and no write; otherwise the marked slots, the flag and each block of the journal that is not zero are written once.
 pub fn open_image<D: Disk>(alloc: Global, disk: &mut D) -> Result<Shown, AttachFault>
     ensures keeps { KeepsDisk (D.state disk.old) (D.state disk.new) }
-    ensures cause { IsErrOf result AttachFault.Disk → Rose (D.state disk.old).faults (D.state disk.new).faults }
-    ensures unwritten { IsObservable (D.state disk.old) → (IsErrOf result AttachFault.Disk → ⊥) → IfErr result (λ _. IsUnwritten (D.state disk.old) (D.state disk.new)) }
+    ensures faults { (D.state disk.new).faults ≡ attach_faults_after (D.state disk.old).faults result }
+    ensures unwritten { IsObservable (D.state disk.old) → (IsErrOf result AttachFault.Disk → ⊥) → IfErr result (λ _. IsOnlySynced (D.state disk.old) (D.state disk.new)) }
     ensures store { IfOk result (λ shown. IsStore shown.params shown.paths.items shown.layout) }
     ensures size { IfOk result (λ shown. (D.state disk.old).size ≡ model.image_len shown.params.slots) }
     ensures found { IsObservable (D.state disk.old) → IfOk result (λ shown. IsServedImage (D.state disk.old).bytes (tree_of shown.paths.items) shown.params) }
     ensures stands { IsObservable (D.state disk.old) → IfOk result (λ shown. Stands (D.state disk.new) (tree_of shown.paths.items) shown.params) }
     ensures after_fault { IsObservable (D.state disk.old) → IsErrOf result AttachFault.Disk → (t : Tree) (p : model.Parameters) → IsServedImage (D.state disk.old).bytes t p → Represents (D.state disk.new).bytes t p }
-    ensures named { IsObservable (D.state disk.old) → IsErrOf result AttachFault.Damaged → (p : model.Parameters) × NamesServed (D.state disk.old).bytes p }
-    ensures only_named { IsObservable (D.state disk.old) → (p : model.Parameters) → NamesServed (D.state disk.old).bytes p → IsErrOf result AttachFault.NotImage → ⊥ }
+    ensures named { IsObservable (D.state disk.old) → IsErrOf result AttachFault.Damaged → (p : model.Parameters) × IsImageWith (D.state disk.old).bytes p }
+    ensures only_named { IsObservable (D.state disk.old) → (p : model.Parameters) → IsImageWith (D.state disk.old).bytes p → IsErrOf result AttachFault.NotImage → ⊥ }
     ensures only { IsObservable (D.state disk.old) → (t : Tree) (p : model.Parameters) → IsServedImage (D.state disk.old).bytes t p → IsErrOf result AttachFault.Damaged → ⊥ }
-    ensures sized { IsErrOf result AttachFault.Damaged → (p : model.Parameters) × IsServed p × ((D.state disk.old).size ≡ model.image_len p.slots) }
-    ensures unserved { IsObservable (D.state disk.old) → ((t : Tree) (p : model.Parameters) → IsServedImage (D.state disk.old).bytes t p → ⊥) → IsUnwritten (D.state disk.old) (D.state disk.new) }
+    ensures sized { IsErrOf result AttachFault.Damaged → (p : model.Parameters) × model.IsParameters p × ((D.state disk.old).size ≡ model.image_len p.slots) }
+    ensures unserved { IsObservable (D.state disk.old) → ((t : Tree) (p : model.Parameters) → IsServedImage (D.state disk.old).bytes t p → ⊥) → IsOnlySynced (D.state disk.old) (D.state disk.new) }
     ensures crash { IsObservable (D.state disk.old) → (t : Tree) (p : model.Parameters) → IsServedImage (D.state disk.old).bytes t p
         → LeavesOnly (D.state disk.old) (D.state disk.new) (λ image. (D.state disk.old).crash_images image ⊎ Represents image t p) }
+    ensures unserved_crash { IsObservable (D.state disk.old) → ((t : Tree) (p : model.Parameters) → IsServedImage (D.state disk.old).bytes t p → ⊥)
+        → LeavesOnly (D.state disk.old) (D.state disk.new) (D.state disk.old).crash_images }
     ensures quiet { IsObservable (D.state disk.old) → (t : Tree) (p : model.Parameters) → IsServedImage (D.state disk.old).bytes t p → HasEmptyJournal p.slots (D.state disk.old).bytes
         → IfOk result (λ _. IsUnwritten (D.state disk.old) (D.state disk.new)) }
+    ensures counts { IsObservable (D.state disk.old) → (t : Tree) (p : model.Parameters) → IsServedImage (D.state disk.old).bytes t p
+        → CountsOpening p.slots (D.state disk.old) (D.state disk.new) result }
 {
     disk.sync()?;
     let shown = check_image(alloc, disk)?;
@@ -153,15 +158,15 @@ pub fn open_image<D: Disk>(alloc: Global, disk: &mut D) -> Result<Shown, AttachF
 /// Checks an image as recovery would leave it, and writes nothing.
 fn check_image<D: Disk>(alloc: Global, disk: &mut D) -> Result<Shown, AttachFault>
     ensures keeps { KeepsDisk (D.state disk.old) (D.state disk.new) }
-    ensures cause { IsErrOf result AttachFault.Disk → Rose (D.state disk.old).faults (D.state disk.new).faults }
+    ensures faults { (D.state disk.new).faults ≡ attach_faults_after (D.state disk.old).faults result }
     ensures reads { IsObservable (D.state disk.old) → ReadsOnly (D.state disk.old) (D.state disk.new) }
     ensures store { IfOk result (λ shown. IsStore shown.params shown.paths.items shown.layout) }
     ensures size { IfOk result (λ shown. (D.state disk.old).size ≡ model.image_len shown.params.slots) }
     ensures found { IsObservable (D.state disk.old) → IfOk result (λ shown. IsServedImage (D.state disk.old).bytes (tree_of shown.paths.items) shown.params) }
-    ensures named { IsObservable (D.state disk.old) → IsErrOf result AttachFault.Damaged → (p : model.Parameters) × NamesServed (D.state disk.old).bytes p }
-    ensures only_named { IsObservable (D.state disk.old) → (p : model.Parameters) → NamesServed (D.state disk.old).bytes p → IsErrOf result AttachFault.NotImage → ⊥ }
+    ensures named { IsObservable (D.state disk.old) → IsErrOf result AttachFault.Damaged → (p : model.Parameters) × IsImageWith (D.state disk.old).bytes p }
+    ensures only_named { IsObservable (D.state disk.old) → (p : model.Parameters) → IsImageWith (D.state disk.old).bytes p → IsErrOf result AttachFault.NotImage → ⊥ }
     ensures only { IsObservable (D.state disk.old) → (t : Tree) (p : model.Parameters) → IsServedImage (D.state disk.old).bytes t p → IsErrOf result AttachFault.Damaged → ⊥ }
-    ensures sized { IsErrOf result AttachFault.Damaged → (p : model.Parameters) × IsServed p × ((D.state disk.old).size ≡ model.image_len p.slots) }
+    ensures sized { IsErrOf result AttachFault.Damaged → (p : model.Parameters) × model.IsParameters p × ((D.state disk.old).size ≡ model.image_len p.slots) }
 {
     let Some(params) = read_params(disk)? else {
         return Err(AttachFault::NotImage);

@@ -1,26 +1,25 @@
 //! The whole program as one call.
 
-ghost use Rattle.std.specs.Prelude.{◌≡◌, ◌≢◌, ◌↔◌, ◌⊎◌, [], Some, None, slice_index, take};
-ghost use Rattle.std.specs.List.{AllByRecursion};
-ghost use Rattle.store_base.specs.Counts.{Rose};
+ghost use Rattle.std.specs.Prelude.{◌≡◌, ◌≢◌, ◌↔◌, ◌⊎◌, [], Some, None, slice_index};
 ghost use Rattle.store_model.specs.Parameters as model;
-ghost use Rattle.store_model.specs.Parameters.{Parameters};
+ghost use Rattle.store_model.specs.Parameters.{Parameters, IsParameters};
 ghost use Rattle.store_model.specs.Trees.{Tree};
 ghost use Rattle.store_model.specs.Words.Request.{Format, Run};
 ghost use Rattle.disk_model.specs.DiskState as disks;
 ghost use Rattle.disk_model.specs.DiskCalls.{LeavesOnly};
 ghost use Rattle.gate_journal.specs.Formats.{IsEmptyOrNone};
 ghost use Rattle.gate_journal.specs.Phases.{HasEmptyJournal};
-ghost use Rattle.store_top.specs.Steps.{IsRefused};
+ghost use Rattle.gate_journal.specs.Places.{ReadsOnly};
+ghost use Rattle.store_model.specs.Images.{first_byte};
 ghost use Rattle.script_lines.specs.SourceState as sources;
 ghost use Rattle.script_lines.specs.SinkState as sinks;
-ghost use Rattle.store_top.specs.Disks.{IsBlank, IsUnwritten, Stands};
-ghost use Rattle.store_top.specs.Directories.{NamesServed, IsServedImage, MayLeaveServed};
-ghost use Rattle.store_top.specs.TodayWords.{IsServed};
+ghost use Rattle.store_top.specs.Disks.{IsBlank, IsOnlySynced, IsUnwritten, Stands};
+ghost use Rattle.store_top.specs.Directories.{IsImageWith, IsServedImage, MayLeaveServed};
+ghost use Rattle.store_top.specs.Costs.{CountsFormat, CountsRun};
 ghost use Rattle.store_top.specs.Outcomes.{format_status, done_of, IsFormatStatus, IsRunStatus, IsPastHeader, IsRefusedImage, IsRefusedDisk};
 ghost use Rattle.store_top.specs.Promises.{PromisesImage, PromisesCrashes, IsBetweenLines};
-ghost use Rattle.store_top.specs.Runs.{RepliesKept, KeepsLimit, run_replies, run_trees};
-ghost use Rattle.store_top.specs.TodayWords.{request_today};
+ghost use Rattle.store_top.specs.Runs.{IsUnchanged, KeepsOutside, RepliesKept, KeepsLimit, run_replies, run_trees};
+ghost use Rattle.store_top.specs.ServedWords.{served_request};
 
 use crate::outcome::Outcome;
 use crate::run::run;
@@ -51,21 +50,21 @@ fn format_disk<D: Disk, R: Source, W: Sink>(
     source: R,
     sink: W,
 ) -> Outcome<D, R, W>
-    requires { IsServed params.now }
     ensures end { IsFormatStatus result.status }
     ensures done { result.done ≡ done_of result.status }
     ensures others { (result.source ≡ source) × (result.sink ≡ sink) }
-    ensures disk_cause { result.status ≡ Status.DiskFault → Rose (D.state disk).faults (D.state result.disk).faults }
+    ensures outside { KeepsOutside result.status (D.state disk) (D.state result.disk) (R.state source) (R.state result.source) (W.state sink) (W.state result.sink) }
     ensures wrong_length { (result.status ≡ Status.WrongLength) ↔ ((D.state disk).size ≢ model.image_len params.now.slots) }
     ensures right_length { result.status ≡ Status.AlreadyImage → (D.state disk).size ≡ model.image_len params.now.slots }
-    ensures already_image { disks.IsObservable (D.state disk) → result.status ≡ Status.AlreadyImage → slice_index (D.state disk).bytes 0 ≡ 72 }
-    ensures other_byte { disks.IsObservable (D.state disk) → result.status ≡ Status.Done → slice_index (D.state disk).bytes 0 ≢ 72 }
-    ensures refused { disks.IsObservable (D.state disk) → IsRefusedDisk result.status → IsUnwritten (D.state disk) (D.state result.disk) }
-    ensures keeps { disks.IsObservable (D.state disk) → slice_index (D.state disk).bytes 0 ≡ 72 → IsUnwritten (D.state disk) (D.state result.disk) }
+    ensures already_image { disks.IsObservable (D.state disk) → result.status ≡ Status.AlreadyImage → slice_index (D.state disk).bytes 0 ≡ first_byte }
+    ensures other_byte { disks.IsObservable (D.state disk) → result.status ≡ Status.Done → slice_index (D.state disk).bytes 0 ≢ first_byte }
+    ensures refused { disks.IsObservable (D.state disk) → IsRefusedDisk result.status → ReadsOnly (D.state disk) (D.state result.disk) }
+    ensures keeps { disks.IsObservable (D.state disk) → slice_index (D.state disk).bytes 0 ≡ first_byte → ReadsOnly (D.state disk) (D.state result.disk) }
     ensures formatted { disks.IsObservable (D.state disk) → result.status ≡ Status.Done → Stands (D.state result.disk) [] params.now }
     ensures reads { disks.IsObservable (D.state disk) → IsBlank (D.state disk) params.now → IsEmptyOrNone params.now (D.state result.disk).bytes }
     ensures crash { disks.IsObservable (D.state disk) → IsBlank (D.state disk) params.now → disks.IsDurable (D.state disk)
         → LeavesOnly (D.state disk) (D.state result.disk) (IsEmptyOrNone params.now) }
+    ensures counts { disks.IsObservable (D.state disk) → IsBlank (D.state disk) params.now → CountsFormat result.status params.now (D.state disk) (D.state result.disk) }
 {
     let mut disk = disk;
     let status = status_of(Journal::format(&mut disk, params));
@@ -98,60 +97,65 @@ pub fn top<D: Disk, R: Source, W: Sink>(
     sink: W,
 ) -> Outcome<D, R, W>
     // The words.
-    ensures usage { (result.status ≡ Status.Usage) ↔ (request_today words.now ≡ None) }
-    ensures unserved { request_today words.now ≡ None → (result.done ≡ 0) × (result.disk ≡ disk) × (result.source ≡ source) × (result.sink ≡ sink) }
-    ensures format_end { (p : Parameters) → request_today words.now ≡ Some (Format p) → IsFormatStatus result.status }
-    ensures run_end { request_today words.now ≡ Some Run → IsRunStatus result.status }
+    ensures usage { (result.status ≡ Status.Usage) ↔ (served_request words.now ≡ None) }
+    ensures unserved { served_request words.now ≡ None → (result.done ≡ 0) × (result.disk ≡ disk) × (result.source ≡ source) × (result.sink ≡ sink) }
+    ensures format_end { (p : Parameters) → served_request words.now ≡ Some (Format p) → IsFormatStatus result.status }
+    ensures run_end { served_request words.now ≡ Some Run → IsRunStatus result.status }
 
-    // Faults come only where the count of the object rose.
-    ensures source_cause { result.status ≡ Status.SourceFault → Rose (R.state source).faults (R.state result.source).faults }
-    ensures sink_cause { result.status ≡ Status.SinkFault → Rose (W.state sink).faults (W.state result.sink).faults }
-    ensures disk_cause { result.status ≡ Status.DiskFault → Rose (D.state disk).faults (D.state result.disk).faults }
+    // The disk, the source and the sink: a second call can follow on this one, and each failed call is the status.
+    ensures outside { KeepsOutside result.status (D.state disk) (D.state result.disk) (R.state source) (R.state result.source) (W.state sink) (W.state result.sink) }
 
     // `format`.
-    ensures format_done { (p : Parameters) → request_today words.now ≡ Some (Format p) → result.done ≡ done_of result.status }
-    ensures format_others { (p : Parameters) → request_today words.now ≡ Some (Format p) → (result.source ≡ source) × (result.sink ≡ sink) }
-    ensures wrong_length { (p : Parameters) → request_today words.now ≡ Some (Format p) → (result.status ≡ Status.WrongLength) ↔ ((D.state disk).size ≢ model.image_len p.slots) }
-    ensures right_length { (p : Parameters) → request_today words.now ≡ Some (Format p) → result.status ≡ Status.AlreadyImage → (D.state disk).size ≡ model.image_len p.slots }
-    ensures already_image { (p : Parameters) → request_today words.now ≡ Some (Format p) → disks.IsObservable (D.state disk) → result.status ≡ Status.AlreadyImage → slice_index (D.state disk).bytes 0 ≡ 72 }
-    ensures other_byte { (p : Parameters) → request_today words.now ≡ Some (Format p) → disks.IsObservable (D.state disk) → result.status ≡ Status.Done → slice_index (D.state disk).bytes 0 ≢ 72 }
-    ensures format_refused { (p : Parameters) → request_today words.now ≡ Some (Format p) → disks.IsObservable (D.state disk) → IsRefusedDisk result.status → IsUnwritten (D.state disk) (D.state result.disk) }
-    ensures format_keeps { (p : Parameters) → request_today words.now ≡ Some (Format p) → disks.IsObservable (D.state disk) → slice_index (D.state disk).bytes 0 ≡ 72 → IsUnwritten (D.state disk) (D.state result.disk) }
-    ensures formatted { (p : Parameters) → request_today words.now ≡ Some (Format p) → disks.IsObservable (D.state disk) → result.status ≡ Status.Done → Stands (D.state result.disk) [] p }
+    ensures format_done { (p : Parameters) → served_request words.now ≡ Some (Format p) → result.done ≡ done_of result.status }
+    ensures format_others { (p : Parameters) → served_request words.now ≡ Some (Format p) → (result.source ≡ source) × (result.sink ≡ sink) }
+    ensures wrong_length { (p : Parameters) → served_request words.now ≡ Some (Format p) → (result.status ≡ Status.WrongLength) ↔ ((D.state disk).size ≢ model.image_len p.slots) }
+    ensures right_length { (p : Parameters) → served_request words.now ≡ Some (Format p) → result.status ≡ Status.AlreadyImage → (D.state disk).size ≡ model.image_len p.slots }
+    ensures already_image { (p : Parameters) → served_request words.now ≡ Some (Format p) → disks.IsObservable (D.state disk) → result.status ≡ Status.AlreadyImage → slice_index (D.state disk).bytes 0 ≡ first_byte }
+    ensures other_byte { (p : Parameters) → served_request words.now ≡ Some (Format p) → disks.IsObservable (D.state disk) → result.status ≡ Status.Done → slice_index (D.state disk).bytes 0 ≢ first_byte }
+    ensures format_refused { (p : Parameters) → served_request words.now ≡ Some (Format p) → disks.IsObservable (D.state disk) → IsRefusedDisk result.status → ReadsOnly (D.state disk) (D.state result.disk) }
+    ensures format_keeps { (p : Parameters) → served_request words.now ≡ Some (Format p) → disks.IsObservable (D.state disk) → slice_index (D.state disk).bytes 0 ≡ first_byte → ReadsOnly (D.state disk) (D.state result.disk) }
+    ensures formatted { (p : Parameters) → served_request words.now ≡ Some (Format p) → disks.IsObservable (D.state disk) → result.status ≡ Status.Done → Stands (D.state result.disk) [] p }
     // Once it has found that the disk is to be formatted, what a crash at any moment leaves is no image, or that of the
     // empty tree, if nothing was pending before; and so is what is read after a fault.
-    ensures format_reads { (p : Parameters) → request_today words.now ≡ Some (Format p) → disks.IsObservable (D.state disk) → IsBlank (D.state disk) p → IsEmptyOrNone p (D.state result.disk).bytes }
-    ensures format_crash { (p : Parameters) → request_today words.now ≡ Some (Format p) → disks.IsObservable (D.state disk) → IsBlank (D.state disk) p → disks.IsDurable (D.state disk)
+    ensures format_reads { (p : Parameters) → served_request words.now ≡ Some (Format p) → disks.IsObservable (D.state disk) → IsBlank (D.state disk) p → IsEmptyOrNone p (D.state result.disk).bytes }
+    ensures format_crash { (p : Parameters) → served_request words.now ≡ Some (Format p) → disks.IsObservable (D.state disk) → IsBlank (D.state disk) p → disks.IsDurable (D.state disk)
         → LeavesOnly (D.state disk) (D.state result.disk) (IsEmptyOrNone p) }
+    ensures format_counts { (p : Parameters) → served_request words.now ≡ Some (Format p) → disks.IsObservable (D.state disk) → IsBlank (D.state disk) p → CountsFormat result.status p (D.state disk) (D.state result.disk) }
 
     // `run`: the image that it is given.
-    ensures not_image { request_today words.now ≡ Some Run → disks.IsObservable (D.state disk) → result.status ≡ Status.NotImage → (p : Parameters) → NamesServed (D.state disk).bytes p → ⊥ }
-    ensures image { request_today words.now ≡ Some Run → disks.IsObservable (D.state disk) → IsPastHeader result.status → (p : Parameters) × NamesServed (D.state disk).bytes p }
-    ensures damaged { request_today words.now ≡ Some Run → disks.IsObservable (D.state disk) → result.status ≡ Status.Damaged → (t : Tree) (p : Parameters) → IsServedImage (D.state disk).bytes t p → ⊥ }
-    ensures run_refused { request_today words.now ≡ Some Run → IsRefusedImage result.status → (result.done ≡ 0) × (result.source ≡ source) × (result.sink ≡ sink) }
-    ensures run_unwritten { request_today words.now ≡ Some Run → disks.IsObservable (D.state disk) → IsRefusedImage result.status → IsUnwritten (D.state disk) (D.state result.disk) }
+    ensures not_image { served_request words.now ≡ Some Run → disks.IsObservable (D.state disk) → result.status ≡ Status.NotImage → (p : Parameters) → IsImageWith (D.state disk).bytes p → ⊥ }
+    ensures image { served_request words.now ≡ Some Run → disks.IsObservable (D.state disk) → IsPastHeader result.status → (p : Parameters) × IsImageWith (D.state disk).bytes p }
+    ensures damaged { served_request words.now ≡ Some Run → disks.IsObservable (D.state disk) → result.status ≡ Status.Damaged → (t : Tree) (p : Parameters) → IsServedImage (D.state disk).bytes t p → ⊥ }
+    ensures run_refused { served_request words.now ≡ Some Run → IsRefusedImage result.status → (result.done ≡ 0) × (result.source ≡ source) × (result.sink ≡ sink) }
+    ensures run_unwritten { served_request words.now ≡ Some Run → disks.IsObservable (D.state disk) → IsRefusedImage result.status → IsOnlySynced (D.state disk) (D.state result.disk) }
 
     // `run`: `sized` holds of every disk. An image that represents no tree that is served is left as it is, and so are the
     // source and the sink.
-    ensures sized { request_today words.now ≡ Some Run → IsPastHeader result.status → (p : Parameters) × IsServed p × ((D.state disk).size ≡ model.image_len p.slots) }
-    ensures served { request_today words.now ≡ Some Run → disks.IsObservable (D.state disk) → IsBetweenLines result.status → (t : Tree) × (p : Parameters) × IsServedImage (D.state disk).bytes t p }
-    ensures unserved_image { request_today words.now ≡ Some Run → disks.IsObservable (D.state disk) → ((t : Tree) (p : Parameters) → IsServedImage (D.state disk).bytes t p → ⊥)
-        → (result.done ≡ 0) × (result.source ≡ source) × (result.sink ≡ sink) × IsUnwritten (D.state disk) (D.state result.disk) }
+    ensures sized { served_request words.now ≡ Some Run → IsPastHeader result.status → (p : Parameters) × IsParameters p × ((D.state disk).size ≡ model.image_len p.slots) }
+    ensures served { served_request words.now ≡ Some Run → disks.IsObservable (D.state disk) → IsBetweenLines result.status → (t : Tree) × (p : Parameters) × IsServedImage (D.state disk).bytes t p }
+    ensures unserved_image { served_request words.now ≡ Some Run → disks.IsObservable (D.state disk) → ((t : Tree) (p : Parameters) → IsServedImage (D.state disk).bytes t p → ⊥)
+        → (result.done ≡ 0) × (result.source ≡ source) × (result.sink ≡ sink) × IsOnlySynced (D.state disk) (D.state result.disk) }
+    ensures unserved_crash { served_request words.now ≡ Some Run → disks.IsObservable (D.state disk) → ((t : Tree) (p : Parameters) → IsServedImage (D.state disk).bytes t p → ⊥)
+        → LeavesOnly (D.state disk) (D.state result.disk) (D.state disk).crash_images }
 
     // `run`: the script.
-    ensures limit { request_today words.now ≡ Some Run → sources.IsObservable (R.state source) → KeepsLimit result.status (R.state source) (R.state result.source) }
-    ensures replies { request_today words.now ≡ Some Run
+    ensures limit { served_request words.now ≡ Some Run → sources.IsObservable (R.state source) → KeepsLimit result.status (R.state source) (R.state result.source) }
+    ensures replies { served_request words.now ≡ Some Run
         → disks.IsObservable (D.state disk) → sources.IsObservable (R.state source) → sinks.IsObservable (W.state sink)
         → (t : Tree) (p : Parameters) → IsServedImage (D.state disk).bytes t p
         → RepliesKept result.status result.done (run_replies t (R.state source).left p) (R.state source) (R.state result.source) (W.state sink) (W.state result.sink) }
-    // Lines that are all refused write nothing.
-    ensures quiet { request_today words.now ≡ Some Run → disks.IsObservable (D.state disk) → sources.IsObservable (R.state source)
+    // Over an image with an empty journal, lines that change nothing write nothing, whatever stands between them. Over every
+    // image a run writes and syncs just what its opening takes and the commits of the slots in which its trees differ.
+    ensures quiet { served_request words.now ≡ Some Run → disks.IsObservable (D.state disk) → sources.IsObservable (R.state source)
         → (t : Tree) (p : Parameters) → IsServedImage (D.state disk).bytes t p → HasEmptyJournal p.slots (D.state disk).bytes → (result.status ≡ Status.DiskFault → ⊥)
-        → AllByRecursion IsRefused (take result.done (run_replies t (R.state source).left p)) → IsUnwritten (D.state disk) (D.state result.disk) }
-    ensures crashes { request_today words.now ≡ Some Run → disks.IsObservable (D.state disk) → sources.IsObservable (R.state source)
+        → IsUnchanged (run_trees t (R.state source).left p) result.done → IsUnwritten (D.state disk) (D.state result.disk) }
+    ensures counts { served_request words.now ≡ Some Run → disks.IsObservable (D.state disk) → sources.IsObservable (R.state source)
+        → (t : Tree) (p : Parameters) → IsServedImage (D.state disk).bytes t p
+        → CountsRun result.status result.done (run_trees t (R.state source).left p) p (D.state disk) (D.state result.disk) }
+    ensures crashes { served_request words.now ≡ Some Run → disks.IsObservable (D.state disk) → sources.IsObservable (R.state source)
         → (t : Tree) (p : Parameters) → MayLeaveServed (D.state disk) t p
         → PromisesCrashes result.status result.done (run_trees t (R.state source).left p) (D.state disk) (D.state result.disk) p }
-    ensures kept_image { request_today words.now ≡ Some Run
+    ensures kept_image { served_request words.now ≡ Some Run
         → disks.IsObservable (D.state disk) → sources.IsObservable (R.state source)
         → (t : Tree) (p : Parameters) → IsServedImage (D.state disk).bytes t p
         → PromisesImage result.status result.done (run_trees t (R.state source).left p) (D.state disk) (D.state result.disk) p }

@@ -6,7 +6,7 @@ ghost use Rattle.store_top.specs.Changes.{AreDifferences, changes_of};
 use gate_journal::SlotChanges;
 use layout_scratch::Layout;
 use std::alloc::Global;
-use store_base::{NoMemory, Slot};
+use store_base::{BLOCK, NoMemory, Slot};
 
 /// Slots of a layout, by their numbers, to be written as they are there.
 #[derive(Drop)]
@@ -43,8 +43,8 @@ pub fn find_changes<'a>(
     ensures { IfOk result (λ found. AreDifferences old.now new.now slots (changes_of found.layout.now found.slots.items)) }
 {
     let mut changed = Vec::new(alloc);
-    let mut was = [0; 4096];
-    let mut is = [0; 4096];
+    let mut was = [0; BLOCK];
+    let mut is = [0; BLOCK];
     for at in 0..slots {
         old.slot(at, &mut was);
         new.slot(at, &mut is);

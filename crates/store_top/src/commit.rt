@@ -1,12 +1,14 @@
 //! From one layout on a disk to another.
 
 ghost use Rattle.std.specs.Prelude.{◌≡◌, List, length, IsErrOf};
-ghost use Rattle.store_base.specs.Counts.{Rose};
+ghost use Rattle.store_base.specs.Faults.{disk_faults_after};
 ghost use Rattle.store_model.specs.Parameters as model;
 ghost use Rattle.store_model.specs.Paths as paths;
 ghost use Rattle.disk_model.specs.DiskState.{IsObservable, IsDurable};
 ghost use Rattle.gate_journal.specs.Phases.{HasEmptyJournal};
 ghost use Rattle.store_top.specs.Disks.{KeepsDisk, Stands, Moves};
+ghost use Rattle.store_top.specs.Changes.{differing};
+ghost use Rattle.store_top.specs.Costs.{CountsCommit};
 ghost use Rattle.store_top.specs.Directories.{IsStore, tree_of};
 
 use crate::changes::find_changes;
@@ -18,8 +20,8 @@ use store_base::{Fault, Params};
 
 /// Commits a new layout where the disk has the old one: the slots in which they differ are written together.
 ///
-/// `Disk`: the disk failed, and the image represents the tree of the one layout or of the other. `NoMemory`: nothing
-/// changed.
+/// Where they differ in no slot nothing is called. `Disk`: the disk failed, and the image represents the tree of the one
+/// layout or of the other. `NoMemory`: nothing changed.
 pub fn commit_layout<D: Disk>(
     alloc: Global,
     disk: &mut D,
@@ -33,8 +35,10 @@ pub fn commit_layout<D: Disk>(
     requires durable { IsObservable (D.state disk.old) → IsDurable (D.state disk.old) }
     requires empty { IsObservable (D.state disk.old) → HasEmptyJournal params.now.slots (D.state disk.old).bytes }
     ensures keeps { KeepsDisk (D.state disk.old) (D.state disk.new) }
-    ensures cause { IsErrOf result Fault.Disk → Rose (D.state disk.old).faults (D.state disk.new).faults }
+    ensures faults { (D.state disk.new).faults ≡ disk_faults_after (D.state disk.old).faults result }
     ensures no_memory { IsErrOf result Fault.NoMemory → disk.new ≡ disk.old }
+    ensures still { differing old.now new.now params.now.slots ≡ 0 → disk.new ≡ disk.old }
+    ensures counts { IsObservable (D.state disk.old) → CountsCommit (differing old.now new.now params.now.slots) (D.state disk.old) (D.state disk.new) result }
     ensures moves { IsObservable (D.state disk.old) → (before after : List paths.Path)
         → IsStore params.now before old.now → IsStore params.now after new.now → Stands (D.state disk.old) (tree_of before) params.now
         → Moves (tree_of before) (tree_of after) params.now (D.state disk.old) (D.state disk.new) result }

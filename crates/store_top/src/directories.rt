@@ -8,6 +8,7 @@ ghost use Rattle.store_model.specs.Paths.{path_cmp, is_path, is_root, parent, sa
 ghost use Rattle.store_model.specs.Trees as model;
 ghost use Rattle.store_model.specs.Trees.{IsTree, exists};
 ghost use Rattle.store_model.specs.Pages.{Fits};
+ghost use Rattle.layout_scratch.specs.Sorting.{pairs_limit};
 ghost use Rattle.store_model.specs.Commands.Command.{Make};
 ghost use Rattle.store_model.specs.Steps.{refusal_of, child_of};
 ghost use Rattle.store_top.specs.Directories.{tree_of, table_of, pair_of, HasPlace, IsTooBig};
@@ -26,7 +27,7 @@ const DIRECTORY: [u8; 1] = [1];
 /// `Full` comes exactly where their pages are more than the slots.
 pub fn lay_out(alloc: Global, params: &Params, paths: &[Path]) -> Result<Layout, ScratchFault>
     requires tree { IsTree (tree_of paths.now) }
-    requires few { length paths.now ≤ 268435456 }
+    requires few { length paths.now ≤ pairs_limit }
     ensures table { IfOk result (λ layout. layout ≡ table_of (tree_of paths.now) params.now) }
     ensures fits { IfOk result (λ _. Fits (tree_of paths.now) params.now) }
     ensures full { IfErr result (IsTooBig (tree_of paths.now) params.now) }
@@ -46,13 +47,15 @@ pub fn add_directory(
 ) -> Result<Layout, ScratchFault>
     requires within { at ≤ length paths.old.items }
     requires tree { IsTree (tree_of (insert paths.old.items at path.now)) }
-    requires few { length paths.old.items < 268435456 }
+    requires few { length paths.old.items < pairs_limit }
     ensures paths { paths.new.items ≡ (if is_ok result then insert paths.old.items at path.now else paths.old.items) }
     ensures table { IfOk result (λ layout. layout ≡ table_of (tree_of (insert paths.old.items at path.now)) params.now) }
     ensures fits { OnOk result (Fits (tree_of (insert paths.old.items at path.now)) params.now) }
     ensures full { IfErr result (IsTooBig (tree_of (insert paths.old.items at path.now)) params.now) }
 {
-    paths.insert(at, *path)?;
+    if paths.insert(at, *path).is_err() {
+        return Err(ScratchFault::NoMemory);
+    }
     let layout = lay_out(alloc, params, paths);
     if layout.is_err() {
         paths.remove(at);

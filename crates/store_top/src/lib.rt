@@ -1,8 +1,8 @@
 //! The store as one call: words, an image, a script in; replies, a status and the image out.
 //!
-//! Served today are the words `format SLOTS HEIGHT ruler SEED` and `run`, and in a script `make`, `list` and `space`.
-//! All other words are a fault of usage. Of the other lines, an empty one is not answered, one of more than 8,192 bytes is
-//! answered `no long`, one of these commands whose path is too long `no path`, and each other one `no syntax`.
+//! Served are the words `format SLOTS HEIGHT DRAW SEED` and `run`, and in a script `make`, `list` and `space`.
+//! Other words end with `Status::Usage`. The replies to the other lines of a script: `no long` to one of more than 8,192 bytes,
+//! `no path` to a served command with a path that is too long, none to an empty line, and `no syntax` to the rest.
 #![tactic(auto)]
 
 mod attach;

@@ -1,8 +1,7 @@
 //! The word `run`: answers a script, line after line.
 
 ghost use Rattle.std.specs.Prelude.{◌≡◌, ℕ, List, [], true, false, length, take, IfOk, OnOk, OnErr, IsErrOf, Ok, Err, ◌≤◌, ◌+◌, ◌⊎◌, Bool};
-ghost use Rattle.std.specs.List.{AllByRecursion};
-ghost use Rattle.store_base.specs.Counts.{Rose};
+ghost use Rattle.store_base.specs.Faults.{disk_faults_after};
 ghost use Rattle.store_model.specs.Scripts.{line_limit};
 ghost use Rattle.disk_model.specs.DiskState as disks;
 ghost use Rattle.disk_model.specs.DiskCalls.{LeavesOnly};
@@ -11,18 +10,19 @@ ghost use Rattle.script_lines.specs.SinkState as sinks;
 ghost use Rattle.script_lines.specs.Parsing.{command_of, reading_of};
 ghost use Rattle.script_lines.specs.Replies.{reply_of};
 ghost use Rattle.gate_journal.specs.Phases.{HasEmptyJournal};
-ghost use Rattle.store_top.specs.Disks.{KeepsDisk, IsUnwritten, Stands};
-ghost use Rattle.store_model.specs.Parameters.{Parameters, image_len};
+ghost use Rattle.gate_journal.specs.Places.{ReadsOnly};
+ghost use Rattle.store_top.specs.Costs.{CountsCommit, CountsLines, CountsRun, slots_between};
+ghost use Rattle.store_top.specs.Disks.{KeepsDisk, IsOnlySynced, IsUnwritten, Stands};
+ghost use Rattle.store_model.specs.Parameters.{Parameters, IsParameters, image_len};
 ghost use Rattle.store_model.specs.Trees.{Tree};
 ghost use Rattle.store_model.specs.Images.{Represents};
-ghost use Rattle.store_top.specs.TodayWords.{IsServed};
-ghost use Rattle.store_top.specs.Directories.{tree_of, NamesServed, IsServedImage, MayLeaveServed, IsStore};
+ghost use Rattle.store_top.specs.Directories.{tree_of, IsImageWith, IsServedImage, MayLeaveServed, IsStore};
 ghost use Rattle.store_top.specs.Outcomes.{IsRunStatus, IsPastHeader, IsRefusedImage};
-ghost use Rattle.store_top.specs.Steps.{fault_status, attach_status, IsRefused};
-ghost use Rattle.store_top.specs.TodayLines as today;
-ghost use Rattle.store_top.specs.TodayLines.{reading_today, answer_today};
+ghost use Rattle.store_top.specs.Steps.{fault_status, attach_status};
+ghost use Rattle.store_top.specs.ServedLines as served;
+ghost use Rattle.store_top.specs.ServedLines.{served_reading, served_answer};
 ghost use Rattle.store_top.specs.Promises.{PromisesImage, PromisesCrashes, IsBetweenLines};
-ghost use Rattle.store_top.specs.Runs.{IsLine, IsEndOfRun, KeepsSource, KeepsSink, RepliesKept, KeepsLimit, run_replies, run_trees};
+ghost use Rattle.store_top.specs.Runs.{IsLine, IsEndOfRun, IsUnchanged, KeepsOutside, RepliesKept, KeepsLimit, run_replies, run_trees};
 
 use crate::attach::AttachFault;
 use crate::outcome::Outcome;
@@ -47,7 +47,7 @@ pub struct Answered {
 
 /// Whether a command is served.
 fn is_served(command: &Command) -> bool
-    ensures { result ≡ today.is_served (command_of command.now) }
+    ensures { result ≡ served.is_served (command_of command.now) }
 {
     matches!(
         command,
@@ -57,7 +57,7 @@ fn is_served(command: &Command) -> bool
 
 /// Whether a text begins as a command that is served and has a path.
 fn has_served_word(text: &[u8]) -> bool
-    ensures { result ≡ today.has_served_word text.now }
+    ensures { result ≡ served.has_served_word text.now }
 {
     text.starts_with(b"make ") || text.starts_with(b"list ")
 }
@@ -66,8 +66,8 @@ fn has_served_word(text: &[u8]) -> bool
 /// command is too long.
 fn read_text(text: &[u8]) -> Result<Command, Refusal>
     requires { length text.now ≤ line_limit }
-    ensures reading { reading_of result ≡ reading_today text.now }
-    ensures served { IfOk result (λ command. today.is_served (command_of command) ≡ true) }
+    ensures reading { reading_of result ≡ served_reading text.now }
+    ensures served { IfOk result (λ command. served.is_served (command_of command) ≡ true) }
 {
     match parse_command(text) {
         Ok(command) => {
@@ -85,11 +85,12 @@ fn read_text(text: &[u8]) -> Result<Command, Refusal>
 /// What a line asks for; `Long` where it is longer than a line may be.
 fn read_line(line: Line, shown: &[u8]) -> Result<Command, Refusal>
     requires { length shown.now ≤ line_limit }
-    ensures reading { (text : List ℕ) → IsLine line shown.now text → reading_of result ≡ reading_today text }
-    ensures served { IfOk result (λ command. today.is_served (command_of command) ≡ true) }
+    ensures reading { (text : List ℕ) → IsLine line shown.now text → reading_of result ≡ served_reading text }
+    ensures served { IfOk result (λ command. served.is_served (command_of command) ≡ true) }
 {
     match line {
         Line::Text => read_text(shown),
+        // a line that is longer; the end of the script is no line, and is not asked for
         _ => Err(Refusal::Long),
     }
 }
@@ -104,20 +105,23 @@ fn answer_line<D: Disk>(
     requires store { IsStore store.old.params store.old.paths.items store.old.layout }
     requires stands { disks.IsObservable (D.state store.old.disk) → Stands (D.state store.old.disk) (tree_of store.old.paths.items) store.old.params }
     ensures keeps { KeepsDisk (D.state store.old.disk) (D.state store.new.disk) }
-    ensures cause { IsErrOf result Fault.Disk → Rose (D.state store.old.disk).faults (D.state store.new.disk).faults }
+    ensures faults { (D.state store.new.disk).faults ≡ disk_faults_after (D.state store.old.disk).faults result }
     ensures params { store.new.params ≡ store.old.params }
     ensures kept { IsStore store.new.params store.new.paths.items store.new.layout }
-    ensures reply { (text : List ℕ) → IsLine line shown.now text → IfOk result (λ reply. reply_of reply ≡ (answer_today (tree_of store.old.paths.items) text store.old.params).reply) }
-    ensures tree { (text : List ℕ) → IsLine line shown.now text → OnOk result (tree_of store.new.paths.items ≡ (answer_today (tree_of store.old.paths.items) text store.old.params).tree) }
+    ensures reply { (text : List ℕ) → IsLine line shown.now text → IfOk result (λ reply. reply_of reply ≡ (served_answer (tree_of store.old.paths.items) text store.old.params).reply) }
+    ensures tree { (text : List ℕ) → IsLine line shown.now text → OnOk result (tree_of store.new.paths.items ≡ (served_answer (tree_of store.old.paths.items) text store.old.params).tree) }
     ensures fault { OnErr result (store.new.paths.items ≡ store.old.paths.items) }
-    ensures no_memory { IsErrOf result Fault.NoMemory → store.new.disk ≡ store.old.disk }
-    ensures refused { IfOk result (λ reply. IsRefused (reply_of reply) → store.new.disk ≡ store.old.disk) }
+    ensures quiet { (text : List ℕ) → IsLine line shown.now text → disks.IsObservable (D.state store.old.disk) → (served_answer (tree_of store.old.paths.items) text store.old.params).tree ≡ tree_of store.old.paths.items
+        → ReadsOnly (D.state store.old.disk) (D.state store.new.disk) }
+    ensures no_memory { disks.IsObservable (D.state store.old.disk) → IsErrOf result Fault.NoMemory → ReadsOnly (D.state store.old.disk) (D.state store.new.disk) }
+    ensures counts { (text : List ℕ) → IsLine line shown.now text → disks.IsObservable (D.state store.old.disk)
+        → CountsCommit (slots_between store.old.params (tree_of store.old.paths.items) (served_answer (tree_of store.old.paths.items) text store.old.params).tree) (D.state store.old.disk) (D.state store.new.disk) result }
     ensures new_stands { disks.IsObservable (D.state store.old.disk) → OnOk result (Stands (D.state store.new.disk) (tree_of store.new.paths.items) store.new.params) }
     ensures crash { (text : List ℕ) → IsLine line shown.now text → disks.IsObservable (D.state store.old.disk) → LeavesOnly (D.state store.old.disk) (D.state store.new.disk)
-        (λ image. Represents image (tree_of store.old.paths.items) store.old.params ⊎ Represents image (answer_today (tree_of store.old.paths.items) text store.old.params).tree store.old.params) }
+        (λ image. Represents image (tree_of store.old.paths.items) store.old.params ⊎ Represents image (served_answer (tree_of store.old.paths.items) text store.old.params).tree store.old.params) }
     ensures after_fault { (text : List ℕ) → IsLine line shown.now text → disks.IsObservable (D.state store.old.disk) → IsErrOf result Fault.Disk
         → Represents (D.state store.new.disk).bytes (tree_of store.old.paths.items) store.old.params
-        ⊎ Represents (D.state store.new.disk).bytes (answer_today (tree_of store.old.paths.items) text store.old.params).tree store.old.params }
+        ⊎ Represents (D.state store.new.disk).bytes (served_answer (tree_of store.old.paths.items) text store.old.params).tree store.old.params }
 {
     match read_line(line, shown) {
         Ok(command) => store.apply(&command),
@@ -146,16 +150,12 @@ fn answer_lines<D: Disk, R: Source, W: Sink>(
     requires reader { reader.old ≡ record { source = reader.old.source; held = []; taken = 0; limit = MAX_SCRIPT; is_ended = false; is_live = true; text = [] } }
     ensures end { IsEndOfRun result.status }
     ensures params { store.new.params ≡ store.old.params }
-    ensures disk { KeepsDisk (D.state store.old.disk) (D.state store.new.disk) }
-    ensures source { KeepsSource (R.state reader.old.source) (R.state reader.new.source) }
-    ensures sink { KeepsSink (W.state sink.old) (W.state sink.new) }
-    ensures disk_cause { result.status ≡ Status.DiskFault → Rose (D.state store.old.disk).faults (D.state store.new.disk).faults }
-    ensures source_cause { result.status ≡ Status.SourceFault → Rose (R.state reader.old.source).faults (R.state reader.new.source).faults }
-    ensures sink_cause { result.status ≡ Status.SinkFault → Rose (W.state sink.old).faults (W.state sink.new).faults }
-    // Lines that are all refused call the disk not at all.
-    ensures quiet { sources.IsObservable (R.state reader.old.source) → (result.status ≡ Status.DiskFault → ⊥)
-        → AllByRecursion IsRefused (take result.done (run_replies (tree_of store.old.paths.items) (R.state reader.old.source).left store.old.params))
-        → store.new.disk ≡ store.old.disk }
+    ensures outside { KeepsOutside result.status (D.state store.old.disk) (D.state store.new.disk) (R.state reader.old.source) (R.state reader.new.source) (W.state sink.old) (W.state sink.new) }
+    // Lines that change nothing only read the disk; the others write and sync just the commits of the slots that differ.
+    ensures quiet { sources.IsObservable (R.state reader.old.source) → disks.IsObservable (D.state store.old.disk) → (result.status ≡ Status.DiskFault → ⊥)
+        → IsUnchanged (run_trees (tree_of store.old.paths.items) (R.state reader.old.source).left store.old.params) result.done → ReadsOnly (D.state store.old.disk) (D.state store.new.disk) }
+    ensures counts { sources.IsObservable (R.state reader.old.source) → disks.IsObservable (D.state store.old.disk)
+        → CountsLines result.status result.done (run_trees (tree_of store.old.paths.items) (R.state reader.old.source).left store.old.params) store.old.params (D.state store.old.disk) (D.state store.new.disk) }
     ensures limit { sources.IsObservable (R.state reader.old.source) → KeepsLimit result.status (R.state reader.old.source) (R.state reader.new.source) }
     ensures replies { sources.IsObservable (R.state reader.old.source) → sinks.IsObservable (W.state sink.old)
         → RepliesKept result.status result.done (run_replies (tree_of store.old.paths.items) (R.state reader.old.source).left store.old.params)
@@ -171,7 +171,7 @@ fn answer_lines<D: Disk, R: Source, W: Sink>(
         ⊎ Represents (D.state store.new.disk).bytes (run_trees (tree_of store.old.paths.items) (R.state reader.old.source).left store.old.params (result.done + 1)) store.old.params }
 {
     let mut done = 0;
-    while done < u64::MAX {
+    loop {
         let line = match reader.next_line() {
             Ok(line) => line,
             Err(LineFault::Source) => {
@@ -208,11 +208,6 @@ fn answer_lines<D: Disk, R: Source, W: Sink>(
             };
         }
     }
-    // There is no room to count another line. No script of a length that is allowed has so many.
-    Answered {
-        status: Status::NoMemory,
-        done,
-    }
 }
 
 /// How a call ends that could not have its store.
@@ -236,21 +231,24 @@ pub fn run<D: Disk, R: Source, W: Sink>(
     sink: W,
 ) -> Outcome<D, R, W>
     ensures end { IsRunStatus result.status }
-    ensures disk_cause { result.status ≡ Status.DiskFault → Rose (D.state disk).faults (D.state result.disk).faults }
-    ensures source_cause { result.status ≡ Status.SourceFault → Rose (R.state source).faults (R.state result.source).faults }
-    ensures sink_cause { result.status ≡ Status.SinkFault → Rose (W.state sink).faults (W.state result.sink).faults }
-    ensures not_image { disks.IsObservable (D.state disk) → result.status ≡ Status.NotImage → (p : Parameters) → NamesServed (D.state disk).bytes p → ⊥ }
-    ensures image { disks.IsObservable (D.state disk) → IsPastHeader result.status → (p : Parameters) × NamesServed (D.state disk).bytes p }
+    ensures outside { KeepsOutside result.status (D.state disk) (D.state result.disk) (R.state source) (R.state result.source) (W.state sink) (W.state result.sink) }
+    ensures not_image { disks.IsObservable (D.state disk) → result.status ≡ Status.NotImage → (p : Parameters) → IsImageWith (D.state disk).bytes p → ⊥ }
+    ensures image { disks.IsObservable (D.state disk) → IsPastHeader result.status → (p : Parameters) × IsImageWith (D.state disk).bytes p }
     ensures damaged { disks.IsObservable (D.state disk) → result.status ≡ Status.Damaged → (t : Tree) (p : Parameters) → IsServedImage (D.state disk).bytes t p → ⊥ }
     ensures refused { IsRefusedImage result.status → (result.done ≡ 0) × (result.source ≡ source) × (result.sink ≡ sink) }
-    ensures unwritten { disks.IsObservable (D.state disk) → IsRefusedImage result.status → IsUnwritten (D.state disk) (D.state result.disk) }
-    ensures sized { IsPastHeader result.status → (p : Parameters) × IsServed p × ((D.state disk).size ≡ image_len p.slots) }
+    ensures unwritten { disks.IsObservable (D.state disk) → IsRefusedImage result.status → IsOnlySynced (D.state disk) (D.state result.disk) }
+    ensures sized { IsPastHeader result.status → (p : Parameters) × IsParameters p × ((D.state disk).size ≡ image_len p.slots) }
     ensures served { disks.IsObservable (D.state disk) → IsBetweenLines result.status → (t : Tree) × (p : Parameters) × IsServedImage (D.state disk).bytes t p }
     ensures unserved { disks.IsObservable (D.state disk) → ((t : Tree) (p : Parameters) → IsServedImage (D.state disk).bytes t p → ⊥)
-        → (result.done ≡ 0) × (result.source ≡ source) × (result.sink ≡ sink) × IsUnwritten (D.state disk) (D.state result.disk) }
+        → (result.done ≡ 0) × (result.source ≡ source) × (result.sink ≡ sink) × IsOnlySynced (D.state disk) (D.state result.disk) }
+    ensures unserved_crash { disks.IsObservable (D.state disk) → ((t : Tree) (p : Parameters) → IsServedImage (D.state disk).bytes t p → ⊥)
+        → LeavesOnly (D.state disk) (D.state result.disk) (D.state disk).crash_images }
     ensures quiet { disks.IsObservable (D.state disk) → sources.IsObservable (R.state source)
         → (t : Tree) (p : Parameters) → IsServedImage (D.state disk).bytes t p → HasEmptyJournal p.slots (D.state disk).bytes → (result.status ≡ Status.DiskFault → ⊥)
-        → AllByRecursion IsRefused (take result.done (run_replies t (R.state source).left p)) → IsUnwritten (D.state disk) (D.state result.disk) }
+        → IsUnchanged (run_trees t (R.state source).left p) result.done → IsUnwritten (D.state disk) (D.state result.disk) }
+    ensures counts { disks.IsObservable (D.state disk) → sources.IsObservable (R.state source)
+        → (t : Tree) (p : Parameters) → IsServedImage (D.state disk).bytes t p
+        → CountsRun result.status result.done (run_trees t (R.state source).left p) p (D.state disk) (D.state result.disk) }
     ensures limit { sources.IsObservable (R.state source) → KeepsLimit result.status (R.state source) (R.state result.source) }
     ensures replies { disks.IsObservable (D.state disk) → sources.IsObservable (R.state source) → sinks.IsObservable (W.state sink)
         → (t : Tree) (p : Parameters) → IsServedImage (D.state disk).bytes t p

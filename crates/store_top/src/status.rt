@@ -6,7 +6,7 @@ ghost use Rattle.store_top.specs.Statuses.{code_of};
 /// How a call of `top` ended. The program ends with its code.
 #[derive(Clone, Copy, Debug, PartialEq, Eq)]
 pub enum Status {
-    /// The words were carried out; of `run`, the script was read to its end and each line answered.
+    /// All was done: the image is formatted, or no line of the script is left and every reply is written.
     Done,
     /// The words are not served. Nothing was read, written or printed.
     Usage,

@@ -5,7 +5,7 @@
 
 ghost use Rattle.std.specs.Prelude.{◌≡◌, ◌⊎◌, ◌<◌, List, [], ℕ, length, true, None, IsTrue, IsErrOf, IfOk, OnOk, OnErr, IfErr, is_ok, if◌then◌else◌};
 ghost use Rattle.std.specs.List.{remove};
-ghost use Rattle.store_base.specs.Counts.{Rose};
+ghost use Rattle.store_base.specs.Faults.{disk_faults_after};
 ghost use Rattle.store_model.specs.Parameters as model;
 ghost use Rattle.store_model.specs.Paths as paths;
 ghost use Rattle.store_model.specs.Paths.{is_path};
@@ -16,13 +16,15 @@ ghost use Rattle.store_model.specs.Steps.{step, refusal_of};
 ghost use Rattle.disk_model.specs.DiskState.{IsObservable, IsDurable};
 ghost use Rattle.disk_model.specs.DiskCalls.{LeavesOnly};
 ghost use Rattle.gate_journal.specs.Phases.{HasEmptyJournal};
+ghost use Rattle.gate_journal.specs.Places.{ReadsOnly, Made};
 ghost use Rattle.script_lines.specs.Parsing.{command_of};
 ghost use Rattle.script_lines.specs.Replies.{reply_of};
-ghost use Rattle.store_top.specs.Disks.{KeepsDisk, IsUnwritten, Stands, Moves};
-ghost use Rattle.store_top.specs.TodayWords.{IsServed};
-ghost use Rattle.store_top.specs.Directories.{NamesServed, IsServedImage, IsStore, HasPlace, tree_of};
-ghost use Rattle.store_top.specs.Steps.{IsRefused};
-ghost use Rattle.store_top.specs.TodayLines.{is_served};
+ghost use Rattle.store_top.specs.Disks.{KeepsDisk, IsOnlySynced, IsUnwritten, Stands, Moves};
+ghost use Rattle.store_top.specs.Directories.{IsImageWith, IsServedImage, IsStore, HasPlace, tree_of};
+ghost use Rattle.store_top.specs.Changes.{differing};
+ghost use Rattle.store_top.specs.Faults.{attach_faults_by};
+ghost use Rattle.store_top.specs.Costs.{CountsCommit, MadeAtMost, opening_syncs, opening_writes, slots_between};
+ghost use Rattle.store_top.specs.ServedLines.{is_served};
 
 use crate::attach::{AttachFault, Shown, open_image};
 use crate::commit::commit_layout;
@@ -53,23 +55,30 @@ impl<D: Disk> DirectoryStore<D> {
     pub fn attach(alloc: Global, disk: D) -> Result<Self, (AttachFault, D)>
         ensures keeps { IfOk result (λ store. KeepsDisk (D.state disk) (D.state store.disk)) }
         ensures kept { IfErr result (λ refused. KeepsDisk (D.state disk) (D.state refused.1)) }
-        ensures cause { IfErr result (λ refused. refused.0 ≡ AttachFault.Disk → Rose (D.state disk).faults (D.state refused.1).faults) }
-        ensures unwritten { IsObservable (D.state disk) → IfErr result (λ refused. (refused.0 ≡ AttachFault.Disk → ⊥) → IsUnwritten (D.state disk) (D.state refused.1)) }
+        ensures faults { IfOk result (λ store. (D.state store.disk).faults ≡ (D.state disk).faults) }
+        ensures faults_refused { IfErr result (λ refused. (D.state refused.1).faults ≡ attach_faults_by refused.0 (D.state disk).faults) }
+        ensures unwritten { IsObservable (D.state disk) → IfErr result (λ refused. (refused.0 ≡ AttachFault.Disk → ⊥) → IsOnlySynced (D.state disk) (D.state refused.1)) }
         ensures store { IfOk result (λ store. IsStore store.params store.paths.items store.layout) }
         ensures found { IsObservable (D.state disk) → IfOk result (λ store. IsServedImage (D.state disk).bytes (tree_of store.paths.items) store.params) }
         ensures stands { IsObservable (D.state disk) → IfOk result (λ store. Stands (D.state store.disk) (tree_of store.paths.items) store.params) }
         ensures after_fault { IsObservable (D.state disk) → (t : Tree) (p : model.Parameters) → IsServedImage (D.state disk).bytes t p → IfErr result (λ refused. refused.0 ≡ AttachFault.Disk → Represents (D.state refused.1).bytes t p) }
-        ensures named { IsObservable (D.state disk) → IfErr result (λ refused. refused.0 ≡ AttachFault.Damaged → (p : model.Parameters) × NamesServed (D.state disk).bytes p) }
-        ensures only_named { IsObservable (D.state disk) → (p : model.Parameters) → NamesServed (D.state disk).bytes p → IfErr result (λ refused. refused.0 ≡ AttachFault.NotImage → ⊥) }
+        ensures named { IsObservable (D.state disk) → IfErr result (λ refused. refused.0 ≡ AttachFault.Damaged → (p : model.Parameters) × IsImageWith (D.state disk).bytes p) }
+        ensures only_named { IsObservable (D.state disk) → (p : model.Parameters) → IsImageWith (D.state disk).bytes p → IfErr result (λ refused. refused.0 ≡ AttachFault.NotImage → ⊥) }
         ensures only { IsObservable (D.state disk) → (t : Tree) (p : model.Parameters) → IsServedImage (D.state disk).bytes t p → IfErr result (λ refused. refused.0 ≡ AttachFault.Damaged → ⊥) }
-        ensures sized { IfErr result (λ refused. refused.0 ≡ AttachFault.Damaged → (p : model.Parameters) × IsServed p × ((D.state disk).size ≡ model.image_len p.slots)) }
-        ensures unserved { IsObservable (D.state disk) → ((t : Tree) (p : model.Parameters) → IsServedImage (D.state disk).bytes t p → ⊥) → IfErr result (λ refused. IsUnwritten (D.state disk) (D.state refused.1)) }
+        ensures sized { IfErr result (λ refused. refused.0 ≡ AttachFault.Damaged → (p : model.Parameters) × model.IsParameters p × ((D.state disk).size ≡ model.image_len p.slots)) }
+        ensures unserved { IsObservable (D.state disk) → ((t : Tree) (p : model.Parameters) → IsServedImage (D.state disk).bytes t p → ⊥) → IfErr result (λ refused. IsOnlySynced (D.state disk) (D.state refused.1)) }
         ensures crash { IsObservable (D.state disk) → (t : Tree) (p : model.Parameters) → IsServedImage (D.state disk).bytes t p
             → IfOk result (λ store. LeavesOnly (D.state disk) (D.state store.disk) (λ image. (D.state disk).crash_images image ⊎ Represents image t p)) }
         ensures crash_refused { IsObservable (D.state disk) → (t : Tree) (p : model.Parameters) → IsServedImage (D.state disk).bytes t p
             → IfErr result (λ refused. LeavesOnly (D.state disk) (D.state refused.1) (λ image. (D.state disk).crash_images image ⊎ Represents image t p)) }
+        ensures unserved_crash { IsObservable (D.state disk) → ((t : Tree) (p : model.Parameters) → IsServedImage (D.state disk).bytes t p → ⊥)
+            → IfErr result (λ refused. LeavesOnly (D.state disk) (D.state refused.1) (D.state disk).crash_images) }
         ensures quiet { IsObservable (D.state disk) → (t : Tree) (p : model.Parameters) → IsServedImage (D.state disk).bytes t p → HasEmptyJournal p.slots (D.state disk).bytes
             → IfOk result (λ store. IsUnwritten (D.state disk) (D.state store.disk)) }
+        ensures counts { IsObservable (D.state disk) → (t : Tree) (p : model.Parameters) → IsServedImage (D.state disk).bytes t p
+            → IfOk result (λ store. Made (opening_writes p.slots (D.state disk).bytes) (opening_syncs p.slots (D.state disk).bytes) (D.state disk) (D.state store.disk)) }
+        ensures counts_refused { IsObservable (D.state disk) → (t : Tree) (p : model.Parameters) → IsServedImage (D.state disk).bytes t p
+            → IfErr result (λ refused. MadeAtMost (opening_writes p.slots (D.state disk).bytes) (opening_syncs p.slots (D.state disk).bytes) (D.state disk) (D.state refused.1)) }
         ensures size { IfOk result (λ store. (D.state disk).size ≡ model.image_len store.params.slots) }
     {
         let mut disk = disk;
@@ -107,7 +116,7 @@ impl<D: Disk> DirectoryStore<D> {
 
     /// Carries out a command that is served: `make`, `list` or `space`.
     ///
-    /// A refused command writes and syncs nothing. `Disk`: the disk failed, and the image represents the tree before or
+    /// A command that changes nothing writes and syncs nothing. `Disk`: the disk failed, and the image represents the tree before or
     /// after the command; the store keeps the tree before it, and is not to be used again. `NoMemory`: nothing changed.
     /// Each image that a crash at any moment of the call may leave represents the one tree or the other.
     pub fn apply(&mut self, command: &Command) -> Result<Reply, Fault>
@@ -115,14 +124,19 @@ impl<D: Disk> DirectoryStore<D> {
         requires store { IsStore self.old.params self.old.paths.items self.old.layout }
         requires stands { IsObservable (D.state self.old.disk) → Stands (D.state self.old.disk) (tree_of self.old.paths.items) self.old.params }
         ensures keeps { KeepsDisk (D.state self.old.disk) (D.state self.new.disk) }
-        ensures cause { IsErrOf result Fault.Disk → Rose (D.state self.old.disk).faults (D.state self.new.disk).faults }
+        ensures faults { (D.state self.new.disk).faults ≡ disk_faults_after (D.state self.old.disk).faults result }
         ensures params { self.new.params ≡ self.old.params }
         ensures kept { IsStore self.new.params self.new.paths.items self.new.layout }
         ensures reply { IfOk result (λ reply. reply_of reply ≡ (step (tree_of self.old.paths.items) (command_of command.now) self.old.params).reply) }
         ensures tree { OnOk result (tree_of self.new.paths.items ≡ (step (tree_of self.old.paths.items) (command_of command.now) self.old.params).tree) }
         ensures fault { OnErr result (self.new.paths.items ≡ self.old.paths.items) }
-        ensures no_memory { IsErrOf result Fault.NoMemory → self.new.disk ≡ self.old.disk }
-        ensures refused { IfOk result (λ reply. IsRefused (reply_of reply) → self.new.disk ≡ self.old.disk) }
+        // a command that changes nothing only reads, and so does one for which memory ran out; one that changes the tree writes
+        // and syncs just the commit of the slots that differ
+        ensures quiet { IsObservable (D.state self.old.disk) → (step (tree_of self.old.paths.items) (command_of command.now) self.old.params).tree ≡ tree_of self.old.paths.items
+            → ReadsOnly (D.state self.old.disk) (D.state self.new.disk) }
+        ensures no_memory { IsObservable (D.state self.old.disk) → IsErrOf result Fault.NoMemory → ReadsOnly (D.state self.old.disk) (D.state self.new.disk) }
+        ensures counts { IsObservable (D.state self.old.disk)
+            → CountsCommit (slots_between self.old.params (tree_of self.old.paths.items) (step (tree_of self.old.paths.items) (command_of command.now) self.old.params).tree) (D.state self.old.disk) (D.state self.new.disk) result }
         ensures new_stands { IsObservable (D.state self.old.disk) → OnOk result (Stands (D.state self.new.disk) (tree_of self.new.paths.items) self.new.params) }
         ensures after_fault { IsObservable (D.state self.old.disk) → IsErrOf result Fault.Disk
             → Represents (D.state self.new.disk).bytes (tree_of self.old.paths.items) self.old.params
@@ -135,6 +149,7 @@ impl<D: Disk> DirectoryStore<D> {
         match command {
             Command::Make(path) => self.make(path),
             Command::List(path) => Ok(self.list(path)?),
+            // of the commands that are served `space` is left
             _ => Ok(self.space()),
         }
     }
@@ -144,14 +159,15 @@ impl<D: Disk> DirectoryStore<D> {
         requires store { IsStore self.old.params self.old.paths.items self.old.layout }
         requires stands { IsObservable (D.state self.old.disk) → Stands (D.state self.old.disk) (tree_of self.old.paths.items) self.old.params }
         ensures keeps { KeepsDisk (D.state self.old.disk) (D.state self.new.disk) }
-        ensures cause { IsErrOf result Fault.Disk → Rose (D.state self.old.disk).faults (D.state self.new.disk).faults }
+        ensures faults { (D.state self.new.disk).faults ≡ disk_faults_after (D.state self.old.disk).faults result }
         ensures params { self.new.params ≡ self.old.params }
         ensures kept { IsStore self.new.params self.new.paths.items self.new.layout }
         ensures reply { IfOk result (λ reply. reply_of reply ≡ (step (tree_of self.old.paths.items) (Make path.now) self.old.params).reply) }
         ensures tree { OnOk result (tree_of self.new.paths.items ≡ (step (tree_of self.old.paths.items) (Make path.now) self.old.params).tree) }
         ensures fault { OnErr result (self.new.paths.items ≡ self.old.paths.items) }
         ensures no_memory { IsErrOf result Fault.NoMemory → self.new.disk ≡ self.old.disk }
-        ensures refused { IfOk result (λ reply. IsRefused (reply_of reply) → self.new.disk ≡ self.old.disk) }
+        ensures still { slots_between self.old.params (tree_of self.old.paths.items) (step (tree_of self.old.paths.items) (Make path.now) self.old.params).tree ≡ 0 → self.new.disk ≡ self.old.disk }
+        ensures counts { IsObservable (D.state self.old.disk) → CountsCommit (slots_between self.old.params (tree_of self.old.paths.items) (step (tree_of self.old.paths.items) (Make path.now) self.old.params).tree) (D.state self.old.disk) (D.state self.new.disk) result }
         ensures moves { IsObservable (D.state self.old.disk) → Moves (tree_of self.old.paths.items) (step (tree_of self.old.paths.items) (Make path.now) self.old.params).tree self.old.params (D.state self.old.disk) (D.state self.new.disk) result }
     {
         match place_of_new(&self.paths, path) {
@@ -168,14 +184,15 @@ impl<D: Disk> DirectoryStore<D> {
         requires made { refusal_of (tree_of self.old.paths.items) (Make path.now) ≡ None }
         requires place { HasPlace self.old.paths.items path.now at }
         ensures keeps { KeepsDisk (D.state self.old.disk) (D.state self.new.disk) }
-        ensures cause { IsErrOf result Fault.Disk → Rose (D.state self.old.disk).faults (D.state self.new.disk).faults }
+        ensures faults { (D.state self.new.disk).faults ≡ disk_faults_after (D.state self.old.disk).faults result }
         ensures params { self.new.params ≡ self.old.params }
         ensures kept { IsStore self.new.params self.new.paths.items self.new.layout }
         ensures reply { IfOk result (λ reply. reply_of reply ≡ (step (tree_of self.old.paths.items) (Make path.now) self.old.params).reply) }
         ensures tree { OnOk result (tree_of self.new.paths.items ≡ (step (tree_of self.old.paths.items) (Make path.now) self.old.params).tree) }
         ensures fault { OnErr result (self.new.paths.items ≡ self.old.paths.items) }
         ensures no_memory { IsErrOf result Fault.NoMemory → self.new.disk ≡ self.old.disk }
-        ensures refused { IfOk result (λ reply. IsRefused (reply_of reply) → self.new.disk ≡ self.old.disk) }
+        ensures still { slots_between self.old.params (tree_of self.old.paths.items) (step (tree_of self.old.paths.items) (Make path.now) self.old.params).tree ≡ 0 → self.new.disk ≡ self.old.disk }
+        ensures counts { IsObservable (D.state self.old.disk) → CountsCommit (slots_between self.old.params (tree_of self.old.paths.items) (step (tree_of self.old.paths.items) (Make path.now) self.old.params).tree) (D.state self.old.disk) (D.state self.new.disk) result }
         ensures moves { IsObservable (D.state self.old.disk) → Moves (tree_of self.old.paths.items) (step (tree_of self.old.paths.items) (Make path.now) self.old.params).tree self.old.params (D.state self.old.disk) (D.state self.new.disk) result }
     {
         match add_directory(self.alloc, &self.params, &mut self.paths, at, path) {
@@ -194,12 +211,14 @@ impl<D: Disk> DirectoryStore<D> {
         requires durable { IsObservable (D.state self.old.disk) → IsDurable (D.state self.old.disk) }
         requires empty { IsObservable (D.state self.old.disk) → HasEmptyJournal self.old.params.slots (D.state self.old.disk).bytes }
         ensures keeps { KeepsDisk (D.state self.old.disk) (D.state self.new.disk) }
-        ensures cause { IsErrOf result Fault.Disk → Rose (D.state self.old.disk).faults (D.state self.new.disk).faults }
+        ensures faults { (D.state self.new.disk).faults ≡ disk_faults_after (D.state self.old.disk).faults result }
         ensures params { self.new.params ≡ self.old.params }
         ensures paths { self.new.paths.items ≡ (if is_ok result then self.old.paths.items else remove self.old.paths.items at) }
         ensures layout { self.new.layout ≡ (if is_ok result then layout else self.old.layout) }
         ensures reply { IfOk result (λ reply. reply ≡ Reply.Ok) }
         ensures no_memory { IsErrOf result Fault.NoMemory → self.new.disk ≡ self.old.disk }
+        ensures still { differing self.old.layout layout self.old.params.slots ≡ 0 → self.new.disk ≡ self.old.disk }
+        ensures counts { IsObservable (D.state self.old.disk) → CountsCommit (differing self.old.layout layout self.old.params.slots) (D.state self.old.disk) (D.state self.new.disk) result }
         ensures moves { IsObservable (D.state self.old.disk) → (before after : List paths.Path)
             → IsStore self.old.params before self.old.layout → IsStore self.old.params after layout → Stands (D.state self.old.disk) (tree_of before) self.old.params
             → Moves (tree_of before) (tree_of after) self.old.params (D.state self.old.disk) (D.state self.new.disk) result }

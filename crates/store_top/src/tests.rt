@@ -276,11 +276,42 @@ fn words_tell_the_file_that_they_need(rt: HostRuntime) -> Result<(), Fail> {
         ("4", "9", "ruler"),
         ("4", "0", "ruler"),
         ("04", "1", "ruler"),
-        ("4", "1", "sha256"),
+        ("4", "1", "sha1"),
     ] {
         let usage = call_with(alloc, &["format", slots, height, kind, FORMAT[4]], b"", b"")?;
         assert_eq!(rt; usage.status.code(), 2);
         assert_eq!(rt; usage.done, 0);
+    }
+    Ok(())
+}
+
+/// The words of an image with the draw `sha256`.
+const FORMAT_SHA: [&str; 5] = [
+    "format",
+    "7",
+    "3",
+    "sha256",
+    "000102030405060708090a0b0c0d0e0f101112131415161718191a1b1c1d1e1f",
+];
+
+#[test]
+fn the_seed_places_the_pages(rt: HostRuntime) -> Result<(), Fail> {
+    let alloc = rt.alloc();
+    let zeros = vec![in alloc; 0; 69_632]?;
+    let made = call_with(alloc, &FORMAT_SHA, &zeros, b"")?;
+    assert_eq!(rt; made.status.code(), 0);
+    let script =
+        b"make /a\nmake /b\nmake /c\nmake /d\nmake /e\nmake /f\nmake /g\nmake /h\nmake /i\nmake /j\nmake /k\nmake /l\nspace\n";
+    let ran = call_with(alloc, &["run"], made.disk.bytes(), script)?;
+    assert_eq!(rt; ran.status.code(), 0);
+    assert_eq!(rt; ran.done, 13);
+    // Whether a slot has a page, the level of that, and how many cells it has, from slot 3 on.
+    let wanted = [(1, 0, 8), (1, 0, 4), (1, 2, 1), (1, 1, 1)];
+    for (i, (page, level, cells)) in wanted.into_iter().enumerate() {
+        let slot = 53_248 + 4096 * i;
+        assert_eq!(rt; ran.disk.bytes().get(slot), Some(&page));
+        assert_eq!(rt; ran.disk.bytes().get(slot + 1), Some(&level));
+        assert_eq!(rt; ran.disk.bytes().get(slot + 131), Some(&cells));
     }
     Ok(())
 }

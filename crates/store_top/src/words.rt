@@ -2,9 +2,10 @@
 
 ghost use Rattle.std.specs.Prelude.{◌≡◌, ◌∷◌, [], length, codes, IfOk, IfSome, OnOk, OnErr};
 ghost use Rattle.std.specs.Option.{option_map};
-ghost use Rattle.store_model.specs.Words.{seed_of_word};
+ghost use Rattle.store_model.specs.Parameters.{IsParameters};
+ghost use Rattle.store_model.specs.Words.{kind_of_word, seed_of_word};
 ghost use Rattle.store_model.specs.Words.Request.{Format};
-ghost use Rattle.store_top.specs.TodayWords.{request_today, request_seen, wanted_of, IsServed, IsTodayRequest};
+ghost use Rattle.store_top.specs.ServedWords.{served_request, request_seen, wanted_of, IsInRange};
 
 use hex::FromHex;
 use script_lines::parse_number;
@@ -55,8 +56,8 @@ impl Words {
 
     /// What the words ask for; `None` exactly where they are not served.
     pub(crate) fn request(&self) -> Option<Request>
-        ensures value { option_map request_seen result ≡ request_today self.now }
-        ensures valid { IfSome result IsTodayRequest }
+        ensures value { option_map request_seen result ≡ served_request self.now }
+        ensures valid { IfSome result IsInRange }
     {
         let words = self.words.as_slice();
         match words.len() {
@@ -84,8 +85,8 @@ pub enum Request {
 
 /// What a single word asks for.
 fn run_request(word: &str) -> Option<Request>
-    ensures value { option_map request_seen result ≡ request_today (word.now ∷ []) }
-    ensures valid { IfSome result IsTodayRequest }
+    ensures value { option_map request_seen result ≡ served_request (word.now ∷ []) }
+    ensures valid { IfSome result IsInRange }
 {
     if word == "run" {
         Some(Request::Run)
@@ -96,26 +97,37 @@ fn run_request(word: &str) -> Option<Request>
 
 /// What a word with four arguments asks for.
 fn format_request(word: &str, slots: &str, height: &str, draw: &str, seed: &str) -> Option<Request>
-    ensures value { option_map request_seen result ≡ request_today (word.now ∷ slots.now ∷ height.now ∷ draw.now ∷ seed.now ∷ []) }
-    ensures valid { IfSome result IsTodayRequest }
+    ensures value { option_map request_seen result ≡ served_request (word.now ∷ slots.now ∷ height.now ∷ draw.now ∷ seed.now ∷ []) }
+    ensures valid { IfSome result IsInRange }
 {
-    if word != "format" || draw != "ruler" {
+    if word != "format" {
         return None;
     }
-    Some(Request::Format(ruler_params(slots, height, seed)?))
+    Some(Request::Format(read_params(slots, height, draw, seed)?))
 }
 
-/// The parameters that the numbers of slots and levels and the seed make with the draw `ruler`; `None`
-/// exactly where a word spells nothing in its range.
-fn ruler_params(slots: &str, height: &str, seed: &str) -> Option<Params>
-    ensures value { option_map Format result ≡ request_today (codes "format" ∷ slots.now ∷ height.now ∷ codes "ruler" ∷ seed.now ∷ []) }
-    ensures valid { IfSome result IsServed }
+/// The parameters that these words spell; `None` exactly where one of them spells nothing in its range.
+fn read_params(slots: &str, height: &str, draw: &str, seed: &str) -> Option<Params>
+    ensures value { option_map Format result ≡ served_request (codes "format" ∷ slots.now ∷ height.now ∷ draw.now ∷ seed.now ∷ []) }
+    ensures valid { IfSome result IsParameters }
 {
     let slots = parse_number(slots.as_bytes())?;
     let height = parse_number(height.as_bytes())?;
     let height = u8::try_from(height).ok()?;
+    let kind = draw_kind(draw)?;
     let seed = seed_of(seed)?;
-    Params::new(slots, height, DrawKind::Ruler, seed).ok()
+    Params::new(slots, height, kind, seed).ok()
+}
+
+/// The draw that a word names.
+fn draw_kind(word: &str) -> Option<DrawKind>
+    ensures { result ≡ kind_of_word word.now }
+{
+    match word {
+        "ruler" => Some(DrawKind::Ruler),
+        "sha256" => Some(DrawKind::Sha256),
+        _ => None,
+    }
 }
 
 /// The 32 bytes that 64 hexadecimal digits of either case spell.
@@ -139,7 +151,7 @@ pub enum Wanted {
 /// The file that the words need.
 /// `NoMemory`: it was not found out.
 pub fn wanted_len(words: &Words) -> Result<Wanted, NoMemory>
-    ensures { IfOk result (λ wanted. wanted ≡ wanted_of (request_today words.now)) }
+    ensures { IfOk result (λ wanted. wanted ≡ wanted_of (served_request words.now)) }
 {
     let Some(request) = words.request() else {
         return Ok(Wanted::Usage);

@@ -1,7 +1,7 @@
 //! Whether an image is a layout.
 
 ghost use Rattle.std.specs.Prelude.{◌≡◌, ◌↔◌, IsTrue, IfOk, OnErr, length};
-ghost use Rattle.store_base.specs.Counts.{Rose};
+ghost use Rattle.store_base.specs.Counts.{faults_after};
 ghost use Rattle.store_model.specs.Parameters as model;
 ghost use Rattle.disk_model.specs.DiskState.{IsObservable};
 ghost use Rattle.gate_journal.specs.Places.{ReadsOnly};
@@ -11,7 +11,7 @@ ghost use Rattle.store_top.specs.Attached.{ShowsTable};
 use disk_model::Disk;
 use gate_journal::Journal;
 use layout_scratch::Layout;
-use store_base::{DiskFault, Params};
+use store_base::{BLOCK, DiskFault, Params};
 
 /// Whether recovery would leave just the slots of the layout.
 pub fn holds_layout<D: Disk>(
@@ -22,12 +22,12 @@ pub fn holds_layout<D: Disk>(
     requires size { (D.state disk.old).size ≡ model.image_len params.now.slots }
     requires slots { length layout.now ≡ params.now.slots }
     ensures keeps { KeepsDisk (D.state disk.old) (D.state disk.new) }
-    ensures cause { OnErr result (Rose (D.state disk.old).faults (D.state disk.new).faults) }
+    ensures faults { (D.state disk.new).faults ≡ faults_after (D.state disk.old).faults result }
     ensures reads { IsObservable (D.state disk.old) → ReadsOnly (D.state disk.old) (D.state disk.new) }
     ensures answer { IsObservable (D.state disk.old) → IfOk result (λ same. IsTrue same ↔ ShowsTable params.now.slots (D.state disk.old).bytes layout.now) }
 {
-    let mut slot = [0; 4096];
-    let mut wanted = [0; 4096];
+    let mut slot = [0; BLOCK];
+    let mut wanted = [0; BLOCK];
     for at in 0..params.slots() {
         Journal::view_slot(disk, params, at, &mut slot)?;
         layout.slot(at, &mut wanted);

@@ -2,22 +2,22 @@
 
 ghost use Rattle.std.specs.Prelude.{◌≡◌, ◌≤◌, ◌+◌, ◌++◌, ◌↔◌, List, ℕ, IsTrue, IfOk, IfErr, OnOk, IsErrOf, map, length, Option};
 ghost use Rattle.std.specs.List.{AllByRecursion};
-ghost use Rattle.store_base.specs.Counts.{Rose};
 ghost use Rattle.store_model.specs.Parameters as model;
 ghost use Rattle.store_model.specs.Pages as pages;
 ghost use Rattle.store_model.specs.Placement.{Table};
 ghost use Rattle.store_model.specs.Images.{slot_bytes};
 ghost use Rattle.disk_model.specs.DiskState.{IsObservable};
 ghost use Rattle.gate_journal.specs.Places.{ReadsOnly};
+ghost use Rattle.store_top.specs.Faults.{attach_faults_after};
 ghost use Rattle.store_top.specs.Disks.{KeepsDisk};
-ghost use Rattle.store_top.specs.Attached.{IsDirectoryCell, IsDirectorySlot, IsCheckFault, ShowsTable, keys_in, keys_of};
+ghost use Rattle.store_top.specs.Attached.{IsDirectoryCell, IsDirectorySlot, IsCheckFault, ShowsTable, keys_in, keys_limit, keys_of};
 
 use super::AttachFault;
 use disk_model::Disk;
 use gate_journal::Journal;
 use node_pages::{Cell, Page, decode_page, label_in};
 use std::alloc::Global;
-use store_base::{Key, Params, Slot};
+use store_base::{BLOCK, Key, Params, Slot};
 
 /// The value of a directory.
 const DIRECTORY: [u8; 1] = [1];
@@ -74,17 +74,17 @@ pub fn read_keys<D: Disk>(
 ) -> Result<Vec<Key>, AttachFault>
     requires size { (D.state disk.old).size ≡ model.image_len params.now.slots }
     ensures keeps { KeepsDisk (D.state disk.old) (D.state disk.new) }
-    ensures cause { IsErrOf result AttachFault.Disk → Rose (D.state disk.old).faults (D.state disk.new).faults }
+    ensures faults { (D.state disk.new).faults ≡ attach_faults_after (D.state disk.old).faults result }
     ensures reads { IsObservable (D.state disk.old) → ReadsOnly (D.state disk.old) (D.state disk.new) }
     ensures only_named { IsErrOf result AttachFault.NotImage → ⊥ }
-    ensures few { IfOk result (λ keys. length keys.items ≤ 163840) }
+    ensures few { IfOk result (λ keys. length keys.items ≤ keys_limit) }
     ensures keys { IsObservable (D.state disk.old) → (table : Table) → ShowsTable params.now.slots (D.state disk.old).bytes table → AllByRecursion IsDirectorySlot table
         → IfOk result (λ keys. keys.items ≡ keys_of table) }
     ensures only { IsObservable (D.state disk.old) → (table : Table) → ShowsTable params.now.slots (D.state disk.old).bytes table → AllByRecursion IsDirectorySlot table
         → IsErrOf result AttachFault.Damaged → ⊥ }
 {
     let mut keys = Vec::new(alloc);
-    let mut slot = [0; 4096];
+    let mut slot = [0; BLOCK];
     for at in 0..params.slots() {
         Journal::view_slot(disk, params, at, &mut slot)?;
         collect_keys(&slot, &mut keys)?;

@@ -6,7 +6,7 @@ use Rattle.std.proofs.lemmas.List.Sorted.{length_permutation}
 use Rattle.store_model.specs.Paths.{key}
 use Rattle.std.specs.Result.{IsErrAnd}
 use Rattle.store_model.specs.Pages.{Fits}
-use Rattle.store_top.specs.Directories.{NamesServed, tree_of, table_of}
+use Rattle.store_top.specs.Directories.{IsImageWith, tree_of, table_of}
 use Rattle.store_top.specs.Attached.{keys_of_paths, layout_fault_of}
 use Rattle.store_top.proofs.DirectoryKeys.{length-table_of}
 use Rattle.store_top.proofs.DiskLemmas.{keeps_then, observable_still}
@@ -76,7 +76,7 @@ returns-clause-found g c observable =
     let q = c.in-Some.params in
     let observable_mid = observable_still old mid read.keeps observable in
     let reads = ReadsOnly-trans old mid later (read.reads observable) (c.in_ok-keys.ensures.reads observable_mid) in
-    let named : NamesServed old.bytes q = subst (λ o. IfSome o (NamesServed old.bytes)) c.in-Some.is (read.found observable) in
+    let named : IsImageWith old.bytes q = subst (λ o. IfSome o (IsImageWith old.bytes)) c.in-Some.is (read.found observable) in
     let answer = c.in_ok-holds_layout.ensures.answer (observable_still old later (keeps_then old mid later read.keeps c.in_ok-keys.ensures.keeps) observable) in
     let paths = c.in_ok-paths.paths.items in
     let table = c.in_ok-layout.ensures.table ∙ ap (λ ps. table_of (tree_of ps) q) c.deref.ensures.value in

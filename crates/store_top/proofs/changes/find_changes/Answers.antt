@@ -1,7 +1,7 @@
 use Rattle.std.proofs.Common.{◌≡◌, ◌≢◌, ◌+◌, ℕ, Vec, Global, List, [], ◌∷◌, ◌++◌, length, Bool, true, false, not, nat_eq, sym, ap, ◌∙◌, subst, arith}
 use Rattle.std.specs.Cmp.Lexicographic.{pointwise, same_text, other_text}
 use Rattle.store_top.specs.Changes.{bytes_of}
-use Rattle.store_top.proofs.ChangeLemmas.{IsScanned, scanned_same, scanned_more, scanned_all, bytes_held}
+use Rattle.store_top.proofs.ChangeLemmas.{IsScanned, scanned_none, scanned_same, scanned_more, scanned_all, bytes_held}
 use Rattle.store_top.proofs.changes.find_changes.Goals as goal
 use Rattle.store_top.proofs.changes.find_changes.Goals.{then-ne+in_ok-push, else-ne}
 
@@ -11,6 +11,9 @@ equal_text xs ys r is fails = same_text xs ys (grind arith)
 
 differ_text : (xs ys : List ℕ) (r : Bool) → r ≡ not (pointwise nat_eq xs ys) → r ≡ true → xs ≢ ys
 differ_text xs ys r is holds = other_text xs ys (grind arith)
+
+pub loop-at-init : goal.loop-at-init
+loop-at-init c = subst (IsScanned c.args.old.now c.args.new.now 0) (sym c.new-changed.ensures.items) (scanned_none c.args.old.now c.args.new.now)
 
 pub loop-at-preserved : goal.loop-at-preserved
 loop-at-preserved c =

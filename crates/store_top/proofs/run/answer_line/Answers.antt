@@ -1,12 +1,14 @@
-use Rattle.std.proofs.Common.{◌≡◌, sym, ap, subst, ◌∙◌, ◌⊎◌}
+use Rattle.std.proofs.Common.{◌≡◌, refl, sym, ap, subst, ◌∙◌, ◌⊎◌}
 use Rattle.std.proofs.lemmas.Result.{IfOk-weaker, on_ok_weaker}
 use Rattle.store_model.specs.Images.{Represents}
 use Rattle.store_model.specs.Steps.{Step, step}
 use Rattle.script_lines.specs.Parsing.{command_of}
 use Rattle.script_lines.specs.Replies.{reply_of}
 use Rattle.store_top.specs.Directories.{tree_of}
-use Rattle.store_top.specs.TodayLines.{answer_today}
+use Rattle.store_top.specs.ServedLines.{served_answer}
 use Rattle.disk_model.specs.DiskCalls.{LeavesOnly}
+use Rattle.store_top.specs.Costs.{CountsCommit, slots_between}
+use Rattle.store_top.proofs.CostLemmas.{counts_none, none_between}
 use Rattle.store_top.proofs.CommitLemmas.{still_leaves}
 use Rattle.store_top.proofs.LineAnswers.{answer_ok, answer_err}
 use Rattle.store_top.proofs.run.answer_line.Goals as goal
@@ -16,7 +18,7 @@ returns-in-Ok-clause-reply g c text is =
     let t = tree_of c.args.store.now.paths.items in
     let p = c.args.store.now.params in
     let same = answer_ok t text p (command_of c.in-Ok.command) (c.in-Ok.ensures.reading text is) in
-    IfOk-weaker c.apply.result (λ reply. reply_of reply ≡ (step t (command_of c.in-Ok.command) p).reply) (λ reply. reply_of reply ≡ (answer_today t text p).reply)
+    IfOk-weaker c.apply.result (λ reply. reply_of reply ≡ (step t (command_of c.in-Ok.command) p).reply) (λ reply. reply_of reply ≡ (served_answer t text p).reply)
     (λ reply e. e ∙ ap (λ (s : Step). s.reply) (sym same)) c.apply.ensures.reply
 
 pub returns-in-Ok-clause-tree : goal.returns-in-Ok-clause-tree
@@ -54,4 +56,27 @@ returns-in-Ok-clause-crash g c text is observed =
 pub returns-in-Err-clause-crash : goal.returns-in-Err-clause-crash
 returns-in-Err-clause-crash g c text is observed =
     let store = c.args.store.now in
-    still_leaves store.paths.items store.params store.layout (answer_today (tree_of store.paths.items) text store.params).tree (g.D.Disk.state store.disk) c.requires.store (g.met.D.Disk.sound store.disk observed) (c.requires.stands observed)
+    still_leaves store.paths.items store.params store.layout (served_answer (tree_of store.paths.items) text store.params).tree (g.D.Disk.state store.disk) c.requires.store (g.met.D.Disk.sound store.disk observed) (c.requires.stands observed)
+
+pub returns-in-Ok-clause-quiet : goal.returns-in-Ok-clause-quiet
+returns-in-Ok-clause-quiet g c text is observed unchanged =
+    let t = tree_of c.args.store.now.paths.items in
+    let same = answer_ok t text c.args.store.now.params (command_of c.in-Ok.command) (c.in-Ok.ensures.reading text is) in
+    c.apply.ensures.quiet observed (sym (ap (λ (s : Step). s.tree) same) ∙ unchanged)
+
+pub returns-in-Ok-clause-counts : goal.returns-in-Ok-clause-counts
+returns-in-Ok-clause-counts g c text is observed =
+    let t = tree_of c.args.store.now.paths.items in
+    let p = c.args.store.now.params in
+    let same = answer_ok t text p (command_of c.in-Ok.command) (c.in-Ok.ensures.reading text is) in
+    let old = g.D.Disk.state c.args.store.now.disk in
+    let new = g.D.Disk.state c.apply.new.self.disk in
+    subst (λ (s : Step). CountsCommit (slots_between p t s.tree) old new c.apply.result) (sym same) (c.apply.ensures.counts observed)
+
+pub returns-in-Err-clause-counts : goal.returns-in-Err-clause-counts
+returns-in-Err-clause-counts g c text is observed =
+    let t = tree_of c.args.store.now.paths.items in
+    let p = c.args.store.now.params in
+    let disk = g.D.Disk.state c.args.store.now.disk in
+    let same = answer_err t text p c.in-Err.refusal (c.in-Err.ensures.reading text is) in
+    counts_none (slots_between p t (served_answer t text p).tree) disk disk _ (none_between p t (served_answer t text p).tree (ap (λ (s : Step). s.tree) same)) refl

@@ -1,19 +1,21 @@
-use Rattle.std.proofs.Common.{◌≡◌, take, refl, sym, ap, ◌∙◌, subst, inl, inr, ⊎_elim, IsTrue}
+use Rattle.std.proofs.Common.{◌≡◌, ℕ, refl, sym, ap, ◌∙◌, subst, arith, inl, inr, ⊎_elim, IsTrue}
 use Rattle.store_model.specs.Parameters.{Parameters}
 use Rattle.store_model.specs.Trees.{Tree}
 use Rattle.disk_model.specs.DiskState.{DiskState}
 use Rattle.script_lines.specs.LineState.{LineState}
 use Rattle.script_lines.specs.SourceState.{SourceState}
 use Rattle.store_top.specs.declared.status.Status.TheVariants as statuses
-use Rattle.std.specs.List.{AllByRecursion}
 use Rattle.store_top.specs.Directories.{tree_of}
 use Rattle.store_top.specs.Disks.{IsUnwritten}
-use Rattle.store_top.specs.Steps.{IsRefused, attach_status}
+use Rattle.store_top.specs.Steps.{attach_status}
+use Rattle.store_top.specs.Costs.{CountsLines, CountsRun, opening_syncs, opening_writes}
+use Rattle.store_top.proofs.CostLemmas.{made_none, at_most, run_refused, run_counts}
+use Rattle.store_top.proofs.OutsideLemmas.{keeps_refl, outside_refused, outside_behind}
 use Rattle.store_model.specs.Images.{Represents}
 use Rattle.disk_model.proofs.Crashes.{LeavesOnly-refl}
 use Rattle.store_top.specs.Promises.{PromisesImage, PromisesCrashes}
 use Rattle.store_top.proofs.CrashLemmas.{crashes_refused, crashes_behind, opened_represents, reads_served}
-use Rattle.store_top.specs.Runs.{RepliesKept, KeepsLimit, run_replies, run_trees}
+use Rattle.store_top.specs.Runs.{IsUnchanged, KeepsOutside, RepliesKept, KeepsLimit, run_replies, run_trees}
 use Rattle.store_top.proofs.RunEnds.{no_line, not_between, names, one_tree, same_parameters, image_refused, image_left, image_answered, none_answered, none_taken, attach_fault, damaged_by}
 use Rattle.store_top.proofs.run.run.Goals as goal
 
@@ -94,7 +96,8 @@ returns-clause-kept_image g c disk source t p shows =
 
 pub returns-in-Err-attach-clause-quiet : goal.returns-in-Err-attach-clause-quiet
 returns-in-Err-attach-clause-quiet g c disk source t p shows empty whole all =
-    c.in-Err-attach.ensures.unwritten disk (λ e. whole (c.refusal_of.ensures ∙ ap attach_status e))
+    let still = c.in-Err-attach.ensures.unwritten disk (λ e. whole (c.refusal_of.ensures ∙ ap attach_status e)) in
+    record { bytes = still.bytes; writes = still.writes }
 
 pub returns-clause-quiet : goal.returns-clause-quiet
 returns-clause-quiet g c disk source t p shows empty whole all =
@@ -106,12 +109,16 @@ returns-clause-quiet g c disk source t p shows empty whole all =
     let source_is : c.in-Ok.reader.source ≡ c.args.source = ap (λ (r : LineState g.row.R.Denot). r.source) c.in-Ok.ensures.ok in
     let state_is = ap g.R.Source.state source_is in
     let observable = subst (λ (s : SourceState). IsTrue s.is_observable) (sym state_is) source in
+    let script = (g.R.Source.state c.args.source).left in
     let done = c.answer_lines-status.result.done in
-    let a = subst (λ (r : Parameters). AllByRecursion IsRefused (take done (run_replies t (g.R.Source.state c.args.source).left r))) (sym params_are) all in
-    let b = subst (λ (v : Tree). AllByRecursion IsRefused (take done (run_replies v (g.R.Source.state c.args.source).left q))) (sym tree_is) a in
-    let d = subst (λ (s : SourceState). AllByRecursion IsRefused (take done (run_replies u s.left q))) (sym state_is) b in
-    let same = c.into_disk.ensures ∙ c.answer_lines-status.ensures.quiet observable whole d in
-    subst (λ (x : g.row.D.Denot). IsUnwritten (g.D.Disk.state c.args.disk) (g.D.Disk.state x)) (sym same) (c.in-Ok-attach.ensures.quiet disk t p shows empty)
+    let disk_observable = c.in-Ok-attach.ensures.keeps.observable ∙ disk in
+    let trees_are : run_trees u (g.R.Source.state c.in-Ok.reader.source).left q ≡ run_trees t script p =
+    ap (λ (x : SourceState). run_trees u x.left q) state_is ∙ ap (λ (v : Tree). run_trees v script q) tree_is ∙ ap (λ (r : Parameters). run_trees t script r) params_are in
+    let unchanged = subst (λ (trees : ℕ → Tree). IsUnchanged trees done) (sym trees_are) all in
+    let reads = c.answer_lines-status.ensures.quiet observable disk_observable whole unchanged in
+    let opening = c.in-Ok-attach.ensures.quiet disk t p shows empty in
+    let unwritten : IsUnwritten (g.D.Disk.state c.args.disk) (g.D.Disk.state c.answer_lines-status.new.store.disk) = record { bytes = reads.bytes ∙ opening.bytes; writes = reads.write_count ∙ opening.writes } in
+    subst (λ (x : g.row.D.Denot). IsUnwritten (g.D.Disk.state c.args.disk) (g.D.Disk.state x)) (sym c.into_disk.ensures) unwritten
 
 pub returns-in-Err-clause-crashes : goal.returns-in-Err-clause-crashes
 returns-in-Err-clause-crashes g c disk source t p may =
@@ -155,3 +162,81 @@ returns-clause-crashes g c disk source t p may =
     let d = subst (λ (r : Parameters). PromisesCrashes status done (run_trees t script r) mid new r) params_are b in
     let behind = crashes_behind status done (run_trees t script p) old mid new p t (opened_represents old mid t p may.represents (c.in-Ok-attach.ensures.crash disk t p served)) (no_line t script p) d in
     subst (λ (x : DiskState). PromisesCrashes status done (run_trees t script p) old x p) (sym (ap g.D.Disk.state c.into_disk.ensures)) behind
+
+pub returns-in-Err-clause-outside : goal.returns-in-Err-clause-outside
+returns-in-Err-clause-outside g c =
+    let old = g.D.Disk.state c.args.disk in
+    let source = g.R.Source.state c.args.source in
+    let sink = g.W.Sink.state c.args.sink in
+    subst (λ (x : SourceState). KeepsOutside statuses.NoMemory old old source x sink sink) (sym (ap g.R.Source.state c.in-Err.ensures.err))
+    (record { disk_kept = keeps_refl old; source_observable = refl; sink_observable = refl; disk_faults = refl; source_faults = refl; sink_faults = refl })
+
+pub returns-in-Err-attach-clause-outside : goal.returns-in-Err-attach-clause-outside
+returns-in-Err-attach-clause-outside g c =
+    let old = g.D.Disk.state c.args.disk in
+    let new = g.D.Disk.state c.in-Err-attach.disk in
+    let source = g.R.Source.state c.args.source in
+    let sink = g.W.Sink.state c.args.sink in
+    let source_is = ap g.R.Source.state (c.into_source.ensures ∙ ap (λ (r : LineState g.row.R.Denot). r.source) c.in-Ok.ensures.ok) in
+    subst (λ s. KeepsOutside s old new source (g.R.Source.state c.into_source.result) sink sink) (sym c.refusal_of.ensures)
+    (subst (λ (x : SourceState). KeepsOutside (attach_status c.in-Err-attach.fault) old new source x sink sink) (sym source_is)
+    (outside_refused c.in-Err-attach.fault old new source sink c.in-Err-attach.ensures.kept c.in-Err-attach.ensures.faults_refused))
+
+pub returns-clause-outside : goal.returns-clause-outside
+returns-clause-outside g c =
+    let old = g.D.Disk.state c.args.disk in
+    let mid = g.D.Disk.state c.in-Ok-attach.store.disk in
+    let new = g.D.Disk.state c.answer_lines-status.new.store.disk in
+    let status = c.answer_lines-status.result.status in
+    let source_is : c.in-Ok.reader.source ≡ c.args.source = ap (λ (r : LineState g.row.R.Denot). r.source) c.in-Ok.ensures.ok in
+    let state_is = ap g.R.Source.state source_is in
+    let source_new = g.R.Source.state c.answer_lines-status.new.reader.source in
+    let sink_old = g.W.Sink.state c.args.sink in
+    let sink_new = g.W.Sink.state c.answer_lines-status.new.sink in
+    let lines = subst (λ (x : SourceState). KeepsOutside status mid new x source_new sink_old sink_new) state_is c.answer_lines-status.ensures.outside in
+    let whole = outside_behind status old mid new (g.R.Source.state c.args.source) source_new sink_old sink_new c.in-Ok-attach.ensures.keeps c.in-Ok-attach.ensures.faults lines in
+    subst (λ (x : SourceState). KeepsOutside status old (g.D.Disk.state c.into_disk.result) (g.R.Source.state c.args.source) x sink_old sink_new) (sym (ap g.R.Source.state c.into_source-2.ensures))
+    (subst (λ (x : DiskState). KeepsOutside status old x (g.R.Source.state c.args.source) source_new sink_old sink_new) (sym (ap g.D.Disk.state c.into_disk.ensures)) whole)
+
+pub returns-in-Err-clause-counts : goal.returns-in-Err-clause-counts
+returns-in-Err-clause-counts g c disk source t p shows =
+    let old = g.D.Disk.state c.args.disk in
+    run_refused statuses.NoMemory (run_trees t (g.R.Source.state c.args.source).left p) p old old (λ h. h) (at_most old old 0 0 (opening_writes p.slots old.bytes) (opening_syncs p.slots old.bytes) (made_none old) (omega arith) (omega arith))
+
+pub returns-in-Err-attach-clause-counts : goal.returns-in-Err-attach-clause-counts
+returns-in-Err-attach-clause-counts g c disk source t p shows =
+    let old = g.D.Disk.state c.args.disk in
+    let new = g.D.Disk.state c.in-Err-attach.disk in
+    let trees = run_trees t (g.R.Source.state c.args.source).left p in
+    subst (λ s. CountsRun s 0 trees p old new) (sym c.refusal_of.ensures)
+    (run_refused (attach_status c.in-Err-attach.fault) trees p old new (not_between c.in-Err-attach.fault) (c.in-Err-attach.ensures.counts_refused disk t p shows))
+
+pub returns-clause-counts : goal.returns-clause-counts
+returns-clause-counts g c disk source t p shows =
+    let old = g.D.Disk.state c.args.disk in
+    let mid = g.D.Disk.state c.in-Ok-attach.store.disk in
+    let new = g.D.Disk.state c.answer_lines-status.new.store.disk in
+    let found = c.in-Ok-attach.ensures.found disk in
+    let u = tree_of c.in-Ok-attach.store.paths.items in
+    let q = c.in-Ok-attach.store.params in
+    let tree_is : u ≡ t = one_tree _ u t _ p found shows in
+    let params_are : q ≡ p = same_parameters _ u t q p found shows in
+    let source_is : c.in-Ok.reader.source ≡ c.args.source = ap (λ (r : LineState g.row.R.Denot). r.source) c.in-Ok.ensures.ok in
+    let state_is = ap g.R.Source.state source_is in
+    let observable = subst (λ (s : SourceState). IsTrue s.is_observable) (sym state_is) source in
+    let disk_observable = c.in-Ok-attach.ensures.keeps.observable ∙ disk in
+    let script = (g.R.Source.state c.args.source).left in
+    let status = c.answer_lines-status.result.status in
+    let done = c.answer_lines-status.result.done in
+    let lines = c.answer_lines-status.ensures.counts observable disk_observable in
+    let trees_are : run_trees u (g.R.Source.state c.in-Ok.reader.source).left q ≡ run_trees t script p =
+    ap (λ (x : SourceState). run_trees u x.left q) state_is ∙ ap (λ (v : Tree). run_trees v script q) tree_is ∙ ap (λ (r : Parameters). run_trees t script r) params_are in
+    let a = subst (λ (trees : ℕ → Tree). CountsLines status done trees q mid new) trees_are lines in
+    let b = subst (λ (r : Parameters). CountsLines status done (run_trees t script p) r mid new) params_are a in
+    let opening = c.in-Ok-attach.ensures.counts disk t p shows in
+    subst (λ (x : DiskState). CountsRun status done (run_trees t script p) p old x) (sym (ap g.D.Disk.state c.into_disk.ensures)) (run_counts status done (run_trees t script p) p old mid new opening b)
+
+pub returns-in-Err-clause-unserved_crash : goal.returns-in-Err-clause-unserved_crash
+returns-in-Err-clause-unserved_crash g c disk none =
+    let old = g.D.Disk.state c.args.disk in
+    LeavesOnly-refl old old.crash_images (g.met.D.Disk.sound c.args.disk disk) (λ image left. left)

@@ -29,6 +29,7 @@ loop-at-preserved g c =
     let so_far = c.loop-at.invariant in
     record {
       keeps = keeps_then old mid new so_far.keeps (keeps_calls mid new _ c.view_slot.ensures.calls);
+      faults = c.in_ok-view_slot.ensures.calls.faults ∙ so_far.faults;
       reads = λ observable. ReadsOnly-trans old mid new (so_far.reads observable) (c.view_slot.ensures.reads (observable_still old mid so_far.keeps observable));
       same = λ observable i held below there.
           let here : recovered_slot slots old.bytes at ≡ c.slot.new.into =

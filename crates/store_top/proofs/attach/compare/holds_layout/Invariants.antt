@@ -13,6 +13,7 @@ invariant-loop-at g l =
     let new = g.D.Disk.state l.disk in
     record {
       keeps : KeepsDisk old new;
+      faults : new.faults ≡ old.faults;
       reads : IsObservable old → ReadsOnly old new;
       same : IsObservable old → (i : ℕ) (held : Option Page) → i < l.at → slice_get l.layout i ≡ Some held → recovered_slot l.params.slots old.bytes i ≡ slot_bytes held;
     }

@@ -1,4 +1,4 @@
-use Rattle.std.proofs.Common.{◌≡◌, get_or, slice_get, Some, None, arith}
+use Rattle.std.proofs.Common.{◌≡◌, get_or, slice_get, Some, None, ◌∙◌, arith}
 use Rattle.std.proofs.lemmas.Option.{slice_get-get_or}
 use Rattle.store_top.specs.Attached.{IsDirectorySlot}
 use Rattle.store_top.proofs.DiskLemmas.{keeps_then, keeps_calls, observable_still}
@@ -29,6 +29,7 @@ loop-at-preserved g c =
     let so_far = c.loop-at.invariant in
     record {
       keeps = keeps_then old mid new so_far.keeps (keeps_calls mid new _ c.view_slot.ensures.calls);
+      faults = c.in_ok-view_slot.ensures.calls.faults ∙ so_far.faults;
       reads = λ observable. ReadsOnly-trans old mid new (so_far.reads observable) (c.view_slot.ensures.reads (observable_still old mid so_far.keeps observable));
       few = omega (arith, so_far.few, c.in_ok-collect_keys.ensures.few);
       keys = λ observable table shows are.

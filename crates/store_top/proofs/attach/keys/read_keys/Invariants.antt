@@ -14,6 +14,7 @@ invariant-loop-at g l =
     let new = g.D.Disk.state l.disk in
     record {
       keeps : KeepsDisk old new;
+      faults : new.faults ≡ old.faults;
       reads : IsObservable old → ReadsOnly old new;
       few : length l.keys.items ≤ 10 * l.at;
       keys : IsObservable old → (table : Table) → ShowsTable l.params.slots old.bytes table → AllByRecursion IsDirectorySlot table → l.keys.items ≡ keys_of (take l.at table);

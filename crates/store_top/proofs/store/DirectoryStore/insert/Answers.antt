@@ -1,4 +1,4 @@
-use Rattle.std.proofs.Common.{Ok, Err, sym, ap, ◌∙◌, subst, arith}
+use Rattle.std.proofs.Common.{Ok, Err, refl, sym, ap, ◌∙◌, subst, arith}
 use Rattle.std.specs.List.{insert}
 use Rattle.std.proofs.lemmas.Result.{IfOk-weaker, on_ok_weaker}
 use Rattle.store_base.specs.declared.store_fault.Fault.TheVariants as faults
@@ -11,6 +11,8 @@ use Rattle.script_lines.specs.declared.reply.Reply.TheVariants as replies
 use Rattle.script_lines.specs.Replies.{reply_of}
 use Rattle.store_top.specs.Directories.{IsStore, IsTooBig, tree_of}
 use Rattle.store_top.specs.Disks.{Stands, Moves}
+use Rattle.store_top.specs.Costs.{CountsCommit, slots_between}
+use Rattle.store_top.proofs.CostLemmas.{between_tables, counts_none, none_between}
 use Rattle.store_top.proofs.CommandLemmas.{made_tree, made_store, make_full, make_done}
 use Rattle.store_top.proofs.DirectoryLemmas.{slots-store, few-store, made_paths, same_paths, store_after}
 use Rattle.store_top.proofs.CommitLemmas.{standing_is_empty, still}
@@ -22,7 +24,7 @@ add_directory-requires-clause-tree g c =
 
 pub add_directory-requires-clause-few : goal.add_directory-requires-clause-few
 add_directory-requires-clause-few g c =
-    omega (arith, few-store c.args.self.now.params c.args.self.now.paths.items c.args.self.now.layout c.requires.store, c.requires.store.served.valid.slots_in_range)
+    omega (arith, few-store c.args.self.now.params c.args.self.now.paths.items c.args.self.now.layout c.requires.store, c.requires.store.valid.slots_in_range)
 
 pub commit-requires-clause-old : goal.commit-requires-clause-old
 commit-requires-clause-old g c = slots-store c.args.self.now.params c.args.self.now.paths.items c.args.self.now.layout c.requires.store
@@ -68,6 +70,34 @@ returns-in-Ok-clause-moves g c observable =
     let done = make_done s.paths.items c.args.path.now c.args.at s.params c.requires.made c.requires.place c.in-Ok.ensures.fits in
     subst (λ (u : Tree). Moves (tree_of s.paths.items) u s.params (state s.disk) (state c.commit.new.self.disk) c.commit.result) (sym (ap (λ (x : Step). x.tree) done))
     (c.commit.ensures.moves observable s.paths.items (insert s.paths.items c.args.at c.args.path.now) c.requires.store to (c.requires.stands observable))
+
+pub returns-in-Ok-clause-still : goal.returns-in-Ok-clause-still
+returns-in-Ok-clause-still g c none =
+    let s = c.args.self.now in
+    let done = make_done s.paths.items c.args.path.now c.args.at s.params c.requires.made c.requires.place c.in-Ok.ensures.fits in
+    let tree_is = ap (λ (x : Step). x.tree) done in
+    let next = tree_of (insert s.paths.items c.args.at c.args.path.now) in
+    c.commit.ensures.still (between_tables s.params (tree_of s.paths.items) next s.layout c.in-Ok.layout c.requires.store.table_is c.in-Ok.ensures.table ∙ ap (slots_between s.params (tree_of s.paths.items)) (sym tree_is) ∙ none)
+
+pub returns-in-Ok-clause-counts : goal.returns-in-Ok-clause-counts
+returns-in-Ok-clause-counts g c observable =
+    let state = g.D.Disk.state in
+    let s = c.args.self.now in
+    let done = make_done s.paths.items c.args.path.now c.args.at s.params c.requires.made c.requires.place c.in-Ok.ensures.fits in
+    let tree_is = ap (λ (x : Step). x.tree) done in
+    let next = tree_of (insert s.paths.items c.args.at c.args.path.now) in
+    let slots_are = between_tables s.params (tree_of s.paths.items) next s.layout c.in-Ok.layout c.requires.store.table_is c.in-Ok.ensures.table ∙ ap (slots_between s.params (tree_of s.paths.items)) (sym tree_is) in
+    subst (λ n. CountsCommit n (state s.disk) (state c.commit.new.self.disk) c.commit.result) slots_are (c.commit.ensures.counts observable)
+
+pub returns-in-Err-Full-clause-counts : goal.returns-in-Err-Full-clause-counts
+returns-in-Err-Full-clause-counts g c observable =
+    let s = c.args.self.now in
+    let disk = g.D.Disk.state s.disk in
+    let next = tree_of (insert s.paths.items c.args.at c.args.path.now) in
+    let full = subst (IsTooBig next s.params) c.in-Err-Full.field-0-is c.in-Err-Full.ensures.full in
+    let same = ap (λ (x : Step). x.tree) (make_full s.paths.items c.args.path.now c.args.at s.params c.requires.made c.requires.place c.in-Err-Full.need c.in-Err-Full.slots full.0 full.1 full.2) in
+    let none = none_between s.params (tree_of s.paths.items) (step (tree_of s.paths.items) (Make c.args.path.now) s.params).tree same in
+    counts_none (slots_between s.params (tree_of s.paths.items) (step (tree_of s.paths.items) (Make c.args.path.now) s.params).tree) disk disk (Ok (replies.No (refusals.Full c.in-Err-Full.need c.in-Err-Full.slots))) none refl
 
 pub returns-in-Err-Full-clause-reply : goal.returns-in-Err-Full-clause-reply
 returns-in-Err-Full-clause-reply g c =

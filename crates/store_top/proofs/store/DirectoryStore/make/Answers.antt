@@ -1,4 +1,4 @@
-use Rattle.std.proofs.Common.{List, Ok, sym, ap, ◌∙◌, subst}
+use Rattle.std.proofs.Common.{List, Ok, refl, sym, ap, ◌∙◌, subst}
 use Rattle.store_model.specs.Paths.{Path}
 use Rattle.store_model.specs.Trees.{Tree}
 use Rattle.store_model.specs.Commands.Command.{Make}
@@ -6,6 +6,8 @@ use Rattle.store_model.specs.Steps.{Step, step, refusal_of}
 use Rattle.script_lines.specs.declared.reply.Reply.TheVariants as replies
 use Rattle.store_top.specs.Directories.{tree_of}
 use Rattle.store_top.specs.Disks.{Stands}
+use Rattle.store_top.specs.Costs.{slots_between}
+use Rattle.store_top.proofs.CostLemmas.{counts_none, none_between}
 use Rattle.store_top.proofs.CommandLemmas.{step_refused}
 use Rattle.store_top.proofs.CommitLemmas.{still}
 use Rattle.store_top.proofs.store.DirectoryStore.make.Goals as goal
@@ -19,6 +21,16 @@ pub returns-in-Err-clause-tree : goal.returns-in-Err-clause-tree
 returns-in-Err-clause-tree g c =
     let refused = ap (λ (ps : List Path). refusal_of (tree_of ps) (Make c.args.path.now)) (sym c.deref.ensures.value) ∙ c.in-Err.ensures.refused in
     sym (ap (λ (s : Step). s.tree) (step_refused (tree_of c.args.self.now.paths.items) (Make c.args.path.now) c.args.self.now.params c.in-Err.refusal refused))
+
+pub returns-in-Err-clause-counts : goal.returns-in-Err-clause-counts
+returns-in-Err-clause-counts g c observable =
+    let s = c.args.self.now in
+    let disk = g.D.Disk.state s.disk in
+    let t = tree_of s.paths.items in
+    let u = (step t (Make c.args.path.now) s.params).tree in
+    let refused = ap (λ (ps : List Path). refusal_of (tree_of ps) (Make c.args.path.now)) (sym c.deref.ensures.value) ∙ c.in-Err.ensures.refused in
+    let same = ap (λ (x : Step). x.tree) (step_refused t (Make c.args.path.now) s.params c.in-Err.refusal refused) in
+    counts_none (slots_between s.params t u) disk disk (Ok (replies.No c.in-Err.refusal)) (none_between s.params t u same) refl
 
 pub returns-in-Err-clause-moves : goal.returns-in-Err-clause-moves
 returns-in-Err-clause-moves g c observable =

@@ -1,4 +1,4 @@
--- Which lines of a script are served today, and what they answer.
+-- Which lines of a script are served, and what they answer.
 use Rattle.std.specs.Prelude.{ℕ, List, Bool, true, false, ◌||◌, take, length, Result, Ok, Err, nat_lt, if◌then◌else◌, codes}
 use Rattle.store_model.specs.declared.refusal.Refusal.{Refusal}
 use Rattle.store_model.specs.declared.refusal.Refusal.TheVariants as refusals
@@ -30,14 +30,14 @@ has_served_word text = same_bytes (take 5 text) (codes "make ") || same_bytes (t
 
 -- What a line with this reading asks for. Commands that are not served are not yet in the grammar, so their lines are
 -- refused with `syntax`, also where a path of theirs is too long.
-abbrev pub served_reading : List ℕ → Result Command Refusal → Result Command Refusal
-served_reading text (Ok c) = if is_served c then Ok c else Err refusals.Syntax
-served_reading text (Err refusal) = if has_served_word text then Err refusal else Err refusals.Syntax
+abbrev pub only_served : List ℕ → Result Command Refusal → Result Command Refusal
+only_served text (Ok c) = if is_served c then Ok c else Err refusals.Syntax
+only_served text (Err refusal) = if has_served_word text then Err refusal else Err refusals.Syntax
 
--- what a line asks for today: a line of more than 8,192 bytes is refused with `long`
-unfoldable pub reading_today : List ℕ → Result Command Refusal
-reading_today text = if nat_lt line_limit (length text) then Err refusals.Long else served_reading text (parse text)
+-- what a line asks for, as far as it is served: a line of more than 8,192 bytes is refused with `long`
+unfoldable pub served_reading : List ℕ → Result Command Refusal
+served_reading text = if nat_lt line_limit (length text) then Err refusals.Long else only_served text (parse text)
 
 -- the reply to a line, and the tree after it
-unfoldable pub answer_today : Tree → List ℕ → Parameters → Step
-answer_today t text p = answer_by t (reading_today text) p
+unfoldable pub served_answer : Tree → List ℕ → Parameters → Step
+served_answer t text p = answer_by t (served_reading text) p
