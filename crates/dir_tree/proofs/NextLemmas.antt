@@ -1,24 +1,21 @@
 -- Lemmas on the first pair from a key on.
 use Rattle.std.proofs.Common.{◌≡◌, ℕ, ◌<◌, List, [], ◌∷◌, Bool, true, false, cond, IsTrue, Option, Some, None, refl, sym, ap, subst, ◌∙◌, arith, Ordering, Less, Equal, Greater, nat_cmp}
 use Rattle.std.specs.List.{AllByRecursion}
-use Rattle.std.specs.List.Sorted.{IsStrictlySortedBy}
-use Rattle.std.specs.Ordering.{is_le, is_eq, eq_by_cmp, ordering_then}
+use Rattle.std.specs.Ordering.{is_le, ordering_then}
 use Rattle.std.specs.Prelude.{IsSome, IfSome, IfNone, MatchOption}
-use Rattle.std.specs.Cmp.Lexicographic.{nat_list_cmp_total}
 use Rattle.std.specs.FinMap.{find}
 use Rattle.std.proofs.lemmas.Bool.{both_ways}
 use Rattle.store_model.specs.Paths.{Path, is_root, is_path, path_cmp, is_at_or_inside, key, key_cmp}
 use Rattle.store_model.specs.Pairs.{Pair}
 use Rattle.store_model.proofs.PathsLemmas.{order_of_keys}
 use Rattle.store_model.proofs.TreesLemmasPaths.{same_from_tie}
-use Rattle.store_model.proofs.ListsLemmas.{rising_from_is_sorted, rising_head, rising_tail}
-use Rattle.store_model.proofs.TreesLemmasFewer.{find_below_all}
+use Rattle.store_model.proofs.ListsLemmas.{rising_from_is_sorted}
 use Rattle.skip_levels.specs.PairsState.{next_pair}
 use Rattle.tree_pairs.specs.Blocks.{BlockMap, IsBlockPair}
 use Rattle.tree_pairs.proofs.NextLemmas.{IsNextFrom, next_some, next_none}
 use Rattle.dir_tree.specs.declared.subtree.Block.{Block}
 use Rattle.dir_tree.specs.SubtreeCalls.{HasPathBlocks, IsFrom, LacksFrom, IsFirstFrom, IsWithin, IsOutside}
-use Rattle.dir_tree.proofs.OrderLemmas.{same_key_from_test, key_itself, le_le, subtree_before, at_itself}
+use Rattle.dir_tree.proofs.OrderLemmas.{le_le, subtree_before, at_itself}
 
 -- it is one of the list
 pub next_of : (P : Pair → Type 0) (k : List ℕ) (s : List Pair) (e : Pair) → next_pair k s ≡ Some e → AllByRecursion P s → P e

@@ -1,5 +1,6 @@
 -- Lemmas on commands that are tested before anything changes: which refusal holds first, and what a tested command owes.
 use Rattle.std.proofs.Common.{◌≡◌, List, [], ◌∷◌, Bool, true, false, not, ◌&&◌, if◌then◌else◌, Option, Some, None, is_some, Ok, Err, refl, sym, ap, ◌∙◌}
+use Rattle.std.specs.Bool.{then_some}
 use Rattle.std.proofs.lemmas.Bool.{and_left, and_from, both_ways}
 use Rattle.store_model.specs.declared.refusal.Refusal.{Refusal}
 use Rattle.store_model.specs.declared.refusal.Refusal.TheVariants as refusals
@@ -16,7 +17,7 @@ use Rattle.skip_levels.specs.PairsState.{PairsState, IsObservable}
 use Rattle.tree_pairs.specs.declared.kind.Kind.{Kind}
 use Rattle.tree_pairs.specs.declared.kind.Kind.TheVariants as kinds
 use Rattle.tree_pairs.specs.Kinds.{kind_of_node}
-use Rattle.tree_pairs.specs.TreeCalls.{HoldsTree, KeepsPairs, CarriesOut}
+use Rattle.tree_pairs.specs.TreeCalls.{HoldsTree, KeepsPairs, CarriesOut, TellsKind}
 use Rattle.tree_pairs.proofs.CallLemmas.{step_done, step_refused}
 use Rattle.dir_tree.specs.RefusalCalls.{TellsRefusal}
 
@@ -89,11 +90,16 @@ module _ (t : Tree) (x : Path) where
   pub remove_of_file : is_root x ≡ false → (n : Node) → node_at t x ≡ Some n → is_directory t x ≡ false → None ≡ refusal_of t (Remove x)
   remove_of_file root n at other = sym (remove_conditions ∙ first_fails _ _ _ root ∙ first_fails _ _ _ (ap (λ o. not (is_some o)) at) ∙ first_fails _ _ _ (and_left _ _ other) ∙ none_holds)
 
-  pub remove_of_parent : is_root x ≡ false → is_directory t x ≡ true → has_child t x ≡ true → Some refusals.NotEmpty ≡ refusal_of t (Remove x)
+  remove_of_parent : is_root x ≡ false → is_directory t x ≡ true → has_child t x ≡ true → Some refusals.NotEmpty ≡ refusal_of t (Remove x)
   remove_of_parent root directory child = sym (remove_conditions ∙ first_fails _ _ _ root ∙ first_fails _ _ _ (ap not (exists_from_directory (node_at t x) directory)) ∙ first_holds _ _ _ (and_from _ _ directory child))
 
-  pub remove_of_empty : is_root x ≡ false → is_directory t x ≡ true → has_child t x ≡ false → None ≡ refusal_of t (Remove x)
+  remove_of_empty : is_root x ≡ false → is_directory t x ≡ true → has_child t x ≡ false → None ≡ refusal_of t (Remove x)
   remove_of_empty root directory child = sym (remove_conditions ∙ first_fails _ _ _ root ∙ first_fails _ _ _ (ap not (exists_from_directory (node_at t x) directory)) ∙ first_fails _ _ _ (ap (λ b. b && has_child t x) directory ∙ child) ∙ none_holds)
+
+  -- a child decides
+  pub remove_of_directory : is_root x ≡ false → is_directory t x ≡ true → (child : Bool) → child ≡ has_child t x → then_some child refusals.NotEmpty ≡ refusal_of t (Remove x)
+  remove_of_directory root directory true child = remove_of_parent root directory (sym child)
+  remove_of_directory root directory false child = remove_of_empty root directory (sym child)
 
   -- ---- pruning
 
@@ -143,6 +149,11 @@ pub still_holds : (a b : PairsState) (t : Tree) (p : Parameters) → KeepsPairs 
 still_holds a b t p h seen holds = record { tree = holds.tree; pairs_are = h.unchanged seen ∙ holds.pairs_are }
 
 -- ---- what a tested command owes
+
+-- where the kind of what stands at a path decides whether a command is refused
+pub told_by_kind : (command : Command) (path : Path) (kind : Kind) (refusal : Option Refusal) (old new : PairsState) → TellsKind path old new (Ok kind) → ((t : Tree) → kind ≡ kind_of_node (node_at t path) → refusal ≡ refusal_of t command)
+    → TellsRefusal command old new (Ok refusal)
+told_by_kind command path kind refusal old new tells decides = record { faults = tells.faults; keeps = tells.keeps; told = λ seen t p holds. decides t (tells.told seen t p holds) }
 
 pub none_found : {X : Type 0} (o : Option X) → ((x : X) → o ≡ Some x → ⊥) → o ≡ None
 none_found None h = refl

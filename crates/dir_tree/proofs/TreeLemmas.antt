@@ -1,11 +1,10 @@
 -- Lemmas on trees and their blocks: what stands below a path, and what is left without a path or a subtree.
-use Rattle.std.proofs.Common.{◌≡◌, ℕ, zero, suc, ◌<◌, List, [], ◌∷◌, ◌++◌, length, drop, Bool, true, false, not, cond, ◌&&◌, ◌||◌, IsTrue, Option, Some, None, is_some, refl, sym, ap, ap₂, subst, ◌∙◌, arith, nat_lt, ltb-false, nat_cmp, Less}
+use Rattle.std.proofs.Common.{◌≡◌, ℕ, zero, suc, ◌<◌, List, [], ◌∷◌, ◌++◌, length, drop, Bool, true, false, cond, ◌&&◌, ◌||◌, IsTrue, Option, Some, None, is_some, refl, sym, ap, ap₂, subst, ◌∙◌, arith, nat_lt, ltb-false, nat_cmp, Less}
 use Rattle.std.specs.List.{AllByRecursion}
 use Rattle.std.specs.Prelude.{IsSome, IfSome, MatchOption}
 use Rattle.std.specs.Ordering.{is_le, ordering_then}
 use Rattle.std.specs.Cmp.{tied_itself}
 use Rattle.std.specs.FinMap.{find, put}
-use Rattle.std.specs.FinMap.Entries.{find-where_key}
 use Rattle.std.proofs.lemmas.Bool.{both_ways, and_from, or_right, false_from_ne_true}
 use Rattle.std.proofs.lemmas.List.{append_assoc, append-nil}
 use Rattle.store_model.specs.Parameters.{Parameters}
@@ -17,7 +16,7 @@ use Rattle.store_model.specs.Commands.Command.{Make, Remove, Prune}
 use Rattle.store_model.specs.Steps.{refusal_of, next_tree, has_child, conditions}
 use Rattle.store_model.proofs.ListsLemmas.{all_with}
 use Rattle.store_model.proofs.PathsLemmas.{order_of_keys}
-use Rattle.store_model.proofs.TreesLemmasPaths.{path_cmp_total, inside_from_parent, same_from_test, same_from_tie, same_path-from_equal, at_or_inside-append, at_or_inside-split, parent-push, not_root-push}
+use Rattle.store_model.proofs.TreesLemmasPaths.{path_cmp_total, inside_from_parent, same_from_test, same_path-from_equal, at_or_inside-append, at_or_inside-split, parent-push, not_root-push}
 use Rattle.store_model.proofs.TreesLemmas.{find_from_all, node_at-find, entry_at, all_exist}
 use Rattle.store_model.proofs.TreesLemmasMoves.{nothing_below}
 use Rattle.store_model.proofs.TreesLemmasSteps.{all_fail, IsTree-next_tree}

@@ -78,13 +78,7 @@ fn refusal_to_remove<P: OrderedPairs>(pairs: &mut P, path: &Path) -> Result<Opti
     match kind_of(pairs, path)? {
         Kind::Absent => Ok(Some(Refusal::Missing)),
         Kind::File(_) => Ok(None),
-        Kind::Dir => {
-            if has_child(pairs, path)? {
-                Ok(Some(Refusal::NotEmpty))
-            } else {
-                Ok(None)
-            }
-        }
+        Kind::Dir => Ok(has_child(pairs, path)?.then_some(Refusal::NotEmpty)),
     }
 }
 

@@ -11,6 +11,3 @@ pub use changing::{make, refusal_to_make, remove};
 pub use listing::list;
 pub use subtree::{Block, next_within, take_subtree};
 pub use tree_pairs::{Kind, kind_of};
-
-#[cfg(test)]
-mod tests;

@@ -15,6 +15,3 @@ pub use failing::FailingDisk;
 pub use file::FileDisk;
 pub use memory::MemDisk;
 pub use record::StopChoice;
-
-#[cfg(test)]
-mod tests;

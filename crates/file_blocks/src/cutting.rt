@@ -1,6 +1,6 @@
 //! Cutting a file short.
 
-ghost use Rattle.std.specs.Prelude.{◌≡◌, ◌+◌, ◌*◌, ◌/◌, ◌≤◌, length, take, OnOk};
+ghost use Rattle.std.specs.Prelude.{◌≡◌, ◌+◌, ◌-◌, ◌*◌, ◌/◌, ◌≤◌, length, take, OnOk};
 ghost use Rattle.skip_levels.specs.PairsState.{IsObservable};
 ghost use Rattle.store_model.specs.Commands.Command.{Cut};
 ghost use Rattle.store_model.specs.Commands.Reply.{Acknowledged};
@@ -80,7 +80,7 @@ fn drop_blocks<P: OrderedPairs>(
     kept: u32,
 ) -> Result<(), Fault>
     requires { kept ≤ blocks }
-    ensures call { CutsBytes path.now (256 * blocks) (256 * kept) (P.state pairs.old) (P.state pairs.new) result }
+    ensures call { CutsBytes path.now (FILE_BLOCK * blocks) (FILE_BLOCK * kept) (P.state pairs.old) (P.state pairs.new) result }
     ensures fewer { IsObservable (P.state pairs.old) → OnOk result (length (P.state pairs.new).pairs ≤ length (P.state pairs.old).pairs) }
     ensures hidden { IsObservable (P.state pairs.new) → IsObservable (P.state pairs.old) }
     ensures follows { P.follows pairs.old pairs.new }
@@ -96,7 +96,7 @@ fn drop_blocks<P: OrderedPairs>(
 /// Cuts the last block to what it holds of the first bytes, so many.
 fn cut_block<P: OrderedPairs>(pairs: &mut P, path: &Path, len: u32) -> Result<(), Fault>
     requires room { HasRoom (P.state pairs.old) }
-    ensures call { CutsBytes path.now (256 * ((len + 255) / 256)) len (P.state pairs.old) (P.state pairs.new) result }
+    ensures call { CutsBytes path.now (FILE_BLOCK * ((len + (FILE_BLOCK - 1)) / FILE_BLOCK)) len (P.state pairs.old) (P.state pairs.new) result }
     ensures fewer { IsObservable (P.state pairs.old) → OnOk result (length (P.state pairs.new).pairs ≤ length (P.state pairs.old).pairs + 1) }
     ensures hidden { IsObservable (P.state pairs.new) → IsObservable (P.state pairs.old) }
     ensures follows { P.follows pairs.old pairs.new }
@@ -116,7 +116,7 @@ fn cut_block<P: OrderedPairs>(pairs: &mut P, path: &Path, len: u32) -> Result<()
 fn front_of(block: &[u8], len: usize) -> Value
     requires some { 1 ≤ len }
     requires block { 1 ≤ length block.now }
-    requires fits { length block.now ≤ 256 }
+    requires fits { length block.now ≤ Value.MAX_LEN }
     ensures { result ≡ take len block.now }
 {
     Value::new(&block[..len.min(block.len())])

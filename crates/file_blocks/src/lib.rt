@@ -8,8 +8,6 @@ ghost use Rattle.file_blocks.specs.FileCalls.{block_bytes};
 
 mod cutting;
 mod reading;
-#[cfg(test)]
-mod tests;
 mod writing;
 
 pub use cutting::cut;
@@ -18,7 +16,7 @@ use store_base::Value;
 pub use writing::write_at;
 
 /// The bytes of a file in one pair; its last pair has the rest.
-const FILE_BLOCK: u32 = 256;
+const FILE_BLOCK: u32 = Value::MAX_LEN as u32;
 
 /// The bytes of a block: none where there is no pair.
 fn bytes_of(block: &Option<Value>) -> &[u8]

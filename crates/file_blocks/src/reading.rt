@@ -16,7 +16,7 @@ use store_base::{Answer, Bytes, Fault, Refusal};
 use tree_pairs::{Kind, kind_of};
 
 /// The most bytes that one read answers.
-const READ_LIMIT: u32 = 4096;
+const READ_LIMIT: u32 = Bytes::MAX_LEN as u32;
 
 /// The bytes of the file from a place on: as many as asked for, and fewer at the end.
 ///

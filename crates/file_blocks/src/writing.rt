@@ -104,7 +104,7 @@ fn put_piece<P: OrderedPairs>(
     piece: &[u8],
 ) -> Result<(), Fault>
     requires some { 1 ≤ length piece.now }
-    requires within { at % 256 + length piece.now ≤ 256 }
+    requires within { at % FILE_BLOCK + length piece.now ≤ FILE_BLOCK }
     requires room { IsObservable (P.state pairs.old) → length (P.state pairs.old).pairs < most_pairs }
     ensures call { PutsBytes path.now at piece.now (P.state pairs.old) (P.state pairs.new) result }
     ensures hidden { IsObservable (P.state pairs.new) → IsObservable (P.state pairs.old) }
@@ -121,9 +121,9 @@ fn put_piece<P: OrderedPairs>(
 
 /// A block with the piece at a place in it, over what is there and past the end. Zeros fill a gap before it.
 fn overlaid(old: &[u8], at: usize, piece: &[u8]) -> Value
-    requires old { length old.now ≤ 256 }
+    requires old { length old.now ≤ Value.MAX_LEN }
     requires some { 1 ≤ length piece.now }
-    requires within { at + length piece.now ≤ 256 }
+    requires within { at + length piece.now ≤ Value.MAX_LEN }
     ensures { at ≤ length old.now → result ≡ overwrite old.now at piece.now }
 {
     let mut block = [0; Value::MAX_LEN];

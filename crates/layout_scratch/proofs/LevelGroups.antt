@@ -1,7 +1,7 @@
 -- The first group of a level, and those behind it.
-use Rattle.std.proofs.Common.{◌≡◌, ℕ, suc, ◌+◌, ◌≤◌, ◌<◌, List, [], ◌∷◌, length, take, drop, get_or, Bool, true, false, cond, nat_le, nat_lt, refl, sym, ap, subst, ◌∙◌, arith, leb-true, leb-false, lt-ltb}
+use Rattle.std.proofs.Common.{◌≡◌, ℕ, suc, ◌+◌, ◌-◌, ◌≤◌, ◌<◌, List, [], ◌∷◌, length, take, drop, get_or, Bool, true, false, cond, nat_le, nat_lt, refl, sym, ap, subst, ◌∙◌, arith, leb-true, leb-false, lt-ltb}
 use Rattle.std.specs.List.{AllByRecursion, prefix_len, filter}
-use Rattle.std.proofs.lemmas.List.{take-append-drop, length-take-le}
+use Rattle.std.proofs.lemmas.List.{take-append-drop, take_rest, length-take-le}
 use Rattle.std.proofs.lemmas.List.Sums.{prefix_len-le-length}
 use Rattle.std.proofs.lemmas.Bool.{le-ltb}
 use Rattle.store_model.specs.Labels.Lead.{Start, Leader}
@@ -12,6 +12,11 @@ use Rattle.store_model.proofs.PagesLemmasOrder.{cell_on-key}
 use Rattle.layout_scratch.specs.declared.ranked.Ranked.{Ranked}
 use Rattle.layout_scratch.specs.Ranks.{key_of, AreRanked, cells_on, BeginsGroup, IsFirstGroup}
 use Rattle.layout_scratch.proofs.LevelCells.{stays, cell_of, cells_on-stays}
+
+-- a group that is the first of a range up to the end of the pairs is the first of the pairs from there on
+pub first_from : (level : ℕ) (ranked group : List Ranked) (start : ℕ) → (let left = take (length ranked - start) (drop start ranked) in IsFirstGroup level left group (drop (length group) left))
+    → IsFirstGroup level (drop start ranked) group (drop (length group) (drop start ranked))
+first_from level ranked group start first = subst (λ left. IsFirstGroup level left group (drop (length group) left)) (take_rest ranked start) first
 
 -- whether a pair goes on a group of the level
 abbrev pub follows_on : ℕ → Ranked → Bool

@@ -32,8 +32,7 @@ fn build_by<W: Draw>(alloc: Global, draw: &W, pairs: &PairList) -> Result<Layout
 }
 
 /// The layout of a list of pairs with distinct keys, at most 268,435,456 of them, in whatever order they come: the
-/// pairs are sorted by key, cut into groups and pages, and the pages placed by rank (Blelloch and Golovin, "Strongly
-/// History-Independent Hashing with Applications").
+/// pairs are sorted by key, cut into groups and pages, and the pages placed by rank (Blelloch and Golovin 2007).
 ///
 /// `Full` comes exactly where the pages are more than the slots, and says how many they are.
 #[tactic(auto, unfolding(store_model::specs::Draws::draw_of))]

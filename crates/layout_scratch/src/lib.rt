@@ -16,6 +16,3 @@ mod ranked;
 pub use fault::ScratchFault;
 pub use from_pairs::build;
 pub use layout::Layout;
-
-#[cfg(test)]
-mod tests;

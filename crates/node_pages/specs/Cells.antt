@@ -7,6 +7,7 @@ use Rattle.store_model.specs.Paths.{key_cmp}
 use Rattle.store_model.specs.Labels.{Label}
 use Rattle.store_model.specs.Pages.{Cell, Page, page_room, IsPage}
 use Rattle.store_model.specs.Images.{page_bytes}
+use Rattle.store_model.specs.Pairs.{value_limit}
 
 -- how many bytes a cell of a level has
 abbrev pub cell_size : ℕ → ℕ
@@ -27,11 +28,11 @@ unfoldable pub cells_in : ℕ → ℕ → List ℕ → List Cell
 cells_in level zero bytes = []
 cells_in level (suc count) bytes = cell_in level (take (cell_size level) bytes) ∷ cells_in level count (drop (cell_size level) bytes)
 
--- two bytes of a length from 1 to 256, so many bytes, and zeros up to 258
+-- two bytes of a length, so many bytes, and zeros up to the longest value
 pub record SpellsValue (bytes : List ℕ) : Type 0 where
   pub some : 1 ≤ from_be_bytes w16 bytes
-  pub fits : from_be_bytes w16 bytes ≤ 256
-  pub fill : drop (from_be_bytes w16 bytes) (drop 2 bytes) ≡ zeros (256 - from_be_bytes w16 bytes)
+  pub fits : from_be_bytes w16 bytes ≤ value_limit
+  pub fill : drop (from_be_bytes w16 bytes) (drop 2 bytes) ≡ zeros (value_limit - from_be_bytes w16 bytes)
 
 -- bytes of the size of a cell spell one: at level 0 there is a value behind the key
 abbrev pub SpellsCell : ℕ → List ℕ → Type 0

@@ -19,6 +19,3 @@ pub use page::{Page, decode_page, encode_page, label_in};
 pub use pages::Pages;
 pub use sequence::{Cells, PageList, PairList, Sequence};
 pub use spelling::room;
-
-#[cfg(test)]
-mod tests;

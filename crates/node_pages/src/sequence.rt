@@ -65,6 +65,14 @@ impl<T> Sequence<T> {
         self.items.as_slice()
     }
 
+    /// Its items, moved out.
+    pub fn into_items(self) -> Vec<T>
+        ensures { result.items ≡ self }
+    {
+        let Sequence { items } = self;
+        items
+    }
+
     /// Item `i`, the first being 0.
     pub fn get(&self, i: u32) -> &T
         requires { i < length self.now }

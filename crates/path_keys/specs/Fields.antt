@@ -3,10 +3,6 @@ use Rattle.std.specs.Prelude.{◌≡◌, ℕ, List, [], ◌∷◌, ◌==◌, IsT
 use Rattle.std.specs.List.{onto_first}
 use Rattle.store_model.specs.Paths.{Path, is_path, field, field_len}
 
--- the bytes of a path's field in a key
-abbrev pub field_width : ℕ
-field_width = 120
-
 -- what each byte 0 ends, as a name
 unfoldable pub names_in : List ℕ → Path
 names_in [] = []

@@ -3,7 +3,5 @@
 
 mod names;
 mod paths;
-#[cfg(test)]
-mod tests;
 
 pub use paths::{Path, PathFault};

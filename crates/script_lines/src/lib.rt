@@ -1,5 +1,5 @@
 //! What stands between a script and the store: sources and sinks of bytes, the lines of a script, the
-//! commands that they spell, and the text of replies.
+//! commands that they spell, and the text of replies and reports.
 #![tactic(auto)]
 
 mod command;
@@ -12,8 +12,6 @@ mod reply;
 mod sink;
 mod source;
 mod std_io;
-#[cfg(test)]
-mod tests;
 mod text;
 
 pub use command::{Command, parse_command};
@@ -26,3 +24,4 @@ pub use reply::{Reply, write_reply};
 pub use sink::Sink;
 pub use source::Source;
 pub use std_io::{StdSink, StdSource};
+pub use text::{MAX_TEXT, Text};

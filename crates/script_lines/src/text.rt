@@ -10,14 +10,14 @@ use std::marker::Model;
 use store_base::Bytes;
 
 /// The most bytes that a text has: the longest line of a reply fits, and many lines of a listing.
-pub(crate) const MAX_TEXT: usize = 8448;
+pub const MAX_TEXT: usize = 8448;
 
 /// The most bytes that `push_hex` adds the digits of.
 const MAX_HEX: usize = Bytes::MAX_LEN;
 
 /// A text of at most 8,448 bytes. It takes no memory.
 #[derive(Drop)]
-pub(crate) struct Text {
+pub struct Text {
     bytes: ArrayVec<u8, MAX_TEXT>,
 }
 
@@ -31,7 +31,7 @@ impl Model for Text {
 
 impl Text {
     /// No text.
-    pub(crate) fn new() -> Self
+    pub fn new() -> Self
         ensures { result ≡ [] }
     {
         Text {
@@ -40,7 +40,7 @@ impl Text {
     }
 
     /// Its bytes.
-    pub(crate) fn as_slice(&self) -> &[u8]
+    pub fn as_slice(&self) -> &[u8]
         ensures { result.now ≡ self.now }
     {
         self.bytes.as_slice()
@@ -61,7 +61,7 @@ impl Text {
     }
 
     /// Adds bytes.
-    pub(crate) fn push(&mut self, bytes: &[u8])
+    pub fn push(&mut self, bytes: &[u8])
         requires { length self.old + length bytes.now ≤ MAX_TEXT }
         ensures { self.new ≡ self.old ++ bytes.now }
     {
@@ -71,10 +71,20 @@ impl Text {
     }
 
     /// Adds a number in decimal digits, 10 at most.
-    pub(crate) fn push_number(&mut self, number: u32)
+    pub fn push_number(&mut self, number: u32)
         requires { length self.old + 10 ≤ MAX_TEXT }
         ensures value { self.new ≡ self.old ++ decimal number }
         ensures fits { length self.new ≤ length self.old + 10 }
+    {
+        let mut digits = Buffer::new();
+        self.push(digits.format(number).as_bytes());
+    }
+
+    /// Adds a number of 64 bits in decimal digits, 20 at most.
+    pub fn push_long(&mut self, number: u64)
+        requires { length self.old + 20 ≤ MAX_TEXT }
+        ensures value { self.new ≡ self.old ++ decimal number }
+        ensures fits { length self.new ≤ length self.old + 20 }
     {
         let mut digits = Buffer::new();
         self.push(digits.format(number).as_bytes());

@@ -11,6 +11,3 @@ pub use any::AnyDraw;
 pub use draw::Draw;
 pub use ruler::RulerDraw;
 pub use sha::{ShaDraw, level_of_digest, start_of_digest};
-
-#[cfg(test)]
-mod tests;

@@ -9,8 +9,8 @@ ghost use Rattle.seeded_draw.specs.Lawful.{ruler_is_lawful};
 use crate::draw::Draw;
 use store_base::{Key, Label, Params};
 
-/// The draw `ruler`: the start of a label is the sum of its bytes, and the level of a key the number of
-/// letters `U` in its path. Small images can be worked out by hand with it.
+/// The draw `ruler`, with which small images can be worked out by hand. A label starts at its bytes' sum, counted
+/// round the table, and each letter `U` in the path of a key lifts it by a level, up to the highest.
 #[derive(Clone, Copy, Debug)]
 pub struct RulerDraw {
     slots: u32,

@@ -36,25 +36,29 @@ at_slot slots first slot below within =
     let r = probe_reaches slots first slot below within in
     (r.0, subst (At slots first r.0) r.2 (at_of slots first r.0 below r.1))
 
--- ways are the same by numbers behind the first slot
-pub passes_turned : (slots first start s hole v slot u : ℕ) → first < slots → At slots first s start → At slots first v hole → At slots first u slot → Passes start hole slot → Passes s v u
-passes_turned slots first start s hole v slot u below a b c p = by_case (cases_lt u s) (cases_lt v s) (cases_lt v u)
+-- a way passes a slot unless they lie in one of three orders
+passes_unless : (s v u : ℕ) → (u < s → v < s → u ≤ v → ⊥) → (s ≤ u → v < s → ⊥) → (s ≤ u → s ≤ v → u ≤ v → ⊥) → Passes s v u
+passes_unless s v u before round behind = by_case (cases_lt u s) (cases_lt v s) (cases_lt v u)
   where
     by_case : (u < s) ⊎ (s ≤ u) → (v < s) ⊎ (s ≤ v) → (v < u) ⊎ (u ≤ v) → Passes s v u
     by_case (inl us) (inl vs) (inl vu) = inr (us, inr vu)
     by_case (inl us) (inr sv) r = inr (us, inl sv)
-    by_case (inl us) (inl vs) (inr uv) = absurd (omega (arith, below, a.within, a.in_table, a.there, b.within, b.in_table, b.there, c.within, c.in_table, c.there, p, us, vs, uv))
+    by_case (inl us) (inl vs) (inr uv) = absurd (before us vs uv)
     by_case (inr su) (inr sv) (inl vu) = inl (sv, vu)
-    by_case (inr su) (inl vs) r = absurd (omega (arith, below, a.within, a.in_table, a.there, b.within, b.in_table, b.there, c.within, c.in_table, c.there, p, su, vs))
-    by_case (inr su) (inr sv) (inr uv) = absurd (omega (arith, below, a.within, a.in_table, a.there, b.within, b.in_table, b.there, c.within, c.in_table, c.there, p, su, sv, uv))
+    by_case (inr su) (inl vs) r = absurd (round su vs)
+    by_case (inr su) (inr sv) (inr uv) = absurd (behind su sv uv)
+
+-- ways are the same by numbers behind the first slot
+pub passes_turned : (slots first start s hole v slot u : ℕ) → first < slots → At slots first s start → At slots first v hole → At slots first u slot → Passes start hole slot → Passes s v u
+passes_turned slots first start s hole v slot u below a b c p =
+    passes_unless s v u
+    (λ us vs uv. omega (arith, below, a.within, a.in_table, a.there, b.within, b.in_table, b.there, c.within, c.in_table, c.there, p, us, vs, uv))
+    (λ su vs. omega (arith, below, a.within, a.in_table, a.there, b.within, b.in_table, b.there, c.within, c.in_table, c.there, p, su, vs))
+    (λ su sv uv. omega (arith, below, a.within, a.in_table, a.there, b.within, b.in_table, b.there, c.within, c.in_table, c.there, p, su, sv, uv))
 
 pub passes_back : (slots first start s hole v slot u : ℕ) → first < slots → At slots first s start → At slots first v hole → At slots first u slot → Passes s v u → Passes start hole slot
-passes_back slots first start s hole v slot u below a b c p = by_case (cases_lt slot start) (cases_lt hole start) (cases_lt hole slot)
-  where
-    by_case : (slot < start) ⊎ (start ≤ slot) → (hole < start) ⊎ (start ≤ hole) → (hole < slot) ⊎ (slot ≤ hole) → Passes start hole slot
-    by_case (inl us) (inl vs) (inl vu) = inr (us, inr vu)
-    by_case (inl us) (inr sv) r = inr (us, inl sv)
-    by_case (inl us) (inl vs) (inr uv) = absurd (omega (arith, below, a.within, a.in_table, a.there, b.within, b.in_table, b.there, c.within, c.in_table, c.there, p, us, vs, uv))
-    by_case (inr su) (inr sv) (inl vu) = inl (sv, vu)
-    by_case (inr su) (inl vs) r = absurd (omega (arith, below, a.within, a.in_table, a.there, b.within, b.in_table, b.there, c.within, c.in_table, c.there, p, su, vs))
-    by_case (inr su) (inr sv) (inr uv) = absurd (omega (arith, below, a.within, a.in_table, a.there, b.within, b.in_table, b.there, c.within, c.in_table, c.there, p, su, sv, uv))
+passes_back slots first start s hole v slot u below a b c p =
+    passes_unless start hole slot
+    (λ us vs uv. omega (arith, below, a.within, a.in_table, a.there, b.within, b.in_table, b.there, c.within, c.in_table, c.there, p, us, vs, uv))
+    (λ su vs. omega (arith, below, a.within, a.in_table, a.there, b.within, b.in_table, b.there, c.within, c.in_table, c.there, p, su, vs))
+    (λ su sv uv. omega (arith, below, a.within, a.in_table, a.there, b.within, b.in_table, b.there, c.within, c.in_table, c.there, p, su, sv, uv))

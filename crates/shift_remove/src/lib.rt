@@ -5,6 +5,3 @@
 mod shift;
 
 pub use shift::remove;
-
-#[cfg(test)]
-mod tests;

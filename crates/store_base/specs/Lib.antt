@@ -5,4 +5,3 @@ pub mod Leads
 pub mod Areas
 pub mod SlotsState
 pub mod Faults
-pub mod Examples

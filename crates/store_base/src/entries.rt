@@ -10,7 +10,7 @@ use std::marker::Model;
 /// A child of a directory: its name, and for a file its size.
 #[derive(Debug, Drop)]
 struct Entry {
-    name: ArrayVec<u8, 120>,
+    name: ArrayVec<u8, { Entries::MAX_NAME }>,
     size: Option<u32>,
 }
 

@@ -43,6 +43,3 @@ pub type Slot = [u8; BLOCK];
 
 /// What a call of the tree's layer answers where no fault came: a value, or why the command is refused.
 pub type Answer<T> = Result<T, Refusal>;
-
-#[cfg(test)]
-mod tests;

@@ -11,7 +11,7 @@ use thiserror::Error;
 /// is said at each call.
 #[derive(Clone, Copy, Debug, PartialEq, Eq, Error)]
 pub enum Fault {
-    /// The disk failed. It comes only where the count of faults of the object handed in rose.
+    /// The disk failed. Whatever the call was made on has counted the failed call.
     #[error("the disk failed")]
     Disk,
     /// Memory ran out.

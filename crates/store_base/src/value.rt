@@ -11,7 +11,7 @@ use std::marker::Model;
 /// What a pair holds beside its key: 1 to 256 bytes. Contracts see a value as the list of its bytes.
 #[derive(Debug, Drop)]
 pub struct Value {
-    bytes: ArrayVec<u8, 256>,
+    bytes: ArrayVec<u8, { Value::MAX_LEN }>,
 }
 
 impl Model for Value {
@@ -87,7 +87,7 @@ impl Eq for Value {
 /// as the list of its bytes.
 #[derive(Debug, Drop)]
 pub struct Bytes {
-    bytes: ArrayVec<u8, 4096>,
+    bytes: ArrayVec<u8, { Bytes::MAX_LEN }>,
 }
 
 impl Model for Bytes {

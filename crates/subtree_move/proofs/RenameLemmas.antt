@@ -1,5 +1,6 @@
 -- Lemmas on a move that is tested: which refusal holds first.
 use Rattle.std.proofs.Common.{◌≡◌, Bool, true, false, not, ◌||◌, if◌then◌else◌, Option, Some, None, is_some, refl, sym, ap, ap₂, ◌∙◌}
+use Rattle.std.specs.Bool.{then_some}
 use Rattle.store_model.specs.declared.refusal.Refusal.{Refusal}
 use Rattle.store_model.specs.declared.refusal.Refusal.TheVariants as refusals
 use Rattle.store_model.specs.Paths.{Path, is_root, is_inside, parent}
@@ -51,7 +52,7 @@ module _ (t : Tree) (from to : Path) where
       by_tests true true c e = e
       by_tests true false c e = cc
 
-  pub rename_decided : is_root from ≡ false → is_root to ≡ false → (n : Node) → node_at t from ≡ Some n → is_inside to from ≡ false → (found : Option Refusal) → found ≡ None → found ≡ refusal_of t (Make to) → refusal_of t (Rename from to) ≡ (if outgrows t from to then Some refusals.Path else None)
+  rename_decided : is_root from ≡ false → is_root to ≡ false → (n : Node) → node_at t from ≡ Some n → is_inside to from ≡ false → (found : Option Refusal) → found ≡ None → found ≡ refusal_of t (Make to) → refusal_of t (Rename from to) ≡ (if outgrows t from to then Some refusals.Path else None)
   rename_decided low low_to n at apart found is make = target_decides low low_to n at apart ∙ by_tests (is_directory t (parent to)) (exists t to) (outgrows t from to) (sym (make_is low_to) ∙ sym make ∙ is)
     where
       by_tests : (a b c : Bool) → (if not a then Some refusals.Parent else if b then Some refusals.Exists else None) ≡ None
@@ -60,8 +61,12 @@ module _ (t : Tree) (from to : Path) where
       by_tests true true c e = cc
       by_tests true false c e = refl
 
-  pub rename_too_long : is_root from ≡ false → is_root to ≡ false → (n : Node) → node_at t from ≡ Some n → is_inside to from ≡ false → (found : Option Refusal) → found ≡ None → found ≡ refusal_of t (Make to) → outgrows t from to ≡ true → Some refusals.Path ≡ refusal_of t (Rename from to)
-  rename_too_long low low_to n at apart found is make grows = sym (rename_decided low low_to n at apart found is make ∙ ap (λ b. if b then Some refusals.Path else None) grows)
-
-  pub rename_free : is_root from ≡ false → is_root to ≡ false → (n : Node) → node_at t from ≡ Some n → is_inside to from ≡ false → (found : Option Refusal) → found ≡ None → found ≡ refusal_of t (Make to) → outgrows t from to ≡ false → None ≡ refusal_of t (Rename from to)
-  rename_free low low_to n at apart found is make grows = sym (rename_decided low low_to n at apart found is make ∙ ap (λ b. if b then Some refusals.Path else None) grows)
+  -- the last condition decides
+  pub rename_tested : is_root from ≡ false → is_root to ≡ false → (n : Node) → node_at t from ≡ Some n → is_inside to from ≡ false → (found : Option Refusal) → found ≡ None → found ≡ refusal_of t (Make to)
+      → (grows : Bool) → grows ≡ outgrows t from to → then_some grows refusals.Path ≡ refusal_of t (Rename from to)
+  rename_tested low low_to n at apart found is make grows grows_is =
+      by_test grows ∙ ap (λ b. if b then Some refusals.Path else None) grows_is ∙ sym (rename_decided low low_to n at apart found is make)
+    where
+      by_test : (b : Bool) → then_some b refusals.Path ≡ (if b then Some refusals.Path else None)
+      by_test true = refl
+      by_test false = refl

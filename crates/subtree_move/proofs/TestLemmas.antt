@@ -1,5 +1,5 @@
 -- Lemmas on the test of a move: each path of the subtree is tested, and none behind it.
-use Rattle.std.proofs.Common.{◌≡◌, ℕ, zero, suc, ◌+◌, ◌<◌, ◌≤◌, List, [], ◌∷◌, length, Bool, true, false, not, ◌&&◌, ◌||◌, IsTrue, Option, Some, None, refl, sym, ap, ap₂, subst, ◌∙◌, arith, nat_lt, nat_cmp, ltb-true, ltb-false, Ordering, Less, Equal, Greater}
+use Rattle.std.proofs.Common.{Ok, ◌≡◌, ℕ, zero, suc, ◌+◌, ◌<◌, ◌≤◌, List, [], ◌∷◌, length, Bool, true, false, not, ◌&&◌, ◌||◌, IsTrue, Option, Some, None, refl, sym, ap, ap₂, subst, ◌∙◌, arith, nat_lt, nat_cmp, ltb-true, ltb-false, Ordering, Less, Equal, Greater}
 use Rattle.std.specs.Prelude.{IsSome, IfSome, MatchOption}
 use Rattle.std.specs.List.{AllByRecursion, list_any}
 use Rattle.std.specs.Ordering.{is_le, ordering_then, ordering_reverse}
@@ -16,14 +16,16 @@ use Rattle.store_model.proofs.ListsLemmas.{nat_cmp-lt, all_with}
 use Rattle.store_model.proofs.PathsLemmas.{order_of_keys}
 use Rattle.store_model.proofs.TreesLemmasPaths.{path_cmp_total, same_from_tie}
 use Rattle.store_model.proofs.TreesLemmas.{find_from_all, node_at-find, entry_at, contents_of_tree, all_exist}
-use Rattle.skip_levels.specs.PairsState.{PairsState, most_pairs}
+use Rattle.skip_levels.specs.PairsState.{PairsState, IsObservable, most_pairs}
 use Rattle.tree_pairs.specs.Blocks.{block_value, tree_blocks}
-use Rattle.tree_pairs.specs.TreeCalls.{HoldsTree}
+use Rattle.tree_pairs.specs.TreeCalls.{HoldsTree, KeepsPairs}
 use Rattle.tree_pairs.proofs.BlocksLemmas.{run_value-none, length-run_at, pairs_have_blocks}
 use Rattle.dir_tree.specs.declared.subtree.Block.{Block}
-use Rattle.dir_tree.specs.SubtreeCalls.{LacksFrom, IsFirstFrom, IsWithin}
+use Rattle.dir_tree.specs.SubtreeCalls.{LacksFrom, IsFirstFrom, IsWithin, FindsBlock}
 use Rattle.dir_tree.proofs.OrderLemmas.{less_keys, le_less, less_le, le_le, le_from_less, below_from_not_le, not_le_from_below, below_and_le, top_is_lowest, le_at_first}
-use Rattle.dir_tree.proofs.TreeLemmas.{no_block, block_stands, first_block_there}
+use Rattle.dir_tree.proofs.RefusalLemmas.{kept_on, still_holds}
+use Rattle.dir_tree.proofs.TreeLemmas.{no_block, block_stands, first_block_there, held_blocks}
+use Rattle.subtree_move.specs.MoveCalls.{TellsGrowth}
 use Rattle.subtree_move.proofs.StretchLemmas.{count, count_le, count_falls}
 
 -- ---- the last number, which no block has
@@ -154,6 +156,26 @@ none_grows t p from to turns next (Some z) h part none first = absurd (none z re
 
 pub few_tested : (state : PairsState) (t : Tree) (p : Parameters) (from to : Path) (next : List ℕ) (turns : ℕ) → HoldsTree state t p → length state.pairs ≤ most_pairs → IsPartTested t p from to next turns → turns ≤ most_pairs
 few_tested state t p from to next turns holds few part = let counted = part.counted in omega (arith, ap length holds.pairs_are)
+
+-- ---- the walk over the list
+
+-- a walk that has come so far: no call of it failed, and the pairs are as they were
+pub record HasWalked (old here : PairsState) : Type 0 where
+  pub faults : here.faults ≡ old.faults
+  pub keeps : KeepsPairs old here
+
+-- and one search more
+module _ (from : Path) (next : List ℕ) (old here new : PairsState) (found : Option Block) (walked : HasWalked old here) (search : FindsBlock next from here new (Ok found)) where
+  pub walks_on : HasWalked old new
+  walks_on = record { faults = search.faults ∙ walked.faults; keeps = kept_on old here new walked.keeps search.keeps }
+
+  -- what it answers of a tree that the list held at first
+  pub answered : IsObservable old → (t : Tree) (p : Parameters) → HoldsTree old t p → IsTrue (is_path from) → is_le (key_cmp (key from 0) next) ≡ true → Answered t next from found
+  answered seen t p holds valid low = search.found (walked.keeps.observable seen) (tree_blocks t) (held_blocks here t p (still_holds old here t p walked.keeps seen holds)) valid low
+
+  -- what is told where it is the last
+  pub told_growth : (to : Path) (grows : Bool) → (IsObservable old → (t : Tree) (p : Parameters) → HoldsTree old t p → grows ≡ outgrows t from to) → TellsGrowth from to old new (Ok grows)
+  told_growth to grows told = record { faults = walks_on.faults; keeps = walks_on.keeps; told = told }
 
 -- what a test of the field says
 pub fits_from_some : (fits none : Bool) → none ≡ false → (fits ≡ false → none ≡ true) → fits ≡ true

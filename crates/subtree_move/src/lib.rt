@@ -7,6 +7,3 @@ mod pruning;
 
 pub use moving::rename;
 pub use pruning::prune;
-
-#[cfg(test)]
-mod tests;

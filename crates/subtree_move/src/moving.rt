@@ -53,10 +53,7 @@ fn refusal_to_rename<P: OrderedPairs>(
     if let Some(refusal) = refusal_to_make(pairs, to)? {
         return Ok(Some(refusal));
     }
-    if outgrows(pairs, from, to)? {
-        return Ok(Some(Refusal::Path));
-    }
-    Ok(None)
+    Ok(outgrows(pairs, from, to)?.then_some(Refusal::Path))
 }
 
 /// Whether a path at `from` or below it would be too long, were it moved. The walk jumps from path to path, past the

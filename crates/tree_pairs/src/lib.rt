@@ -5,7 +5,5 @@
 
 mod kind;
 pub mod laws;
-#[cfg(test)]
-mod tests;
 
 pub use kind::{Kind, directory_value, file_value, kind_of};

@@ -1,6 +1,6 @@
 use Rattle.std.proofs.Common.{refl, sym, ◌∙◌}
 use Rattle.store_model.specs.Trees.{node_at}
-use Rattle.dir_tree.proofs.RefusalLemmas.{dir_stands, no_dir_stands, nothing_stands, something_stands, remove_of_root, remove_of_none, remove_of_file, remove_of_parent, remove_of_empty, kept_itself, kept_on, still_holds}
+use Rattle.dir_tree.proofs.RefusalLemmas.{dir_stands, no_dir_stands, nothing_stands, something_stands, remove_of_root, remove_of_none, remove_of_file, remove_of_directory, kept_itself, kept_on, still_holds, told_by_kind}
 use Rattle.dir_tree.proofs.changing.refusal_to_remove.Goals as goal
 
 pub returns-then-is_root-clause-call : goal.returns-then-is_root-clause-call
@@ -12,27 +12,18 @@ returns-then-is_root-clause-call g c = record {
 
 pub returns-in-Absent-clause-call : goal.returns-in-Absent-clause-call
 returns-in-Absent-clause-call g c =
-    let at = c.in_ok-kind_of.ensures.call in
-    record {
-      faults = at.faults;
-      keeps = at.keeps;
-      told = λ seen t p holds. remove_of_none t c.args.path.now (sym c.is_root.ensures.value ∙ c.if-is_root.false) (nothing_stands (node_at t c.args.path.now) c.in_ok-kind_of.field-0 (at.told seen t p holds) c.in-Absent.is);
-    }
+    told_by_kind _ c.args.path.now c.in_ok-kind_of.field-0 _ _ _ c.in_ok-kind_of.ensures.call
+    (λ t told. remove_of_none t c.args.path.now (sym c.is_root.ensures.value ∙ c.if-is_root.false) (nothing_stands (node_at t c.args.path.now) c.in_ok-kind_of.field-0 told c.in-Absent.is))
 
 pub returns-in-File-clause-call : goal.returns-in-File-clause-call
 returns-in-File-clause-call g c =
-    let at = c.in_ok-kind_of.ensures.call in
     let is = c.in-File.is in
-    record {
-      faults = at.faults;
-      keeps = at.keeps;
-      told = λ seen t p holds.
-          let stands = something_stands (node_at t c.args.path.now) c.in_ok-kind_of.field-0 (at.told seen t p holds) (λ none. cc) in
-          remove_of_file t c.args.path.now (sym c.is_root.ensures.value ∙ c.if-is_root.false) stands.0 stands.1 (no_dir_stands (node_at t c.args.path.now) c.in_ok-kind_of.field-0 (at.told seen t p holds) (λ dir. cc));
-    }
+    told_by_kind _ c.args.path.now c.in_ok-kind_of.field-0 _ _ _ c.in_ok-kind_of.ensures.call (λ t told.
+    let stands = something_stands (node_at t c.args.path.now) c.in_ok-kind_of.field-0 told (λ none. cc) in
+    remove_of_file t c.args.path.now (sym c.is_root.ensures.value ∙ c.if-is_root.false) stands.0 stands.1 (no_dir_stands (node_at t c.args.path.now) c.in_ok-kind_of.field-0 told (λ dir. cc)))
 
-pub returns-then-branch-clause-call : goal.returns-then-branch-clause-call
-returns-then-branch-clause-call g c =
+pub returns-in_ok-has_child-in-Dir-clause-call : goal.returns-in_ok-has_child-in-Dir-clause-call
+returns-in_ok-has_child-in-Dir-clause-call g c =
     let old = g.P.OrderedPairs.state c.args.pairs.now in
     let between = g.P.OrderedPairs.state c.kind_of.new.pairs in
     let at = c.in_ok-kind_of.ensures.call in
@@ -42,19 +33,5 @@ returns-then-branch-clause-call g c =
       keeps = kept_on old between (g.P.OrderedPairs.state c.has_child.new.pairs) at.keeps child.keeps;
       told = λ seen t p holds.
           let dir = dir_stands (node_at t c.args.path.now) c.in_ok-kind_of.field-0 (at.told seen t p holds) c.in-Dir.is in
-          remove_of_parent t c.args.path.now (sym c.is_root.ensures.value ∙ c.if-is_root.false) dir (sym (child.told (at.keeps.observable seen) t p (still_holds old between t p at.keeps seen holds) dir) ∙ c.if-branch.true);
-    }
-
-pub returns-else-branch-clause-call : goal.returns-else-branch-clause-call
-returns-else-branch-clause-call g c =
-    let old = g.P.OrderedPairs.state c.args.pairs.now in
-    let between = g.P.OrderedPairs.state c.kind_of.new.pairs in
-    let at = c.in_ok-kind_of.ensures.call in
-    let child = c.in_ok-has_child-in-Dir.ensures.call in
-    record {
-      faults = child.faults ∙ at.faults;
-      keeps = kept_on old between (g.P.OrderedPairs.state c.has_child.new.pairs) at.keeps child.keeps;
-      told = λ seen t p holds.
-          let dir = dir_stands (node_at t c.args.path.now) c.in_ok-kind_of.field-0 (at.told seen t p holds) c.in-Dir.is in
-          remove_of_empty t c.args.path.now (sym c.is_root.ensures.value ∙ c.if-is_root.false) dir (sym (child.told (at.keeps.observable seen) t p (still_holds old between t p at.keeps seen holds) dir) ∙ c.if-branch.false);
+          c.then_some.ensures ∙ remove_of_directory t c.args.path.now (sym c.is_root.ensures.value ∙ c.if-is_root.false) dir c.in_ok-has_child-in-Dir.field-0 (child.told (at.keeps.observable seen) t p (still_holds old between t p at.keeps seen holds) dir);
     }

@@ -1,9 +1,8 @@
 use Rattle.std.proofs.Common.{◌++◌, List, map, drop, length, sym, ap₂, subst, ◌∙◌}
 use Rattle.std.specs.List.Sorted.{IsStrictlySortedBy}
-use Rattle.std.proofs.lemmas.List.{take_rest}
 use Rattle.store_model.specs.Paths.{key_cmp}
 use Rattle.store_model.specs.Pages.{Cell, group_pages}
-use Rattle.layout_scratch.specs.Ranks.{IsFirstGroup}
+use Rattle.layout_scratch.proofs.LevelGroups.{first_from}
 use Rattle.layout_scratch.proofs.LevelPages.{level_none, level_all, level_more, rising_cells, rising_group}
 use Rattle.layout_scratch.proofs.cut.cut_level.Goals as goal
 
@@ -17,7 +16,7 @@ append_group-requires-clause-rising c =
     let start = c.loop-start.start in
     let group = c.first_group-group.result.now in
     let behind = drop (length group) (drop start ranked) in
-    let first = subst (λ rest. IsFirstGroup level rest group (drop (length group) rest)) (take_rest ranked start) c.first_group-group.ensures in
+    let first = first_from level ranked group start c.first_group-group.ensures in
     subst (λ (cells : List Cell). IsStrictlySortedBy key_cmp (map (λ cell. cell.key) cells)) (sym c.in_ok-cells.ensures.value)
     (rising_cells level group (rising_group level ranked group behind c.args.pages.now c.loop-start.pages start c.loop-start.invariant first.whole))
 
@@ -28,7 +27,7 @@ loop-start-preserved c =
     let start = c.loop-start.start in
     let group = c.first_group-group.result.now in
     let pages = c.loop-start.pages in
-    let first = subst (λ rest. IsFirstGroup level rest group (drop (length group) rest)) (take_rest ranked start) c.first_group-group.ensures in
+    let first = first_from level ranked group start c.first_group-group.ensures in
     level_more level ranked group c.args.pages.now pages c.append_group.new.pages start c.loop-start.invariant first
     (λ d levels. c.in_ok-append_group.ensures.ok ∙ ap₂ (λ lead cells. pages ++ group_pages level lead cells) (c.lead_of_group.ensures d levels) c.in_ok-cells.ensures.value)
 

@@ -1,64 +1,43 @@
-use Rattle.std.proofs.Common.{refl, sym, ap, not, ◌∙◌}
+use Rattle.std.proofs.Common.{true, false, refl, sym, ap, not, ◌∙◌}
 use Rattle.std.proofs.lemmas.Bool.{not-false}
 use Rattle.store_model.specs.Paths.{fits_field, replanted}
-use Rattle.tree_pairs.specs.Blocks.{tree_blocks}
-use Rattle.dir_tree.proofs.RefusalLemmas.{kept_itself, kept_on, still_holds}
-use Rattle.dir_tree.proofs.TreeLemmas.{held_blocks}
-use Rattle.subtree_move.proofs.TestLemmas.{none_tested, next_tested, next_grows, none_grows, fits_from_some}
+use Rattle.dir_tree.proofs.RefusalLemmas.{kept_itself}
+use Rattle.subtree_move.proofs.TestLemmas.{none_tested, next_tested, next_grows, none_grows, fits_from_some, walks_on, answered, told_growth}
 use Rattle.subtree_move.proofs.moving.outgrows.Goals as goal
 
 pub loop-init : goal.loop-init
 loop-init g c = record {
-  faults = refl;
-  keeps = kept_itself (g.P.OrderedPairs.state c.args.pairs.now);
+  walked = record { faults = refl; keeps = kept_itself (g.P.OrderedPairs.state c.args.pairs.now) };
   part = λ seen t p holds. none_tested t p c.args.from.now c.args.to.now c.key-next.result c.key-next.ensures.path c.key-next.ensures.value;
   follows = g.met.P.OrderedPairs.follows_refl _;
 }
 
 pub loop-preserved : goal.loop-preserved
 loop-preserved g c =
-    let old = g.P.OrderedPairs.state c.args.pairs.now in
-    let here = g.P.OrderedPairs.state c.loop.pairs in
     let kept = c.loop.invariant in
     let search = c.in_ok-found.ensures in
     record {
-      faults = search.call.faults ∙ kept.faults;
-      keeps = kept_on old here (g.P.OrderedPairs.state c.next_within.new.pairs) kept.keeps search.call.keeps;
+      walked = walks_on _ _ _ _ _ _ kept.walked search.call;
       part = λ seen t p holds.
           let part = kept.part seen t p holds in
           next_tested t p c.args.from.now c.args.to.now c.loop.counter c.loop.next c.key-next-in-loop.result c.in_ok-found.field-0 c.in-Some.found holds.tree part c.in-Some.is search.call.within
-          (search.call.found (kept.keeps.observable seen) (tree_blocks t) (held_blocks here t p (still_holds old here t p kept.keeps seen holds)) c.key-next.ensures.path part.low)
+          (answered _ _ _ _ _ _ kept.walked search.call seen t p holds c.key-next.ensures.path part.low)
           (fits_from_some (fits_field (replanted c.args.from.now c.args.to.now c.in-Some.found.path)) c.is_none.result c.if-is_none.false (λ long. not-false c.is_none.result (sym c.is_none.ensures ∙ c.replant.ensures.none.1 long))) c.key-next-in-loop.ensures.value;
       follows = g.met.P.OrderedPairs.follows_trans _ _ _ kept.follows search.follows;
     }
 
 pub returns-in_default-clause-call : goal.returns-in_default-clause-call
 returns-in_default-clause-call g c =
-    let old = g.P.OrderedPairs.state c.args.pairs.now in
-    let here = g.P.OrderedPairs.state c.loop.pairs in
     let kept = c.loop.invariant in
-    let search = c.in_ok-found.ensures in
-    record {
-      faults = search.call.faults ∙ kept.faults;
-      keeps = kept_on old here (g.P.OrderedPairs.state c.next_within.new.pairs) kept.keeps search.call.keeps;
-      told = λ seen t p holds.
-          let part = kept.part seen t p holds in
-          none_grows t p c.args.from.now c.args.to.now c.loop.counter c.loop.next c.in_ok-found.field-0 holds.tree part c.in_default.not-Some
-          (search.call.found (kept.keeps.observable seen) (tree_blocks t) (held_blocks here t p (still_holds old here t p kept.keeps seen holds)) c.key-next.ensures.path part.low);
-    }
+    let search = c.in_ok-found.ensures.call in
+    told_growth _ _ _ _ _ _ kept.walked search c.args.to.now false (λ seen t p holds.
+    let part = kept.part seen t p holds in
+    none_grows t p c.args.from.now c.args.to.now c.loop.counter c.loop.next c.in_ok-found.field-0 holds.tree part c.in_default.not-Some (answered _ _ _ _ _ _ kept.walked search seen t p holds c.key-next.ensures.path part.low))
 
 pub returns-then-is_none-clause-call : goal.returns-then-is_none-clause-call
 returns-then-is_none-clause-call g c =
-    let old = g.P.OrderedPairs.state c.args.pairs.now in
-    let here = g.P.OrderedPairs.state c.loop.pairs in
     let kept = c.loop.invariant in
-    let search = c.in_ok-found.ensures in
-    record {
-      faults = search.call.faults ∙ kept.faults;
-      keeps = kept_on old here (g.P.OrderedPairs.state c.next_within.new.pairs) kept.keeps search.call.keeps;
-      told = λ seen t p holds.
-          let part = kept.part seen t p holds in
-          next_grows t c.args.from.now c.args.to.now c.loop.next c.in_ok-found.field-0 c.in-Some.found holds.tree c.in-Some.is search.call.within
-          (search.call.found (kept.keeps.observable seen) (tree_blocks t) (held_blocks here t p (still_holds old here t p kept.keeps seen holds)) c.key-next.ensures.path part.low)
-          (c.replant.ensures.none.0 (c.is_none.ensures ∙ ap not c.if-is_none.true));
-    }
+    let search = c.in_ok-found.ensures.call in
+    told_growth _ _ _ _ _ _ kept.walked search c.args.to.now true (λ seen t p holds.
+    next_grows t c.args.from.now c.args.to.now c.loop.next c.in_ok-found.field-0 c.in-Some.found holds.tree c.in-Some.is search.within
+    (answered _ _ _ _ _ _ kept.walked search seen t p holds c.key-next.ensures.path (kept.part seen t p holds).low) (c.replant.ensures.none.0 (c.is_none.ensures ∙ ap not c.if-is_none.true)))

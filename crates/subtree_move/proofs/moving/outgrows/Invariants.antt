@@ -1,15 +1,13 @@
-use Rattle.std.proofs.Common.{◌≡◌}
 use Rattle.store_model.specs.Parameters.{Parameters}
 use Rattle.store_model.specs.Trees.{Tree}
 use Rattle.skip_levels.specs.PairsState.{IsObservable}
-use Rattle.tree_pairs.specs.TreeCalls.{HoldsTree, KeepsPairs}
-use Rattle.subtree_move.proofs.TestLemmas.{IsPartTested}
+use Rattle.tree_pairs.specs.TreeCalls.{HoldsTree}
+use Rattle.subtree_move.proofs.TestLemmas.{IsPartTested, HasWalked}
 use Rattle.subtree_move.proofs.moving.outgrows.Given as goal
 
 abbrev pub invariant-loop : goal.invariant-loop
 invariant-loop g l = record {
-  faults : (g.P.OrderedPairs.state l.pairs).faults ≡ (g.P.OrderedPairs.state l.fn.pairs).faults;
-  keeps : KeepsPairs (g.P.OrderedPairs.state l.fn.pairs) (g.P.OrderedPairs.state l.pairs);
+  walked : HasWalked (g.P.OrderedPairs.state l.fn.pairs) (g.P.OrderedPairs.state l.pairs);
   part : IsObservable (g.P.OrderedPairs.state l.fn.pairs) → (t : Tree) (p : Parameters) → HoldsTree (g.P.OrderedPairs.state l.fn.pairs) t p → IsPartTested t p l.from l.to l.next l.counter;
   follows : g.P.OrderedPairs.follows l.fn.pairs l.pairs;
 }

@@ -3,7 +3,7 @@ use Rattle.std.proofs.lemmas.Bool.{or_left, or_right}
 use Rattle.store_model.specs.Paths.{is_root}
 use Rattle.store_model.specs.Trees.{node_at}
 use Rattle.dir_tree.proofs.RefusalLemmas.{nothing_stands, something_stands, none_found, kept_itself, kept_on, still_holds}
-use Rattle.subtree_move.proofs.RenameLemmas.{rename_at_root, rename_of_none, rename_inside, rename_to_taken, rename_too_long, rename_free}
+use Rattle.subtree_move.proofs.RenameLemmas.{rename_at_root, rename_of_none, rename_inside, rename_to_taken, rename_tested}
 use Rattle.subtree_move.proofs.moving.refusal_to_rename.Goals as goal
 use Rattle.subtree_move.proofs.moving.refusal_to_rename.Goals.{then-is_root-via-then-is_root, then-is_root-via-else-is_root+then-is_root-2}
 
@@ -66,31 +66,6 @@ returns-in-Some g c =
       follows = g.met.P.OrderedPairs.follows_trans _ _ _ at.follows make.follows;
     }
 
-pub returns-then-branch : goal.returns-then-branch
-returns-then-branch g c =
-    let old = g.P.OrderedPairs.state c.args.pairs.now in
-    let between = g.P.OrderedPairs.state c.kind_of.new.pairs in
-    let third = g.P.OrderedPairs.state c.refusal_to_make.new.pairs in
-    let at = c.in_ok-kind_of.ensures in
-    let make = c.in_ok-refusal.ensures in
-    let grow = c.in_ok-outgrows.ensures in
-    let keeps = kept_on old between third at.call.keeps make.call.keeps in
-    let low : is_root c.args.from.now ≡ false = sym c.is_root-else-is_root.ensures.value ∙ c.if-is_root-2.false in
-    let low_to : is_root c.args.to.now ≡ false = sym c.is_root.ensures.value ∙ c.if-is_root.false in
-    record {
-      call = record {
-        faults = grow.call.faults ∙ make.call.faults ∙ at.call.faults;
-        keeps = kept_on old third (g.P.OrderedPairs.state c.outgrows.new.pairs) keeps grow.call.keeps;
-        told = λ seen t p holds.
-            let stands = something_stands (node_at t c.args.from.now) c.in_ok-kind_of.field-0 (at.call.told seen t p holds) c.in_default.not-Absent in
-            rename_too_long t c.args.from.now c.args.to.now low low_to stands.0 stands.1 (sym c.is_inside.ensures.value ∙ c.if-is_inside.false) c.in_ok-refusal.field-0 (none_found c.in_ok-refusal.field-0 c.in_default-2.not-Some)
-            (make.call.told (at.call.keeps.observable seen) t p (still_holds old between t p at.call.keeps seen holds))
-            (sym (grow.call.told (keeps.observable seen) t p (still_holds old third t p keeps seen holds)) ∙ c.if-branch.true);
-      };
-      valid = c.is_root.ensures.valid;
-      follows = g.met.P.OrderedPairs.follows_trans _ _ _ at.follows (g.met.P.OrderedPairs.follows_trans _ _ _ make.follows grow.follows);
-    }
-
 pub returns : goal.returns
 returns g c =
     let old = g.P.OrderedPairs.state c.args.pairs.now in
@@ -108,9 +83,9 @@ returns g c =
         keeps = kept_on old third (g.P.OrderedPairs.state c.outgrows.new.pairs) keeps grow.call.keeps;
         told = λ seen t p holds.
             let stands = something_stands (node_at t c.args.from.now) c.in_ok-kind_of.field-0 (at.call.told seen t p holds) c.in_default.not-Absent in
-            rename_free t c.args.from.now c.args.to.now low low_to stands.0 stands.1 (sym c.is_inside.ensures.value ∙ c.if-is_inside.false) c.in_ok-refusal.field-0 (none_found c.in_ok-refusal.field-0 c.in_default-2.not-Some)
+            c.then_some.ensures ∙ rename_tested t c.args.from.now c.args.to.now low low_to stands.0 stands.1 (sym c.is_inside.ensures.value ∙ c.if-is_inside.false) c.in_ok-refusal.field-0 (none_found c.in_ok-refusal.field-0 c.in_default-2.not-Some)
             (make.call.told (at.call.keeps.observable seen) t p (still_holds old between t p at.call.keeps seen holds))
-            (sym (grow.call.told (keeps.observable seen) t p (still_holds old third t p keeps seen holds)) ∙ c.if-branch.false);
+            c.in_ok-outgrows.field-0 (grow.call.told (keeps.observable seen) t p (still_holds old third t p keeps seen holds));
       };
       valid = c.is_root.ensures.valid;
       follows = g.met.P.OrderedPairs.follows_trans _ _ _ at.follows (g.met.P.OrderedPairs.follows_trans _ _ _ make.follows grow.follows);

@@ -1,6 +1,6 @@
 use Rattle.std.proofs.Common.{refl, sym, ◌∙◌}
 use Rattle.store_model.specs.Trees.{node_at}
-use Rattle.dir_tree.proofs.RefusalLemmas.{nothing_stands, something_stands, prune_of_root, prune_of_none, prune_of_one, kept_itself}
+use Rattle.dir_tree.proofs.RefusalLemmas.{nothing_stands, something_stands, prune_of_root, prune_of_none, prune_of_one, kept_itself, told_by_kind}
 use Rattle.subtree_move.proofs.pruning.refusal_to_prune.Goals as goal
 
 pub returns-then-is_root-clause-call : goal.returns-then-is_root-clause-call
@@ -12,23 +12,13 @@ returns-then-is_root-clause-call g c = record {
 
 pub returns-in-Absent-clause-call : goal.returns-in-Absent-clause-call
 returns-in-Absent-clause-call g c =
-    let at = c.in_ok-kind_of.ensures.call in
-    record {
-      faults = at.faults;
-      keeps = at.keeps;
-      told = λ seen t p holds. prune_of_none t c.args.path.now (sym c.is_root.ensures.value ∙ c.if-is_root.false) (nothing_stands (node_at t c.args.path.now) c.in_ok-kind_of.field-0 (at.told seen t p holds) c.in-Absent.is);
-    }
+    told_by_kind _ c.args.path.now c.in_ok-kind_of.field-0 _ _ _ c.in_ok-kind_of.ensures.call
+    (λ t told. prune_of_none t c.args.path.now (sym c.is_root.ensures.value ∙ c.if-is_root.false) (nothing_stands (node_at t c.args.path.now) c.in_ok-kind_of.field-0 told c.in-Absent.is))
 
 pub returns-in_default : goal.returns-in_default
-returns-in_default g c =
-    let at = c.in_ok-kind_of.ensures in
-    record {
-      call = record {
-        faults = at.call.faults;
-        keeps = at.call.keeps;
-        told = λ seen t p holds.
-            let stands = something_stands (node_at t c.args.path.now) c.in_ok-kind_of.field-0 (at.call.told seen t p holds) c.in_default.not-Absent in
-            prune_of_one t c.args.path.now (sym c.is_root.ensures.value ∙ c.if-is_root.false) stands.0 stands.1;
-      };
-      follows = at.follows;
-    }
+returns-in_default g c = record {
+  call = told_by_kind _ c.args.path.now c.in_ok-kind_of.field-0 _ _ _ c.in_ok-kind_of.ensures.call (λ t told.
+      let stands = something_stands (node_at t c.args.path.now) c.in_ok-kind_of.field-0 told c.in_default.not-Absent in
+      prune_of_one t c.args.path.now (sym c.is_root.ensures.value ∙ c.if-is_root.false) stands.0 stands.1);
+  follows = c.in_ok-kind_of.ensures.follows;
+}

@@ -1,0 +1,12 @@
+//! The tests, a module for each kind of what is tested, and pages and pairs that count their calls.
+
+mod counted_pages;
+mod counted_pairs;
+mod directories;
+mod files;
+mod journals;
+mod layouts;
+mod listed_pages;
+mod moves;
+mod skip_lists;
+mod tables;
