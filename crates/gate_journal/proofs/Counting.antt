@@ -21,15 +21,15 @@ numbers_split first (suc n) m =
     let there : suc first + n ≡ first + suc n = omega arith in
     ap (numbers_from first) more ∙ ap (λ (l : List ℕ). first ∷ l) (numbers_split (suc first) n m) ∙ ap (λ (k : ℕ). first ∷ numbers_from (suc first) n ++ numbers_from k m) there
 
-sum_split : (f : ℕ → ℕ) (first n m : ℕ) → sum_by f (numbers_from first (n + m)) ≡ sum_by f (numbers_from first n) + sum_by f (numbers_from (first + n) m)
+pub sum_split : (f : ℕ → ℕ) (first n m : ℕ) → sum_by f (numbers_from first (n + m)) ≡ sum_by f (numbers_from first n) + sum_by f (numbers_from (first + n) m)
 sum_split f first n m = ap (sum_by f) (numbers_split first n m) ∙ sum_by-append f (numbers_from first n) (numbers_from (first + n) m)
 
-sum_one : (f : ℕ → ℕ) (first : ℕ) → sum_by f (numbers_from first 1) ≡ f first
+pub sum_one : (f : ℕ → ℕ) (first : ℕ) → sum_by f (numbers_from first 1) ≡ f first
 unfolding numbers_from
 sum_one f first = let none : 0 + f first ≡ f first = omega arith in none
 
 -- equal summands
-sum_same : (f g : ℕ → ℕ) (first count : ℕ) → ((i : ℕ) → first ≤ i → i < first + count → f i ≡ g i) → sum_by f (numbers_from first count) ≡ sum_by g (numbers_from first count)
+pub sum_same : (f g : ℕ → ℕ) (first count : ℕ) → ((i : ℕ) → first ≤ i → i < first + count → f i ≡ g i) → sum_by f (numbers_from first count) ≡ sum_by g (numbers_from first count)
 unfolding numbers_from
 sum_same f g first zero same = refl
 sum_same f g first (suc count) same =

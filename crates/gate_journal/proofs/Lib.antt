@@ -15,3 +15,4 @@ pub mod Recoveries
 pub mod Formatting
 pub mod Layouts
 pub mod Wiping
+pub mod Openings

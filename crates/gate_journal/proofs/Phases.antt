@@ -12,7 +12,7 @@ use Rattle.gate_journal.proofs.Areas.{areas, journal_end, table_end, shadow_end,
 use Rattle.gate_journal.proofs.Slots.{flat_map-blocks, flat_map-same}
 
 -- images whose parts are equal
-same_parts : (slots : ℕ) (head other_head : List ℕ) (slot other : ℕ → List ℕ) → head ≡ other_head → ((i : ℕ) → i < slots → slot i ≡ other i)
+pub same_parts : (slots : ℕ) (head other_head : List ℕ) (slot other : ℕ → List ℕ) → head ≡ other_head → ((i : ℕ) → i < slots → slot i ≡ other i)
     → head ++ zeros (journal_len slots) ++ flat_map slot (numbers_below slots) ≡ other_head ++ zeros (journal_len slots) ++ flat_map other (numbers_below slots)
 same_parts slots head other_head slot other heads same =
     ap (λ (l : List ℕ). l ++ zeros (journal_len slots) ++ flat_map slot (numbers_below slots)) heads

@@ -38,7 +38,7 @@ pub record Begins (slots : ℕ) (changes : Changes) (start : DiskState) : Type 0
   pub empty : HasEmptyJournal slots start.bytes
   pub durable : IsDurable start
 
--- what a crash may leave recovers to the old image or to the new one
+-- each image left by a crash recovers to that before the changes or to that with them
 abbrev LeavesEither : ℕ → Changes → DiskState → DiskState → Type 0
 LeavesEither slots changes start new = LeavesOnly start new (RecoversToEither slots start.bytes (with_slots slots changes start.bytes))
 

@@ -60,9 +60,9 @@ AreJournaled slots changes n image = (k : ℕ) → k < n → HasEntry slots (cha
 abbrev pub AreErased : ℕ → Changes → ℕ → List ℕ → Type 0
 AreErased slots changes n image = (k : ℕ) → k < n → HasEntry slots (changes.slot k) 0 (zeros block_len) image
 
--- A commit of the changes: an image that a crash at any moment of it may leave is as long and recovers to the old image or
--- to the one with the slots changed, and so does what is read after a fault; after Ok the disk is durable and reads the
--- latter.
+-- A commit of the changes. Each image that a crash at any moment of it may leave has the old length and recovers to the
+-- old image or to the one with the slots changed; the same holds of the bytes that the disk reads, whatever the answer.
+-- Ok says that it reads the second of these, and durably.
 pub record Commits {T E : Type 0} (slots : ℕ) (changes : Changes) (old new : DiskState) (result : Result T E) : Type 0 where
   pub crash : LeavesOnly old new (RecoversToEither slots old.bytes (with_slots slots changes old.bytes))
   pub reads : RecoversToEither slots old.bytes (with_slots slots changes old.bytes) new.bytes

@@ -1,3 +1,4 @@
+pub mod Caches
 pub mod Changes
 pub mod Passes
 pub mod Phases
@@ -8,3 +9,5 @@ pub mod ViewState
 pub mod Formats
 pub mod View
 pub mod Wipes
+pub mod Costs
+pub mod Disks

@@ -12,6 +12,7 @@ ghost use Rattle.sha2.specs.Sha256.{sha256};
 ghost use Rattle.gate_journal.specs.Wipes.{Wipes, block_count};
 ghost use Rattle.gate_journal.specs.Formats.{IsEmptyOrNone, Formats, faults_after_format};
 
+use crate::cache::JournalCache;
 use crate::changes::SlotChanges;
 use crate::commit::commit_changes;
 use crate::digest::digest_disk;
@@ -148,9 +149,9 @@ impl Journal {
         ensures reads { IsObservable (D.state disk.old) → ReadsOnly (D.state disk.old) (D.state disk.new) }
         ensures slot { IsObservable (D.state disk.old) → OnOk result (into.new ≡ recovered_slot params.now.slots (D.state disk.old).bytes at) }
     {
-        read_slot(disk, params.slots(), at, into)
+        read_slot(disk, &mut JournalCache::new(), params.slots(), at, into)
     }
-    /// Makes every byte of a disk of any length zero, the first one before all others.
+    /// Fills the disk with zeros, however long it is, and the first byte before all others.
     ///
     /// What the disk reads is then as it was with any first byte, or begins with zero, after `DiskFault` too. If nothing
     /// was pending before, so is each image that a crash at any moment of the call may leave. After Ok every byte is zero

@@ -9,6 +9,7 @@
 //! lie; what the slots hold is nothing to it. No call takes memory.
 #![tactic(auto)]
 
+mod cache;
 mod changes;
 mod commit;
 mod digest;
@@ -23,6 +24,3 @@ pub use changes::SlotChanges;
 pub use fault::JournalFault;
 pub use journal::Journal;
 pub use view::View;
-
-#[cfg(test)]
-mod tests;

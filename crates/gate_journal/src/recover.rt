@@ -33,7 +33,7 @@ fn is_block_zero<D: Disk>(disk: &mut D, at: u64) -> Result<bool, DiskFault>
 }
 
 /// Whether the byte at this offset is not zero.
-pub fn is_byte_set<D: Disk>(disk: &mut D, at: u64) -> Result<bool, DiskFault>
+fn is_byte_set<D: Disk>(disk: &mut D, at: u64) -> Result<bool, DiskFault>
     requires { at + 1 ≤ (D.state disk.old).size }
     ensures call { IsCall (D.state disk.old) (D.state disk.new) result }
     ensures reads { IsObservable (D.state disk.old) → ReadsOnly (D.state disk.old) (D.state disk.new) }

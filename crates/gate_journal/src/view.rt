@@ -1,50 +1,44 @@
 //! The slots of the image that a disk recovers to, read without recovering it.
-ghost use Rattle.std.specs.Prelude.{◌≡◌, ◌+◌, ◌<◌, ◌≤◌, not, ◌==◌, ◌&&◌, slice_index, OnOk, IfOk};
+ghost use Rattle.std.specs.Prelude.{◌≡◌, ◌+◌, ◌<◌, ◌≤◌, OnOk, IfOk};
 ghost use Rattle.store_model.specs.Parameters.{IsParameters, image_len, slots_limit, block_len};
-ghost use Rattle.store_model.specs.Images.{bytes_at, is_flag_set, is_marked, recovered_slot};
+ghost use Rattle.store_model.specs.Images.{bytes_at, recovered_slot};
 ghost use Rattle.disk_model.specs.DiskState.{DiskState, IsObservable};
 ghost use Rattle.gate_journal.specs.Places.{AreCalls, ReadsOnly};
+ghost use Rattle.gate_journal.specs.Caches.{IsCacheOf};
 ghost use Rattle.gate_journal.specs.ViewState.{viewed, viewed_count, viewed_whole, KeepsView, KeepsView-refl, KeepsView-trans};
 
-use crate::recover::{is_byte_set, is_flag_set};
+use crate::cache::JournalCache;
 use disk_model::Disk;
-use store_base::{DiskFault, Fault, Params, ReadSlots, Slot, mark_at, shadow_at, table_at};
-
-/// Whether recovery redoes this slot: the commit flag is set, and the slot is marked.
-fn is_redone<D: Disk>(disk: &mut D, slots: u32, slot: u32) -> Result<bool, DiskFault>
-    requires in_range { slots ≤ slots_limit }
-    requires below { slot < slots }
-    requires size { (D.state disk.old).size ≡ image_len slots }
-    ensures calls { AreCalls (D.state disk.old) (D.state disk.new) result }
-    ensures reads { IsObservable (D.state disk.old) → ReadsOnly (D.state disk.old) (D.state disk.new) }
-    ensures value { IsObservable (D.state disk.old) → IfOk result (λ redone. redone ≡ (is_flag_set (D.state disk.old).bytes && is_marked (D.state disk.old).bytes slot)) }
-{
-    if !is_flag_set(disk)? {
-        return Ok(false);
-    }
-    is_byte_set(disk, mark_at(slot))
-}
+use store_base::{DiskFault, Fault, Params, ReadSlots, Slot, shadow_at, table_at};
 
 /// Where the bytes lie that recovery leaves in this slot.
-fn place_of<D: Disk>(disk: &mut D, slots: u32, slot: u32) -> Result<u64, DiskFault>
+fn place_of<D: Disk>(
+    disk: &mut D,
+    cache: &mut JournalCache,
+    slots: u32,
+    slot: u32,
+) -> Result<u64, DiskFault>
     requires in_range { slots ≤ slots_limit }
     requires below { slot < slots }
     requires size { (D.state disk.old).size ≡ image_len slots }
+    requires cache { IsCacheOf (D.state disk.old) cache.old }
     ensures calls { AreCalls (D.state disk.old) (D.state disk.new) result }
     ensures reads { IsObservable (D.state disk.old) → ReadsOnly (D.state disk.old) (D.state disk.new) }
+    ensures cache { IsCacheOf (D.state disk.new) cache.new }
     ensures within { IfOk result (λ place. place + block_len ≤ image_len slots) }
     ensures value { IsObservable (D.state disk.old) → IfOk result (λ place. bytes_at (D.state disk.old).bytes place block_len ≡ recovered_slot slots (D.state disk.old).bytes slot) }
 {
-    if is_redone(disk, slots, slot)? {
+    if cache.is_redone(disk, slots, slot)? {
         Ok(shadow_at(slots, slot))
     } else {
         Ok(table_at(slots, slot))
     }
 }
 
-/// Reads what recovery leaves in this slot.
+/// Reads what recovery leaves in this slot. What the cache has of the journal is not read again.
 pub fn read_slot<D: Disk>(
     disk: &mut D,
+    cache: &mut JournalCache,
     slots: u32,
     slot: u32,
     into: &mut Slot,
@@ -52,22 +46,27 @@ pub fn read_slot<D: Disk>(
     requires in_range { slots ≤ slots_limit }
     requires below { slot < slots }
     requires size { (D.state disk.old).size ≡ image_len slots }
+    requires cache { IsCacheOf (D.state disk.old) cache.old }
     ensures calls { AreCalls (D.state disk.old) (D.state disk.new) result }
     ensures reads { IsObservable (D.state disk.old) → ReadsOnly (D.state disk.old) (D.state disk.new) }
+    ensures cache { IsCacheOf (D.state disk.new) cache.new }
     ensures slot { IsObservable (D.state disk.old) → OnOk result (into.new ≡ recovered_slot slots (D.state disk.old).bytes slot) }
 {
-    let place = place_of(disk, slots, slot)?;
+    let place = place_of(disk, cache, slots, slot)?;
     disk.read_at(place, into)
 }
 
 /// The slots of the image that a disk recovers to, read through the journal; the disk is not written.
 ///
-/// Its calls take no memory, and its faults are the disk's.
+/// The commit flag is read once, and the marks by block: for slots asked in order, each block of them once. Its calls
+/// take no memory, and its faults are the disk's.
 #[derive(Drop)]
 pub struct View<D: Disk> {
     disk: D,
     params: Params,
+    cache: JournalCache,
     ghost sized: { (D.state disk).size ≡ image_len params.slots },
+    ghost cached: { IsCacheOf (D.state disk) cache },
 }
 
 impl<D: Disk> View<D> {
@@ -82,6 +81,7 @@ impl<D: Disk> View<D> {
         View {
             disk,
             params: *params,
+            cache: JournalCache::new(),
         }
     }
 
@@ -117,6 +117,12 @@ impl<D: Disk> ReadSlots for View<D> {
     ghost follows_trans = { λ old mid new. KeepsView-trans (params_of old) (params_of mid) (params_of new) (D.state (disk_of old)) (D.state (disk_of mid)) (D.state (disk_of new)) };
 
     fn get(&mut self, at: u32, into: &mut Slot) -> Result<(), Fault> {
-        Ok(read_slot(&mut self.disk, self.params.slots(), at, into)?)
+        Ok(read_slot(
+            &mut self.disk,
+            &mut self.cache,
+            self.params.slots(),
+            at,
+            into,
+        )?)
     }
 }

@@ -29,5 +29,13 @@ returns g c =
               slots = ap (λ (l : List ℕ). map (recovered_slot slots l) (numbers_below slots)) (c.read_slot.ensures.reads observable).bytes;
             };
       };
-      follows = record { params = refl; size = c.read_slot.ensures.calls.size; observable = c.read_slot.ensures.calls.observable; reads = c.read_slot.ensures.reads };
+      follows = record {
+        params = refl;
+        size = c.read_slot.ensures.calls.size;
+        observable = c.read_slot.ensures.calls.observable;
+        rise = c.read_slot.ensures.calls.rise;
+        writes = c.read_slot.ensures.calls.writes;
+        syncs = c.read_slot.ensures.calls.syncs;
+        reads = c.read_slot.ensures.reads;
+      };
     }
