@@ -21,6 +21,7 @@ use Rattle.store_model.proofs.PlacementLemmasOrder.{probe_once, one_page, not_be
 use Rattle.store_model.proofs.PlacementLemmasTables.{tied_label_bytes, held_page}
 use Rattle.store_model.proofs.TreesLemmasBytes.{labels_same}
 use Rattle.store_model.proofs.PageMapsLemmas.{len-pages_of_map, found_stands, standing_found, page_at-with_page, HoldsPages-lookups}
+use Rattle.ordered_table.specs.Carrying.{SmallerFirst, Carries}
 use Rattle.ordered_table.proofs.Reading.{probe_next, probe_within}
 use Rattle.ordered_table.proofs.Searching.{held_table}
 
@@ -89,10 +90,6 @@ one_place d table i j page law is held_i held_j = by_order (cases_lt a.0 b.0) (c
 
 -- ---- a page in its place
 
--- each slot from the page's start on, this many, holds a page of smaller label
-abbrev pub SmallerFirst : Draw → Table → Page → ℕ → Type 0
-SmallerFirst d table page way = (k : ℕ) → k < way → (other : Page) × HoldsPage table (probe d.slots (d.start page.label) k) other × (label_cmp other.label page.label ≡ Less)
-
 -- the page goes into a slot that is free or holds a greater page, behind smaller pages alone
 pub put_ordered : (d : Draw) (table : Table) (page : Page) (at way : ℕ) (what : Option Page) → IsLawful d → IsOrderedTable d table → IsPage page → at ≡ probe d.slots (d.start page.label) way → way < d.slots → SmallerFirst d table page way
     → slice_get table at ≡ Some what → ((q : Page) → what ≡ Some q → label_cmp page.label q.label ≡ Less) → IsOrderedTable d (slice_set table at (Some page))
@@ -132,28 +129,6 @@ put_ordered d table page at way what law is valid here within smaller there grea
         still_smaller p r.0 (probe d.slots (d.start p.label) k) r.1 r.2 (same_or_not (probe d.slots (d.start p.label) k) at)
 
 -- ---- the page in hand
-
--- The slots are those of an ordered table of all pages of a map but the one in hand. That one came to its slot over smaller
--- pages alone, and from the first page's start on there is a free slot that wasn't looked at yet.
-pub record Carries (d : Draw) (slots : List (List ℕ)) (m : PageMap) (first : Label) (look at : ℕ) (label : Label) (hand : List ℕ) : Type 0 where
-  pub table : Table
-  pub carried : Page
-  pub label_is : label ≡ carried.label
-  pub hand_is : hand ≡ slot_bytes (Some carried)
-  pub valid : IsPage carried
-  pub in_map : page_at m carried.label ≡ Some carried
-  pub ordered : IsOrderedTable d table
-  pub slots_are : slots ≡ slots_of table
-  pub there : (slot : ℕ) (page : Page) → HoldsPage table slot page → page_at m page.label ≡ Some page
-  pub apart : (slot : ℕ) (page : Page) → HoldsPage table slot page → page.label ≡ carried.label → ⊥
-  pub rest : (page : Page) → page_at m page.label ≡ Some page → (page ≡ carried) ⊎ ((slot : ℕ) × HoldsPage table slot page)
-  pub way : ℕ
-  pub way_is : at ≡ probe d.slots (d.start carried.label) way
-  pub smaller : SmallerFirst d table carried way
-  pub free : ℕ
-  pub ahead : look ≤ free
-  pub within : free < d.slots
-  pub is_free : slice_get table (probe d.slots (d.start first) free) ≡ Some None
 
 -- it didn't go once round: a slot is free
 pub way_within : (d : Draw) (slots : List (List ℕ)) (m : PageMap) (first : Label) (look at : ℕ) (label : Label) (hand : List ℕ) → IsLawful d → (c : Carries d slots m first look at label hand) → c.way < d.slots

@@ -2,4 +2,5 @@ pub mod Reading
 pub mod Searching
 pub mod Inserting
 pub mod InsertCalls
+pub mod Settling
 pub mod Overwriting

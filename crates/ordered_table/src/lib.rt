@@ -20,6 +20,3 @@ pub use mem_slots::MemSlots;
 pub use round::next_slot;
 pub use search::find;
 pub use steps::Steps;
-
-#[cfg(test)]
-mod tests;
