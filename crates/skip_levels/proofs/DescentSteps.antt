@@ -66,8 +66,8 @@ module _ (old : PagesState) (height : ℕ) (key : List ℕ) where
     level_cost n g within d s h same =
         omega (arith, (level_searched n g within d s h same).lookups, n.lookups d s h same, cost_of_level d s key level height h.pairs within)
 
-    pub descent_fails : (fault : Fault) → 1 ≤ level → level < height → IsGroupSearch now next level (lead_of lead) key (Err fault) → IsDescent old next height key (Err fault)
-    descent_fails fault low within search = record {
+    pub descent_fails : (fault : Fault) (bottom : ℕ) → suc bottom ≤ level → level < height → IsGroupSearch now next level (lead_of lead) key (Err fault) → IsDescent old next height bottom key (Err fault)
+    descent_fails fault bottom low within search = record {
       faults = search.faults ∙ ap (λ n. disk_faults_after {T = Neighbours} n (Err fault)) w.faults ∙ same_count fault;
       lookups_kept = omega (arith, search.lookups_kept, w.lookups_kept);
       hidden = λ o. w.hidden (search.hidden o);
@@ -76,7 +76,7 @@ module _ (old : PagesState) (height : ℕ) (key : List ℕ) where
         unchanged = g.unchanged ∙ s.unchanged;
         lead = tt;
         next = tt;
-        lookups = λ d pairs h same. omega (arith, level_cost s g within d pairs h same, cost_within d pairs key 1 level height low (omega arith));
+        lookups = λ d pairs h same. omega (arith, level_cost s g within d pairs h same, cost_within d pairs key (suc bottom) level height low (omega arith));
       };
     }
       where
@@ -111,8 +111,8 @@ module _ (old : PagesState) (height : ℕ) (key : List ℕ) where
       };
     }
 
-  pub descent_ends : (now : PagesState) (lead : Lead) (ahead : Option (List ℕ)) (level : ℕ) → level ≡ 0 → Descends old now height level key lead ahead → IsDescent old now height key (Ok (record { lead = lead; next = ahead }))
-  descent_ends now lead ahead level low w = record {
+  pub descent_ends : (now : PagesState) (lead : Lead) (ahead : Option (List ℕ)) (level bottom : ℕ) → level ≡ bottom → Descends old now height level key lead ahead → IsDescent old now height bottom key (Ok (record { lead = lead; next = ahead }))
+  descent_ends now lead ahead level bottom low w = record {
     faults = w.faults;
     lookups_kept = w.lookups_kept;
     hidden = w.hidden;

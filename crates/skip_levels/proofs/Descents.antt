@@ -56,27 +56,33 @@ module _ (d : Draw) (level : ℕ) (key : List ℕ) where
       by_test true false e rest = absurd (cc)
       by_test false true e rest = absurd (cc)
 
+-- the cells of the group of a place are not above the key before the place, and above it behind
+group_sides : (d : Draw) (level : ℕ) (key : List ℕ) (low high : List Pair) → AllByRecursion (λ c. is_not_above key c ≡ true) (level_list d low level) → AllByRecursion (λ c. is_not_above key c ≡ false) (level_list d high level)
+    → AllByRecursion (λ c. is_not_above key c ≡ true) (last_part (leads_group d level) (level_list d low level)).part × AllByRecursion (λ c. is_not_above key c ≡ false) (first_cut (leads_group d level) (level_list d high level)).part
+group_sides d level key low high passes fails =
+    let l = last_part (leads_group d level) (level_list d low level) in
+    let h = first_cut (leads_group d level) (level_list d high level) in
+    let p = is_not_above key in (
+      all_back (λ c. p c ≡ true) l.before l.part (subst (AllByRecursion (λ c. p c ≡ true)) l.whole passes),
+      all_front (λ c. p c ≡ false) h.part h.behind (subst (AllByRecursion (λ c. p c ≡ false)) h.whole fails),
+    )
+
 -- the floor of the group of a place is the last cell of the lower side
 pub floor_of_place : (d : Draw) (level : ℕ) (key : List ℕ) (low high : List Pair) → AllByRecursion (λ c. is_not_above key c ≡ true) (level_list d low level) → AllByRecursion (λ c. is_not_above key c ≡ false) (level_list d high level)
     → floor_of key (group_of_place d level low high) ≡ last_of (last_part (leads_group d level) (level_list d low level)).part
 unfolding group_of_place
 floor_of_place d level key low high passes fails =
-    let cuts = leads_group d level in
-    let l = last_part cuts (level_list d low level) in
-    let h = first_cut cuts (level_list d high level) in
-    let p = is_not_above key in
-    let part = all_back (λ c. p c ≡ true) l.before l.part (subst (AllByRecursion (λ c. p c ≡ true)) l.whole passes) in
-    let mid = all_front (λ c. p c ≡ false) h.part h.behind (subst (AllByRecursion (λ c. p c ≡ false)) h.whole fails) in
-    ap last_of (prefix_past p l.part h.part part ∙ ap (λ cells. l.part ++ cells) (none_pass p h.part mid) ∙ append-nil l.part)
+    let low_part = (last_part (leads_group d level) (level_list d low level)).part in
+    let high_part = (first_cut (leads_group d level) (level_list d high level)).part in
+    let sides = group_sides d level key low high passes fails in
+    ap last_of (prefix_past (is_not_above key) low_part high_part sides.0 ∙ ap (λ cells. low_part ++ cells) (none_pass (is_not_above key) high_part sides.1) ∙ append-nil low_part)
 
--- what leads the next group
-pub next_lead : (d : Draw) (level : ℕ) (key : List ℕ) (low high : List Pair) → AllByRecursion (λ c. is_not_above key c ≡ true) (level_list d low (suc level)) → AllByRecursion (λ c. is_not_above key c ≡ false) (level_list d high (suc level))
-    → leader_behind d level low ≡ lead_from (floor_of key (group_of_place d (suc level) low high)) (leader_behind d (suc level) low)
+-- what leads the next group behind a place: the last cell of the lower side of this one, or else what leads this one
+pub lead_of_last_part : (d : Draw) (level : ℕ) (low : List Pair) → leader_behind d level low ≡ lead_from (last_of (last_part (leads_group d (suc level)) (level_list d low (suc level))).part) (leader_behind d (suc level) low)
 unfolding last_of last_lead
-next_lead d level key low high passes fails =
-    let cuts = leads_group d (suc level) in
-    let l = last_part cuts (level_list d low (suc level)) in
-    ap last_lead (sym (keys_of_level d level key low)) ∙ by_last l (last_or_none l.part) ∙ ap (λ o. lead_from o (leader_behind d (suc level) low)) (sym (floor_of_place d (suc level) key low high passes fails))
+lead_of_last_part d level low =
+    let l = last_part (leads_group d (suc level)) (level_list d low (suc level)) in
+    ap last_lead (sym (keys_of_level d level [] low)) ∙ by_last l (last_or_none l.part)
   where
     none_before : (l : LastPart (leads_group d (suc level)) (level_list d low (suc level))) → l.part ≡ [] → level_list d low (suc level) ≡ []
     none_before l e = elim l.begins [
@@ -96,18 +102,20 @@ next_lead d level key low high passes fails =
         ap (λ cells. last_lead (map (λ c. c.key) cells)) l.whole ∙ last_in_part l.before l.part found.0 found.1
         ∙ sym (ap (λ o. lead_from o (leader_behind d (suc level) low)) found.1)
 
+-- what leads the next group
+pub next_lead : (d : Draw) (level : ℕ) (key : List ℕ) (low high : List Pair) → AllByRecursion (λ c. is_not_above key c ≡ true) (level_list d low (suc level)) → AllByRecursion (λ c. is_not_above key c ≡ false) (level_list d high (suc level))
+    → leader_behind d level low ≡ lead_from (floor_of key (group_of_place d (suc level) low high)) (leader_behind d (suc level) low)
+next_lead d level key low high passes fails = lead_of_last_part d level low ∙ ap (λ o. lead_from o (leader_behind d (suc level) low)) (sym (floor_of_place d (suc level) key low high passes fails))
+
 -- the cell next to the key in the group of a place is the first of the higher side, up to the next group
 pub after_of_place : (d : Draw) (level : ℕ) (key : List ℕ) (low high : List Pair) → AllByRecursion (λ c. is_not_above key c ≡ true) (level_list d low level) → AllByRecursion (λ c. is_not_above key c ≡ false) (level_list d high level)
     → after_of key (group_of_place d level low high) ≡ slice_get (first_cut (leads_group d level) (level_list d high level)).part 0
 unfolding group_of_place
 after_of_place d level key low high passes fails =
-    let cuts = leads_group d level in
-    let l = last_part cuts (level_list d low level) in
-    let h = first_cut cuts (level_list d high level) in
-    let p = is_not_above key in
-    let part = all_back (λ c. p c ≡ true) l.before l.part (subst (AllByRecursion (λ c. p c ≡ true)) l.whole passes) in
-    let mid = all_front (λ c. p c ≡ false) h.part h.behind (subst (AllByRecursion (λ c. p c ≡ false)) h.whole fails) in
-    fails_past p l.part h.part part ∙ first_of_all h.part mid
+    let low_part = (last_part (leads_group d level) (level_list d low level)).part in
+    let high_part = (first_cut (leads_group d level) (level_list d high level)).part in
+    let sides = group_sides d level key low high passes fails in
+    fails_past (is_not_above key) low_part high_part sides.0 ∙ first_of_all high_part sides.1
   where
     first_of_all : (cells : List Cell) → AllByRecursion (λ c. is_not_above key c ≡ false) cells → after_of key cells ≡ slice_get cells 0
     first_of_all [] h = refl

@@ -1,5 +1,5 @@
 -- The pages of a group read one after another.
-use Rattle.std.proofs.Common.{◌≡◌, ℕ, ◌+◌, ◌<◌, ◌≤◌, List, [], ◌∷◌, ◌++◌, length, take, Option, Some, None, Ok, Err, true, false, cond, ◌==◌, refl, sym, ap, subst, ◌∙◌, arith, take-add}
+use Rattle.std.proofs.Common.{◌≡◌, ℕ, ◌+◌, ◌<◌, ◌≤◌, List, [], ◌∷◌, ◌++◌, length, take, Option, Some, None, Result, Ok, Err, true, false, cond, ◌==◌, refl, sym, ap, subst, ◌∙◌, arith, take-add}
 use Rattle.std.specs.List.{slice_get, enumerate_from}
 use Rattle.std.proofs.lemmas.List.{length-map, length-drop, take_all}
 use Rattle.std.proofs.lemmas.List.FromFn.{length-enumerate_from}
@@ -23,6 +23,12 @@ use Rattle.skip_levels.proofs.MapChanges.{page_behind, nothing_behind}
 length_of_group : (level : ℕ) (lead : Lead) (cells : List Cell) → length (group_pages level lead cells) ≡ length (runs (page_room level) cells)
 unfolding group_pages
 length_of_group level lead cells = length-map (enumerate_from 0 (runs (page_room level) cells)) (λ run. page_of_run level lead run.0 run.1) ∙ length-enumerate_from 0 (runs (page_room level) cells)
+
+few_runs : (n : ℕ) (cells : List Cell) → length (runs (page_room n) cells) ≤ length cells
+few_runs n cells = subst (λ k. k ≤ length cells) (sym (length-runs (page_room n) cells)) (elim (n == 0) as (λ b. run_count (cond b 10 31) (length cells) ≤ length cells) [ true ↦ omega arith | false ↦ omega arith ])
+
+pub few_group_pages : (level : ℕ) (lead : Lead) (cells : List Cell) → length (group_pages level lead cells) ≤ length cells
+few_group_pages level lead cells = omega (arith, length_of_group level lead cells, few_runs level cells)
 
 past_end : (i : ℕ) (ps : List Page) → slice_get ps i ≡ None → take i ps ≡ ps
 past_end i ps e = take_all i ps (let l = ap length (nothing_behind i ps e) in omega (arith, length-drop i ps))
@@ -58,10 +64,10 @@ module _ (old : PagesState) (level : ℕ) (lead : Lead) where
     within_cost : ReadOn old now level lead index pages → (cells : List Cell) → HoldsGroup old.pages level lead cells → next.lookups ≤ now.lookups + 1 → next.lookups ≤ old.lookups + group_cost level cells
     within_cost s cells holds more = let n = s.within cells holds in omega (arith, s.lookups, length_of_group level lead cells)
 
-    -- a fault of the call, or want of memory for the page that was found
-    pub reading_fails : (fault : Fault) → IsPageGet now next (label_of level lead index) (Err fault) → IsGroupRead old next level lead (Err fault)
-    reading_fails fault get = record {
-      faults = get.faults ∙ ap (λ n. disk_faults_after {T = Option Page} n (Err fault)) w.faults ∙ same_count fault;
+    -- the call failed, or memory ran out for the page that was found
+    reading_stops : (given : Result (Option Page) Fault) (fault : Fault) → disk_faults_after old.faults given ≡ disk_faults_after {T = List Page} old.faults (Err fault) → IsPageGet now next (label_of level lead index) given → IsGroupRead old next level lead (Err fault)
+    reading_stops given fault same get = record {
+      faults = get.faults ∙ ap (λ n. disk_faults_after n given) w.faults ∙ same;
       lookups_kept = omega (arith, get.lookups_kept, w.lookups_kept);
       hidden = λ o. w.hidden (get.hidden o);
       observed = λ o. let s = w.observed o in let g = get.observed s.observable in record {
@@ -71,23 +77,16 @@ module _ (old : PagesState) (level : ℕ) (lead : Lead) where
         lookups = λ cells holds. within_cost s cells holds get.lookups_most;
       };
     }
+
+    pub reading_fails : (fault : Fault) → IsPageGet now next (label_of level lead index) (Err fault) → IsGroupRead old next level lead (Err fault)
+    reading_fails fault get = reading_stops (Err fault) fault (same_count fault) get
       where
         same_count : (f : Fault) → disk_faults_after {T = Option Page} old.faults (Err f) ≡ disk_faults_after {T = List Page} old.faults (Err f)
         same_count Disk = refl
         same_count NoMemory = refl
 
     pub reading_lacks_memory : (page : Option Page) → IsPageGet now next (label_of level lead index) (Ok page) → IsGroupRead old next level lead (Err NoMemory)
-    reading_lacks_memory page get = record {
-      faults = get.faults ∙ w.faults;
-      lookups_kept = omega (arith, get.lookups_kept, w.lookups_kept);
-      hidden = λ o. w.hidden (get.hidden o);
-      observed = λ o. let s = w.observed o in let g = get.observed s.observable in record {
-        observable = g.observable;
-        unchanged = g.unchanged ∙ s.unchanged;
-        found = λ cells holds few. tt;
-        lookups = λ cells holds. within_cost s cells holds get.lookups_most;
-      };
-    }
+    reading_lacks_memory page get = reading_stops (Ok page) NoMemory refl get
 
     pub reading_ends : index < 4294967296 → IsPageGet now next (label_of level lead index) (Ok None) → IsGroupRead old next level lead (Ok pages)
     reading_ends below get = record {
@@ -130,6 +129,3 @@ module _ (old : PagesState) (level : ℕ) (lead : Lead) where
       lookups = λ cells holds. let n = s.within cells holds in omega (arith, s.lookups, length_of_group level lead cells);
     };
   }
-    where
-      few_runs : (n : ℕ) (cells : List Cell) → length (runs (page_room n) cells) ≤ length cells
-      few_runs n cells = subst (λ k. k ≤ length cells) (sym (length-runs (page_room n) cells)) (elim (n == 0) as (λ b. run_count (cond b 10 31) (length cells) ≤ length cells) [ true ↦ omega arith | false ↦ omega arith ])

@@ -9,7 +9,7 @@ use Rattle.store_model.specs.Paths.{key_cmp}
 use Rattle.store_model.specs.Draws.{Draw}
 use Rattle.store_model.specs.Labels.Lead.{Leader}
 use Rattle.store_model.specs.Pairs.{Pair}
-use Rattle.store_model.specs.Pages.{Cell, Page}
+use Rattle.store_model.specs.Pages.{Cell, Page, group_pages}
 use Rattle.store_model.proofs.ListsLemmas.{rising_from_is_sorted}
 use Rattle.node_pages.specs.PagesState.{PagesState, IsPageGet}
 use Rattle.skip_levels.specs.declared.search.Neighbours.{Neighbours}
@@ -40,36 +40,26 @@ module _ (old new : PagesState) (leader : List ℕ) where
     observed = λ o. let g = get.observed o in record { observable = g.observable; unchanged = g.unchanged; found = λ cells holds. tt };
   }
 
-  pub first_none : IsPageGet old new (label_of 0 (Leader leader) 0) (Ok None) → IsFirstPair old new leader (Ok None)
-  first_none get = record {
+  -- the page that was asked for tells the pair
+  first_told : (page : Option Page) (pair : Option Pair) → IsPageGet old new (label_of 0 (Leader leader) 0) (Ok page) → ((cells : List Cell) → slice_get (group_pages 0 (Leader leader) cells) 0 ≡ page → pair ≡ pair_in (slice_get cells 0)) → IsFirstPair old new leader (Ok pair)
+  first_told page pair get told = record {
     faults = get.faults;
     lookups_kept = get.lookups_kept;
     lookups_most = get.lookups_most;
     hidden = get.hidden;
-    observed = λ o. let g = get.observed o in record {
-      observable = g.observable;
-      unchanged = g.unchanged;
-      found = λ cells holds. ap (λ xs. pair_in (slice_get xs 0)) (sym (no_first_cell (Leader leader) cells (sym (holds.each 0 (omega arith)) ∙ sym g.found)));
-    };
+    observed = λ o. let g = get.observed o in record { observable = g.observable; unchanged = g.unchanged; found = λ cells holds. told cells (sym (holds.each 0 (omega arith)) ∙ sym g.found) };
   }
 
+  pub first_none : IsPageGet old new (label_of 0 (Leader leader) 0) (Ok None) → IsFirstPair old new leader (Ok None)
+  first_none get = first_told None None get (λ cells none. ap (λ xs. pair_in (slice_get xs 0)) (sym (no_first_cell (Leader leader) cells none)))
+
   pub first_some : (page : Page) (cell : Cell) (pair : Option Pair) → IsPageGet old new (label_of 0 (Leader leader) 0) (Ok (Some page)) → slice_get page.cells 0 ≡ Some cell → pair ≡ pair_in (Some cell) → IsFirstPair old new leader (Ok pair)
-  first_some page cell pair get at is = record {
-    faults = get.faults;
-    lookups_kept = get.lookups_kept;
-    lookups_most = get.lookups_most;
-    hidden = get.hidden;
-    observed = λ o. let g = get.observed o in record {
-      observable = g.observable;
-      unchanged = g.unchanged;
-      found = λ cells holds. is ∙ ap pair_in (sym at ∙ first_cell (Leader leader) cells page (sym (holds.each 0 (omega arith)) ∙ sym g.found));
-    };
-  }
+  first_some page cell pair get at is = first_told (Some page) pair get (λ cells some. is ∙ ap pair_in (sym at ∙ first_cell (Leader leader) cells page some))
 
 -- ---- the whole search
 
 module _ (old mid : PagesState) (height : ℕ) (key : List ℕ) where
-  pub no_path : (fault : Fault) → IsDescent old mid height key (Err fault) → IsNextSearch old mid height key (Err fault)
+  pub no_path : (fault : Fault) → IsDescent old mid height 0 key (Err fault) → IsNextSearch old mid height key (Err fault)
   no_path fault h = record {
     faults = h.faults ∙ same_count PathEnd (Option Pair) old.faults fault;
     lookups_kept = h.lookups_kept;
@@ -77,7 +67,7 @@ module _ (old mid : PagesState) (height : ℕ) (key : List ℕ) where
     observed = λ o. let n = h.observed o in record { observable = n.observable; unchanged = n.unchanged; found = λ d s holds high. tt; lookups = λ d s holds high. omega (arith, n.lookups d s holds high, whole_path old mid height key d s holds high) };
   }
 
-  module _ (new : PagesState) (end : PathEnd) (h : IsDescent old mid height key (Ok end)) (some : 1 ≤ height) where
+  module _ (new : PagesState) (end : PathEnd) (h : IsDescent old mid height 0 key (Ok end)) (some : 1 ≤ height) where
     pub no_neighbours : (fault : Fault) → IsGroupSearch mid new 0 (lead_of end.lead) key (Err fault) → IsNextSearch old new height key (Err fault)
     no_neighbours fault search = record {
       faults = search.faults ∙ ap (λ n. disk_faults_after {T = Neighbours} n (Err fault)) h.faults ∙ same_count Neighbours (Option Pair) old.faults fault;
@@ -93,45 +83,39 @@ module _ (old mid : PagesState) (height : ℕ) (key : List ℕ) where
 
     module _ (near : Neighbours) (search : IsGroupSearch mid new 0 (lead_of end.lead) key (Ok near)) (here : Option Pair) (is : here ≡ option_or (pair_at key near.floor) (pair_in near.after)) where
       -- what the cells next to the key say
-      here_is : (n : FindsPathEnd old mid height key (Ok end)) (g : ReadsGroup mid new 0 (lead_of end.lead) key (Ok near)) (d : Draw) (s : List Pair) → HoldsPairs d s old.pages → height ≡ d.height
+      here_is : (n : FindsPathEnd old mid height 0 key (Ok end)) (g : ReadsGroup mid new 0 (lead_of end.lead) key (Ok near)) (d : Draw) (s : List Pair) → HoldsPairs d s old.pages → height ≡ d.height
           → here ≡ option_or (pair_at key near.floor) (pair_in (slice_get (part_ahead d (above key s) (pair_at key near.floor)) 0))
       here_is n g d s holds high =
           is ∙ ap (λ o. option_or (pair_at key near.floor) (pair_in o)) ((lowest_searched old mid height key new end h n g some d s holds high).found.after
           ∙ after_of_place d 0 key (not_above key s) (above key s) (side_passes d 0 key s) (side_fails d 0 key s))
 
-      next_is : (n : FindsPathEnd old mid height key (Ok end)) (g : ReadsGroup mid new 0 (lead_of end.lead) key (Ok near)) (d : Draw) (s : List Pair) → HoldsPairs d s old.pages → height ≡ d.height
+      next_is : (n : FindsPathEnd old mid height 0 key (Ok end)) (g : ReadsGroup mid new 0 (lead_of end.lead) key (Ok near)) (d : Draw) (s : List Pair) → HoldsPairs d s old.pages → height ≡ d.height
           → option_or (pair_at key near.floor) (slice_get (above key s) 0) ≡ next_pair key s
       next_is n g d s holds high =
           ap (λ o. option_or (pair_at key o) (slice_get (above key s) 0)) ((lowest_searched old mid height key new end h n g some d s holds high).found.floor ∙ floor_is_last d key s)
           ∙ sym (next_of_sides key s (rising_from_is_sorted key_cmp s holds.pairs.sorted))
 
-      -- no group follows
-      pub next_is_here : end.next ≡ None → IsNextSearch old new height key (Ok here)
-      next_is_here none = record {
+      -- the nearest pair in the group is the next one
+      next_told : ((n : FindsPathEnd old mid height 0 key (Ok end)) (d : Draw) (s : List Pair) → HoldsPairs d s old.pages → height ≡ d.height → here ≡ option_or (pair_at key near.floor) (pair_in (slice_get (part_ahead d (above key s) (pair_at key near.floor)) 0)) → option_or (pair_at key near.floor) (pair_in (slice_get (part_ahead d (above key s) (pair_at key near.floor)) 0)) ≡ option_or (pair_at key near.floor) (slice_get (above key s) 0)) → IsNextSearch old new height key (Ok here)
+      next_told told = record {
         faults = search.faults ∙ h.faults;
         lookups_kept = omega (arith, h.lookups_kept, search.lookups_kept);
         hidden = λ o. h.hidden (search.hidden o);
         observed = λ o. let n = h.observed o in let g = search.observed n.observable in record {
           observable = g.observable;
           unchanged = g.unchanged ∙ n.unchanged;
-          found = λ d s holds high. here_is n g d s holds high ∙ no_group_follows d (above key s) (pair_at key near.floor) (sym (n.next d s holds high) ∙ none) ∙ next_is n g d s holds high;
+          found = λ d s holds high. let e = here_is n g d s holds high in e ∙ told n d s holds high e ∙ next_is n g d s holds high;
           lookups = λ d s holds high. omega (arith, path_searched old mid height key new end h n g some d s holds high);
         };
       }
 
+      -- no group follows
+      pub next_is_here : end.next ≡ None → IsNextSearch old new height key (Ok here)
+      next_is_here none = next_told (λ n d s holds high e. no_group_follows d (above key s) (pair_at key near.floor) (sym (n.next d s holds high) ∙ none))
+
       -- the pair is in the group
       pub next_in_group : (pair : Pair) → here ≡ Some pair → IsNextSearch old new height key (Ok here)
-      next_in_group pair at = record {
-        faults = search.faults ∙ h.faults;
-        lookups_kept = omega (arith, h.lookups_kept, search.lookups_kept);
-        hidden = λ o. h.hidden (search.hidden o);
-        observed = λ o. let n = h.observed o in let g = search.observed n.observable in record {
-          observable = g.observable;
-          unchanged = g.unchanged ∙ n.unchanged;
-          found = λ d s holds high. let e = here_is n g d s holds high in e ∙ pair_in_group d (above key s) (pair_at key near.floor) pair (sym e ∙ at) ∙ next_is n g d s holds high;
-          lookups = λ d s holds high. omega (arith, path_searched old mid height key new end h n g some d s holds high);
-        };
-      }
+      next_in_group pair at = next_told (λ n d s holds high e. pair_in_group d (above key s) (pair_at key near.floor) pair (sym e ∙ at))
 
       -- the pair leads the next group
       module _ (last : PagesState) (leader : List ℕ) (next : end.next ≡ Some leader) (none : here ≡ None) where

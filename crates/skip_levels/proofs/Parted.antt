@@ -53,17 +53,21 @@ module _ (d : Draw) (level : ℕ) (low high : List Pair) (y : Pair) where
       ∙ pages_around d level (level_list d low level) (cell_on level y ∷ level_list d high level) l more
       ∙ ap (λ ps. list_pages d level l.before ++ (ps ++ list_pages d level h.behind)) (led_pages (cell_on level y ∷ h.part) (uncut, h.uncut))
 
+  -- the pages of the lower side alone
+  pub pages_of_low : list_pages d level (level_list d low level) ≡ list_pages d level l.before ++ group_pages level (leader_behind d level low) l.part
+  pages_of_low =
+      let none : FirstCut (leads_group d level) [] = record { part = []; behind = []; whole = refl; uncut = tt; next = tt } in
+      let before = list_pages d level l.before in
+      ap (list_pages d level) (sym (append-nil (level_list d low level)))
+      ∙ pages_around d level (level_list d low level) [] l none
+      ∙ ap₂ (λ ps qs. before ++ (ps ++ qs)) (led_pages [] tt ∙ ap (group_pages level (leader_behind d level low)) (append-nil l.part)) (list_pages_none d level)
+      ∙ ap (λ ps. before ++ ps) (append-nil (group_pages level (leader_behind d level low) l.part))
+
   pub pages_below : level < d.level y.0 → level_pages d (low ++ y ∷ high) level
       ≡ list_pages d level l.before ++ (group_pages level (leader_behind d level low) l.part ++ (group_pages level (Leader y.0) (cell_on level y ∷ h.part) ++ list_pages d level h.behind))
   pages_below lower =
       let cut : leads_group d level (cell_on level y) ≡ true = ap (λ k. nat_lt level (d.level k)) (cell_on-key level y) ∙ lt-ltb level (d.level y.0) lower in
-      let none : FirstCut (leads_group d level) [] = record { part = []; behind = []; whole = refl; uncut = tt; next = tt } in
       let before = list_pages d level l.before in
-      let low_pages : list_pages d level (level_list d low level) ≡ before ++ group_pages level (leader_behind d level low) l.part =
-      ap (list_pages d level) (sym (append-nil (level_list d low level)))
-      ∙ pages_around d level (level_list d low level) [] l none
-      ∙ ap₂ (λ ps qs. before ++ (ps ++ qs)) (led_pages [] tt ∙ ap (group_pages level (leader_behind d level low)) (append-nil l.part)) (list_pages_none d level)
-      ∙ ap (λ ps. before ++ ps) (append-nil (group_pages level (leader_behind d level low) l.part)) in
       let high_pages : list_pages d level (cell_on level y ∷ level_list d high level) ≡ group_pages level (Leader y.0) (cell_on level y ∷ h.part) ++ list_pages d level h.behind =
       ap (λ cells. list_pages d level (cell_on level y ∷ cells)) h.whole
       ∙ paged_apart d level (cell_on level y ∷ h.part) h.behind h.next
@@ -71,7 +75,7 @@ module _ (d : Draw) (level : ℕ) (low high : List Pair) (y : Pair) where
       ∙ ap (λ (lead : Lead). group_pages level lead (cell_on level y ∷ h.part)) (key_leads d level (cell_on level y) h.part cut ∙ ap Leader (cell_on-key level y))) in
       level_is_list d level (low ++ y ∷ high) ∙ ap (list_pages d level) (cell_there (omega arith))
       ∙ paged_apart d level (level_list d low level) (cell_on level y ∷ level_list d high level) cut
-      ∙ ap₂ (λ ps qs. ps ++ qs) low_pages high_pages
+      ∙ ap₂ (λ ps qs. ps ++ qs) pages_of_low high_pages
       ∙ append_assoc before (group_pages level (leader_behind d level low) l.part) (group_pages level (Leader y.0) (cell_on level y ∷ h.part) ++ list_pages d level h.behind)
 
   -- a level is parted by each pair

@@ -1,5 +1,6 @@
 -- What reading the groups of a search path costs, level after level.
-use Rattle.std.proofs.Common.{◌≡◌, ℕ, zero, suc, ◌+◌, ◌-◌, ◌<◌, ◌≤◌, List, ap, subst, sym, ◌∙◌, arith}
+use Rattle.std.proofs.Common.{◌≡◌, ℕ, zero, suc, ◌+◌, ◌-◌, ◌<◌, ◌≤◌, List, map, ap, subst, sym, ◌∙◌, arith}
+use Rattle.std.specs.List.{sum}
 use Rattle.std.proofs.lemmas.List.Sums.{sum-map, sum_by-cons}
 use Rattle.store_model.specs.Lists.{numbers_from}
 use Rattle.store_model.specs.Draws.{Draw}
@@ -56,3 +57,25 @@ module _ (d : Draw) (s : List Pair) (key : List ℕ) where
       let group = led_by_place d level s (not_above key s) (above key s) sides valid in
       ap (λ g. group_cost level g + levels_cost d s key (suc level) (height - suc level)) (sym group)
       ∙ sym (cost_step level (height - suc level)) ∙ ap (levels_cost d s key level) (sym count)
+
+-- ---- costs of levels in general
+
+module _ (cost : ℕ → ℕ) where
+  -- what so many levels cost from one on
+  abbrev pub costs_from : ℕ → ℕ → ℕ
+  costs_from first count = sum (map cost (numbers_from first count))
+
+  pub costs_step : (first count : ℕ) → costs_from first (suc count) ≡ cost first + costs_from (suc first) count
+  unfolding numbers_from
+  costs_step first count = sum-map cost (numbers_from first (suc count)) ∙ sum_by-cons cost first (numbers_from (suc first) count) ∙ ap (λ n. cost first + n) (sym (sum-map cost (numbers_from (suc first) count)))
+
+  -- one level more below
+  pub costs_down : (level height : ℕ) → level < height → cost level + costs_from (suc level) (height - suc level) ≡ costs_from level (height - level)
+  costs_down level height below =
+      let count : height - level ≡ suc (height - suc level) = omega arith in
+      sym (costs_step level (height - suc level)) ∙ ap (costs_from level) (sym count)
+
+  -- levels further up cost no more than all
+  pub costs_within : (level height : ℕ) → level ≤ height → costs_from level (height - level) ≤ costs_from 0 height
+  costs_within zero height within = let all : height - 0 ≡ height = omega arith in subst (λ n. costs_from 0 n ≤ costs_from 0 height) (sym all) (omega arith)
+  costs_within (suc level) height within = omega (arith, costs_down level height (omega arith), costs_within level height (omega arith))

@@ -30,7 +30,7 @@ unfolding group_pages
 group_is_numbered level lead cells valid = record { numbered = numbered_runs level lead 0 (runs (page_room level) cells); valid = valid }
 
 -- pages that are apart, one list behind the other
-apart_both : (level : ℕ) (lead : Lead) (ps qs : List Page) → AreApart level lead ps → AreApart level lead qs → AreApart level lead (ps ++ qs)
+pub apart_both : (level : ℕ) (lead : Lead) (ps qs : List Page) → AreApart level lead ps → AreApart level lead qs → AreApart level lead (ps ++ qs)
 apart_both level lead ps qs a b = record { valid = all_append IsPage ps qs a.valid b.valid; others = all_append _ ps qs a.others b.others }
 
 -- a change of one group on a level of a list, into that of another
@@ -42,16 +42,16 @@ pub record ChangesLevel (d : Draw) (level : ℕ) (lead : Lead) (s t : List Pair)
   pub behind : pages_between d s t level ≡ front ++ (news ++ back)
 
 module _ (d : Draw) (level : ℕ) (low high : List Pair) (y : Pair) where
-  abbrev part : List Cell
+  abbrev pub part : List Cell
   part = (last_part (leads_group d level) (level_list d low level)).part
 
-  abbrev mid : List Cell
+  abbrev pub mid : List Cell
   mid = (first_cut (leads_group d level) (level_list d high level)).part
 
-  abbrev here : List Page
+  abbrev pub here : List Page
   here = list_pages d level (last_part (leads_group d level) (level_list d low level)).before
 
-  abbrev there : List Page
+  abbrev pub there : List Page
   there = list_pages d level (first_cut (leads_group d level) (level_list d high level)).behind
 
   -- the pages of the group without the pair's cell, and with it
@@ -61,12 +61,9 @@ module _ (d : Draw) (level : ℕ) (low high : List Pair) (y : Pair) where
   abbrev pub pages_with_one : List Page
   pages_with_one = group_pages level (leader_behind d level low) (part ++ cell_on level y ∷ mid)
 
-  module _ (less : IsPairList (low ++ high)) (more : IsPairList (low ++ y ∷ high)) (narrow : d.height ≤ 256) (within : level < d.height) (own : d.level y.0 ≡ level) where
-    valid_less : AllByRecursion IsPage (here ++ (pages_with_none ++ there))
+  module _ (less : IsPairList (low ++ high)) (narrow : d.height ≤ 256) (within : level < d.height) where
+    pub valid_less : AllByRecursion IsPage (here ++ (pages_with_none ++ there))
     valid_less = subst (AllByRecursion IsPage) (pages_without d level low high y) (level_pages_are_pages d (low ++ high) level (omega arith) less)
-
-    valid_more : AllByRecursion IsPage (here ++ (pages_with_one ++ there))
-    valid_more = subst (AllByRecursion IsPage) (pages_on_its_level d level low high y own) (level_pages_are_pages d (low ++ y ∷ high) level (omega arith) more)
 
     others : AllByRecursion (λ (page : Page). page.label.level ≡ level → page.label.lead ≡ leader_behind d level low → ⊥) here × AllByRecursion (λ (page : Page). page.label.level ≡ level → page.label.lead ≡ leader_behind d level low → ⊥) there
     others =
@@ -79,26 +76,30 @@ module _ (d : Draw) (level : ℕ) (low high : List Pair) (y : Pair) where
         let lead = leader_of_parts d level low h.part h.uncut in
         (subst (λ k. AllByRecursion (λ (page : Page). page.label.level ≡ level → page.label.lead ≡ k → ⊥) here) lead apart.0, subst (λ k. AllByRecursion (λ (page : Page). page.label.level ≡ level → page.label.lead ≡ k → ⊥) there) lead apart.1)
 
-    here_apart : AreApart level (leader_behind d level low) here
+    pub here_apart : AreApart level (leader_behind d level low) here
     here_apart = record { valid = all_front IsPage here (pages_with_none ++ there) valid_less; others = others.0 }
 
-    there_apart : AreApart level (leader_behind d level low) there
+    pub there_apart : AreApart level (leader_behind d level low) there
     there_apart = record { valid = all_back IsPage pages_with_none there (all_back IsPage here (pages_with_none ++ there) valid_less); others = others.1 }
 
-    less_numbered : IsNumbered level (leader_behind d level low) pages_with_none
+    pub less_numbered : IsNumbered level (leader_behind d level low) pages_with_none
     less_numbered = group_is_numbered level (leader_behind d level low) (part ++ mid) (all_front IsPage pages_with_none there (all_back IsPage here (pages_with_none ++ there) valid_less))
 
-    more_numbered : IsNumbered level (leader_behind d level low) pages_with_one
-    more_numbered = group_is_numbered level (leader_behind d level low) (part ++ cell_on level y ∷ mid) (all_front IsPage pages_with_one there (all_back IsPage here (pages_with_one ++ there) valid_more))
-
-    -- the parts of the whole list
-    around : (lower higher group : List Page) → lower ++ ((here ++ (group ++ there)) ++ higher) ≡ (lower ++ here) ++ (group ++ (there ++ higher))
-    around lower higher group =
-        ap (λ ps. lower ++ ps) (append_assoc here (group ++ there) higher ∙ ap (λ ps. here ++ ps) (append_assoc group there higher))
-        ∙ sym (append_assoc lower here (group ++ (there ++ higher)))
-
-    led : IsLead (leader_behind d level low)
+    pub led : IsLead (leader_behind d level low)
     led = subst IsLead (lead_of_place d level low high) (around_place d (low ++ high) low high level refl less narrow within).lead
+
+  -- the parts of the whole list
+  pub around : (lower higher before group behind : List Page) → lower ++ ((before ++ (group ++ behind)) ++ higher) ≡ (lower ++ before) ++ (group ++ (behind ++ higher))
+  around lower higher before group behind =
+      ap (λ ps. lower ++ ps) (append_assoc before (group ++ behind) higher ∙ ap (λ ps. before ++ ps) (append_assoc group behind higher))
+      ∙ sym (append_assoc lower before (group ++ (behind ++ higher)))
+
+  module _ (less : IsPairList (low ++ high)) (more : IsPairList (low ++ y ∷ high)) (narrow : d.height ≤ 256) (within : level < d.height) (own : d.level y.0 ≡ level) where
+    valid_more : AllByRecursion IsPage (here ++ (pages_with_one ++ there))
+    valid_more = subst (AllByRecursion IsPage) (pages_on_its_level d level low high y own) (level_pages_are_pages d (low ++ y ∷ high) level (omega arith) more)
+
+    pub more_numbered : IsNumbered level (leader_behind d level low) pages_with_one
+    more_numbered = group_is_numbered level (leader_behind d level low) (part ++ cell_on level y ∷ mid) (all_front IsPage pages_with_one there (all_back IsPage here (pages_with_one ++ there) valid_more))
 
     -- the pair put
     pub put_on_its_level : ChangesLevel d level (leader_behind d level low) (low ++ high) (low ++ y ∷ high) pages_with_none pages_with_one
@@ -111,14 +112,14 @@ module _ (d : Draw) (level : ℕ) (low high : List Pair) (y : Pair) where
           back = there ++ higher_pages d s t (level + 1);
           change = record {
             low = omega arith;
-            led = led;
-            front_apart = apart_both level lead (lower_pages d s t level) here (lower_apart d s t level within lead narrow less) here_apart;
-            back_apart = apart_both level lead there (higher_pages d s t (level + 1)) there_apart (higher_apart d s t level within lead narrow more);
-            old_pages = less_numbered;
+            led = led less narrow within;
+            front_apart = apart_both level lead (lower_pages d s t level) here (lower_apart d s t level within lead narrow less) (here_apart less narrow within);
+            back_apart = apart_both level lead there (higher_pages d s t (level + 1)) (there_apart less narrow within) (higher_apart d s t level within lead narrow more);
+            old_pages = less_numbered less narrow within;
             new_pages = more_numbered;
           };
-          before = before_level d s t level within ∙ ap (λ ps. lower_pages d s t level ++ (ps ++ higher_pages d s t (level + 1))) (pages_without d level low high y) ∙ around (lower_pages d s t level) (higher_pages d s t (level + 1)) pages_with_none;
-          behind = behind_level d s t level within ∙ ap (λ ps. lower_pages d s t level ++ (ps ++ higher_pages d s t (level + 1))) (pages_on_its_level d level low high y own) ∙ around (lower_pages d s t level) (higher_pages d s t (level + 1)) pages_with_one;
+          before = before_level d s t level within ∙ ap (λ ps. lower_pages d s t level ++ (ps ++ higher_pages d s t (level + 1))) (pages_without d level low high y) ∙ around (lower_pages d s t level) (higher_pages d s t (level + 1)) here pages_with_none there;
+          behind = behind_level d s t level within ∙ ap (λ ps. lower_pages d s t level ++ (ps ++ higher_pages d s t (level + 1))) (pages_on_its_level d level low high y own) ∙ around (lower_pages d s t level) (higher_pages d s t (level + 1)) here pages_with_one there;
         }
 
     -- the pair taken out
@@ -132,12 +133,12 @@ module _ (d : Draw) (level : ℕ) (low high : List Pair) (y : Pair) where
           back = there ++ higher_pages d s t (level + 1);
           change = record {
             low = omega arith;
-            led = led;
-            front_apart = apart_both level lead (lower_pages d s t level) here (lower_apart d s t level within lead narrow more) here_apart;
-            back_apart = apart_both level lead there (higher_pages d s t (level + 1)) there_apart (higher_apart d s t level within lead narrow less);
+            led = led less narrow within;
+            front_apart = apart_both level lead (lower_pages d s t level) here (lower_apart d s t level within lead narrow more) (here_apart less narrow within);
+            back_apart = apart_both level lead there (higher_pages d s t (level + 1)) (there_apart less narrow within) (higher_apart d s t level within lead narrow less);
             old_pages = more_numbered;
-            new_pages = less_numbered;
+            new_pages = less_numbered less narrow within;
           };
-          before = before_level d s t level within ∙ ap (λ ps. lower_pages d s t level ++ (ps ++ higher_pages d s t (level + 1))) (pages_on_its_level d level low high y own) ∙ around (lower_pages d s t level) (higher_pages d s t (level + 1)) pages_with_one;
-          behind = behind_level d s t level within ∙ ap (λ ps. lower_pages d s t level ++ (ps ++ higher_pages d s t (level + 1))) (pages_without d level low high y) ∙ around (lower_pages d s t level) (higher_pages d s t (level + 1)) pages_with_none;
+          before = before_level d s t level within ∙ ap (λ ps. lower_pages d s t level ++ (ps ++ higher_pages d s t (level + 1))) (pages_on_its_level d level low high y own) ∙ around (lower_pages d s t level) (higher_pages d s t (level + 1)) here pages_with_one there;
+          behind = behind_level d s t level within ∙ ap (λ ps. lower_pages d s t level ++ (ps ++ higher_pages d s t (level + 1))) (pages_without d level low high y) ∙ around (lower_pages d s t level) (higher_pages d s t (level + 1)) here pages_with_none there;
         }

@@ -100,7 +100,7 @@ IsKeyLead (Leader key) = Unit {0}
 
 module _ (d : Draw) (level : ℕ) where
   -- the pages of a group have its labels
-  group_labels : (lead : Lead) (cells : List Cell) → AllByRecursion (λ p. (p.label.level ≡ level) × (p.label.lead ≡ lead)) (group_pages level lead cells)
+  pub group_labels : (lead : Lead) (cells : List Cell) → AllByRecursion (λ p. (p.label.level ≡ level) × (p.label.lead ≡ lead)) (group_pages level lead cells)
   unfolding group_pages
   group_labels lead cells =
       all_map (λ run. Unit {0}) (λ p. (p.label.level ≡ level) × (p.label.lead ≡ lead)) (λ run. page_of_run level lead run.0 run.1) (λ run u. (refl, refl))
@@ -169,7 +169,7 @@ module _ (d : Draw) (level : ℕ) where
 -- ---- the map holds the group of a place
 
 -- what stands before and behind an element of a list that rises
-rising_split : {A : Type 0} (c : A → A → _) (xs : List A) (y : A) (ys : List A) → IsStrictlySortedBy c (xs ++ y ∷ ys) → AllByRecursion (λ x. c x y ≡ Less) xs × AllByRecursion (λ z. c y z ≡ Less) ys
+pub rising_split : {A : Type 0} (c : A → A → _) (xs : List A) (y : A) (ys : List A) → IsStrictlySortedBy c (xs ++ y ∷ ys) → AllByRecursion (λ x. c x y ≡ Less) xs × AllByRecursion (λ z. c y z ≡ Less) ys
 rising_split c [] y ys h = (tt, rising_head c y ys h)
 rising_split c (x ∷ xs) y ys h =
     let rest = rising_split c xs y ys (rising_tail c x (xs ++ y ∷ ys) h) in

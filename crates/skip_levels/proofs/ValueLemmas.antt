@@ -36,7 +36,7 @@ module _ (old mid : PagesState) (height : ℕ) (key : List ℕ) where
           let all : suc n - 0 ≡ d.height = omega (arith, is) in
           subst (λ k. levels_cost d s key 1 (suc n - 1) ≤ levels_cost d s key 0 k) all (cost_within d s key 0 1 (suc n) (omega arith) (omega arith))
 
-  pub no_descent : (fault : Fault) → IsDescent old mid height key (Err fault) → IsValueSearch old mid height key (Err fault)
+  pub no_descent : (fault : Fault) → IsDescent old mid height 0 key (Err fault) → IsValueSearch old mid height key (Err fault)
   no_descent fault h = record {
     faults = h.faults ∙ same_count PathEnd (Option (List ℕ)) old.faults fault;
     lookups_kept = h.lookups_kept;
@@ -44,9 +44,9 @@ module _ (old mid : PagesState) (height : ℕ) (key : List ℕ) where
     observed = λ o. let n = h.observed o in record { observable = n.observable; unchanged = n.unchanged; found = λ d s holds high. tt; lookups = λ d s holds high. omega (arith, n.lookups d s holds high, whole_path d s holds high) };
   }
 
-  module _ (new : PagesState) (end : PathEnd) (h : IsDescent old mid height key (Ok end)) where
+  module _ (new : PagesState) (end : PathEnd) (h : IsDescent old mid height 0 key (Ok end)) where
     -- what the search of the lowest group makes
-    pub lowest_searched : {result : Result Neighbours Fault} (n : FindsPathEnd old mid height key (Ok end)) → ReadsGroup mid new 0 (lead_of end.lead) key result → 1 ≤ height
+    pub lowest_searched : {result : Result Neighbours Fault} (n : FindsPathEnd old mid height 0 key (Ok end)) → ReadsGroup mid new 0 (lead_of end.lead) key result → 1 ≤ height
         → (d : Draw) (s : List Pair) → HoldsPairs d s old.pages → height ≡ d.height → FindsNeighbours mid new 0 key (group_of_place d 0 (not_above key s) (above key s)) result
     lowest_searched n g some d s holds high =
         let group = group_of_place d 0 (not_above key s) (above key s) in
@@ -54,7 +54,7 @@ module _ (old mid : PagesState) (height : ℕ) (key : List ℕ) where
         (subst (λ l. HoldsGroup old.pages 0 l group) (sym (n.lead d s holds high)) (holds_path d s old 0 key holds (omega arith)))) (few_on_path d s old 0 key holds)
 
     -- and what it all costs
-    pub path_searched : {result : Result Neighbours Fault} (n : FindsPathEnd old mid height key (Ok end)) → ReadsGroup mid new 0 (lead_of end.lead) key result → 1 ≤ height
+    pub path_searched : {result : Result Neighbours Fault} (n : FindsPathEnd old mid height 0 key (Ok end)) → ReadsGroup mid new 0 (lead_of end.lead) key result → 1 ≤ height
         → (d : Draw) (s : List Pair) → HoldsPairs d s old.pages → height ≡ d.height → new.lookups ≤ old.lookups + path_cost d s key
     path_searched n g some d s holds high =
         let whole : levels_cost d s key 0 (height - 0) ≡ path_cost d s key = let count : height - 0 ≡ d.height = omega (arith, high) in ap (levels_cost d s key 0) count in

@@ -1,5 +1,5 @@
 -- What a descent from level to level on the search path of a key does.
-use Rattle.std.specs.Prelude.{◌≡◌, ℕ, ◌+◌, ◌-◌, ◌≤◌, List, length, Option, Result, IfOk}
+use Rattle.std.specs.Prelude.{◌≡◌, ℕ, suc, ◌+◌, ◌-◌, ◌≤◌, List, length, Option, Result, IfOk}
 use Rattle.std.specs.FinMap.{find}
 use Rattle.store_base.specs.declared.store_fault.Fault.{Fault}
 use Rattle.store_base.specs.declared.label.Lead.{Lead}
@@ -32,19 +32,19 @@ abbrev pub LeadsAhead : PagesState → ℕ → ℕ → List ℕ → Option (List
 LeadsAhead pages height level key next = (d : Draw) (s : List Pair) → HoldsPairs d s pages.pages → height ≡ d.height → next ≡ leader_ahead d level (above key s)
 
 -- what the descent leaves of observable pages
-pub record FindsPathEnd (old new : PagesState) (height : ℕ) (key : List ℕ) (result : Result PathEnd Fault) : Type 0 where
+pub record FindsPathEnd (old new : PagesState) (height bottom : ℕ) (key : List ℕ) (result : Result PathEnd Fault) : Type 0 where
   pub observable : IsObservable new
   pub unchanged : new.pages ≡ old.pages
-  pub lead : IfOk result (λ end. LeadsPath old height 0 key end.lead)
-  pub next : IfOk result (λ end. LeadsAhead old height 0 key end.next)
-  pub lookups : (d : Draw) (s : List Pair) → HoldsPairs d s old.pages → height ≡ d.height → new.lookups ≤ old.lookups + levels_cost d s key 1 (height - 1)
+  pub lead : IfOk result (λ end. LeadsPath old height bottom key end.lead)
+  pub next : IfOk result (λ end. LeadsAhead old height bottom key end.next)
+  pub lookups : (d : Draw) (s : List Pair) → HoldsPairs d s old.pages → height ≡ d.height → new.lookups ≤ old.lookups + levels_cost d s key (suc bottom) (height - suc bottom)
 
--- a descent to the lowest level on the search path of the key
-pub record IsDescent (old new : PagesState) (height : ℕ) (key : List ℕ) (result : Result PathEnd Fault) : Type 0 where
+-- a descent to a level on the search path of the key
+pub record IsDescent (old new : PagesState) (height bottom : ℕ) (key : List ℕ) (result : Result PathEnd Fault) : Type 0 where
   pub faults : new.faults ≡ disk_faults_after old.faults result
   pub lookups_kept : old.lookups ≤ new.lookups
   pub hidden : IsObservable new → IsObservable old
-  pub observed : IsObservable old → FindsPathEnd old new height key result
+  pub observed : IsObservable old → FindsPathEnd old new height bottom key result
 
 -- what a search for the value of a key leaves of observable pages
 pub record FindsValue (old new : PagesState) (height : ℕ) (key : List ℕ) (result : Result (Option (List ℕ)) Fault) : Type 0 where

@@ -1,8 +1,12 @@
+pub mod CellChanges
 pub mod Descent
 pub mod Floors
+pub mod GroupCells
 pub mod GroupChanges
 pub mod Groups
 pub mod NextSearch
+pub mod PagePairs
+pub mod PairChanges
 pub mod PairsState
 pub mod Searches
 pub mod SearchPath

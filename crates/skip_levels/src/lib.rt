@@ -1,7 +1,10 @@
 //! Sorted lists of pairs: what each offers, the list in memory, and the skip list with blocks over any pages.
 #![tactic(auto)]
 
+mod cells;
 mod change;
+mod changes;
+mod levels;
 mod map;
 mod next;
 mod ordered;
@@ -11,6 +14,3 @@ mod skip_list;
 pub use map::MapPairs;
 pub use ordered::OrderedPairs;
 pub use skip_list::SkipList;
-
-#[cfg(test)]
-mod tests;

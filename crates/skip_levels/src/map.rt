@@ -45,6 +45,17 @@ impl MapPairs {
         })
     }
 
+    /// The list of these pairs, at most 8,388,608, which stand in the order of their keys. It takes no memory.
+    pub fn from_pairs(pairs: PairList) -> Self
+        requires valid { IsPairs pairs }
+        requires few { length pairs ≤ most_pairs }
+        ensures { result.pairs.items ≡ pairs }
+    {
+        MapPairs {
+            pairs: pairs.into_items(),
+        }
+    }
+
     /// A list with the same pairs. `NoMemory` leaves the list as it is.
     pub fn copy(&self) -> Result<Self, NoMemory>
         ensures { IfOk result (λ list. list.pairs.items ≡ self.now.pairs.items) }

@@ -66,7 +66,7 @@ pub fn find_next<P: Pages>(
     ensures call { IsNextSearch (P.state pages.old) (P.state pages.new) height key.now result }
     ensures follows { P.follows pages.old pages.new }
 {
-    let end = path_end(pages, height, key)?;
+    let end = path_end(pages, height, 0, key)?;
     let near = neighbours_in_group(pages, 0, &end.lead, key)?;
     let here = pair_from(near, key);
     let Some(leader) = end.next else {

@@ -53,9 +53,9 @@ pub struct Neighbours {
 /// Where a descent on the search path of a key ends.
 #[derive(Debug, Drop)]
 pub struct PathEnd {
-    /// What leads the group of level 0.
+    /// What leads the group of the level at which it ends.
     pub lead: Lead,
-    /// The first key above that leads a group of level 0, if there is one.
+    /// The first key above that leads a group of that level, if there is one.
     pub next: Option<Key>,
 }
 
@@ -120,17 +120,22 @@ fn next_ahead(found: Option<Cell>, next: Option<Key>) -> Option<Key>
     }
 }
 
-/// What leads the group of level 0 on the search path of a key, and the next group of level 0, found by one group of each
-/// level above, from the highest on.
-pub fn path_end<P: Pages>(pages: &mut P, height: u8, key: &Key) -> Result<PathEnd, Fault>
-    requires { 1 ≤ height }
-    ensures call { IsDescent (P.state pages.old) (P.state pages.new) height key.now result }
+/// What leads the group of the level `bottom` on the search path of a key, and the next group of that level, found by one
+/// group of each level above, from the highest on.
+pub fn path_end<P: Pages>(
+    pages: &mut P,
+    height: u8,
+    bottom: u8,
+    key: &Key,
+) -> Result<PathEnd, Fault>
+    requires { bottom < height }
+    ensures call { IsDescent (P.state pages.old) (P.state pages.new) height bottom key.now result }
     ensures follows { P.follows pages.old pages.new }
 {
     let mut lead = Lead::Start;
     let mut next = None;
     let mut level = height - 1;
-    while level > 0 {
+    while level > bottom {
         let near = neighbours_in_group(pages, level, &lead, key)?;
         lead = next_lead(near.floor, lead);
         next = next_ahead(near.after, next);
@@ -159,7 +164,7 @@ pub fn find_value<P: Pages>(pages: &mut P, height: u8, key: &Key) -> Result<Opti
     ensures call { IsValueSearch (P.state pages.old) (P.state pages.new) height key.now result }
     ensures follows { P.follows pages.old pages.new }
 {
-    let end = path_end(pages, height, key)?;
+    let end = path_end(pages, height, 0, key)?;
     let near = neighbours_in_group(pages, 0, &end.lead, key)?;
     Ok(value_in(near.floor, key))
 }

@@ -1,45 +1,130 @@
 //! The skip list with blocks: a sorted list of pairs in pages (Golovin 2010).
 
 ghost use Rattle.std.specs.Prelude.{◌≡◌};
-ghost use Rattle.skip_levels.specs.Descent.{IsValueSearch};
+ghost use Rattle.store_model.specs.Pairs as model;
+ghost use Rattle.node_pages.specs.PagesState as pages_state;
+ghost use Rattle.skip_levels.specs.Descent.{HoldsPairs};
+ghost use Rattle.skip_levels.specs.PagePairs.{pairs_of_map, list_over, IsWhole, IsWhole-prop};
 
+use crate::changes::{put_pair, take_pair};
+use crate::next::find_next;
+use crate::ordered::OrderedPairs;
 use crate::search::find_value;
 use node_pages::Pages;
 use seeded_draw::Draw;
+use std::alloc::Global;
 use store_base::{Fault, Key, Value};
 
 /// A sorted list of pairs in pages. Each level of the list holds the keys that the draw puts on it or above, is cut into
 /// groups before each key of a higher level, and each group into pages.
-#[derive(Debug, Drop)]
-pub struct SkipList<P, W> {
+///
+/// It is observable where its pages are and no `put` or `take` of it failed. One of which a change failed is spent: its pages are
+/// given back by `into_pages`, and a further `put` or `take` answers `NoMemory` and changes nothing.
+#[derive(Drop)]
+pub struct SkipList<P: Pages, W: Draw> {
+    alloc: Global,
     pages: P,
     draw: W,
+    is_whole: bool,
+    pub ghost whole: { IsWhole (W.drawn draw) (list_over is_whole (P.state pages)) (P.state pages).pages } by { IsWhole-prop (W.drawn draw) (list_over is_whole (P.state pages)) (P.state pages).pages },
 }
 
 impl<P: Pages, W: Draw + Drop> SkipList<P, W> {
-    /// The list whose pages these are, under this draw.
-    pub fn new(pages: P, draw: W) -> Self
+    ghost use Rattle.std.specs.Prelude.{List, true};
+
+    /// The list whose pages these are, under this draw: the pages of a list of at most 8,388,608 pairs, as no page is that of
+    /// the empty list.
+    pub fn new(alloc: Global, pages: P, draw: W) -> Self
+        requires { pages_state.IsObservable (P.state pages) → (s : List model.Pair) × HoldsPairs (W.drawn draw) s (P.state pages).pages }
         ensures pages { result.pages ≡ pages }
         ensures draw { result.draw ≡ draw }
+        ensures whole { result.is_whole ≡ true }
     {
-        SkipList { pages, draw }
+        SkipList {
+            alloc,
+            pages,
+            draw,
+            is_whole: true,
+        }
     }
 
-    /// Its pages.
+    /// Its pages, also after a fault.
     pub fn into_pages(self) -> P
         ensures { result ≡ self.pages }
     {
-        self.pages
+        let SkipList { pages, .. } = self;
+        pages
     }
+}
 
-    /// The value of the key; `None` exactly where the list lacks the key. The groups of one search path are read. After a
-    /// fault the list is as it was.
-    pub fn get(&mut self, key: &Key) -> Result<Option<Value>, Fault>
-        ensures call { IsValueSearch (P.state self.old.pages) (P.state self.new.pages) (W.drawn self.old.draw).height key.now result }
-        ensures draw { self.new.draw ≡ self.old.draw }
-        ensures follows { P.follows self.old.pages self.new.pages }
+impl<P: Pages, W: Draw + Drop> OrderedPairs for SkipList<P, W> {
+    ghost use Rattle.std.specs.Prelude.{refl, ◌+◌, ◌*◌, ◌<◌, ◌≤◌, length};
+    ghost use Rattle.std.proofs.Common.{◌∙◌};
+    ghost use Rattle.skip_levels.specs.PairsState.{IsObservable, IsPairGet, IsPairPut, IsPairTake, IsNextPair, most_pairs};
+    ghost use Rattle.skip_levels.specs.SearchPath.{path_cost, path_cost_below};
+
+    ghost state = { λ list. list_over list.is_whole (P.state list.pages) };
+
+    ghost follows = { λ old new. P.follows old.pages new.pages × (new.draw ≡ old.draw) };
+
+    ghost valid = { λ list seen. (list.whole seen).pairs };
+
+    ghost few = { λ list seen. (list.whole seen).few };
+
+    ghost follows_refl = { λ list. (P.follows_refl list.pages, refl) };
+
+    ghost follows_trans = { λ a b c first second. (P.follows_trans a.pages b.pages c.pages first.0 second.0, second.1 ∙ first.1) };
+
+    /// The groups of one search path are read: at most a lookup for each of their pages, and one for each group.
+    fn get(&mut self, key: &Key) -> Result<Option<Value>, Fault>
+        ensures call { IsPairGet (⟦<SkipList<P, W> as OrderedPairs>⟧.state self.old) (⟦<SkipList<P, W> as OrderedPairs>⟧.state self.new) key.now result }
+        ensures follows { ⟦<SkipList<P, W> as OrderedPairs>⟧.follows self.old self.new }
+        ensures lookups { IsObservable (⟦<SkipList<P, W> as OrderedPairs>⟧.state self.old) → (P.state self.new.pages).lookups ≤ (P.state self.old.pages).lookups + path_cost (W.drawn self.old.draw) (pairs_of_map (P.state self.old.pages).pages) key.now }
     {
         let height = self.draw.height();
         find_value(&mut self.pages, height, key)
+    }
+
+    /// The groups of the search path are read twice, once to find the key and once to change them.
+    fn put(&mut self, key: Key, value: Value) -> Result<(), Fault>
+        requires { IsObservable (⟦<SkipList<P, W> as OrderedPairs>⟧.state self.old) → length (⟦<SkipList<P, W> as OrderedPairs>⟧.state self.old).pairs < most_pairs }
+        ensures call { IsPairPut (⟦<SkipList<P, W> as OrderedPairs>⟧.state self.old) (⟦<SkipList<P, W> as OrderedPairs>⟧.state self.new) key value result }
+        ensures follows { ⟦<SkipList<P, W> as OrderedPairs>⟧.follows self.old self.new }
+        ensures lookups { IsObservable (⟦<SkipList<P, W> as OrderedPairs>⟧.state self.old) → (P.state self.new.pages).lookups ≤ (P.state self.old.pages).lookups + 2 * path_cost (W.drawn self.old.draw) (pairs_of_map (P.state self.old.pages).pages) key }
+    {
+        let _ = key.as_bytes();
+        let _ = value.as_slice();
+        if !self.is_whole {
+            return Err(Fault::NoMemory);
+        }
+        self.is_whole = false;
+        put_pair(self.alloc, &mut self.pages, &self.draw, &key, &value)?;
+        self.is_whole = true;
+        Ok(())
+    }
+
+    /// The groups of the search path are read twice, as in `put`, and those of the search path strictly below the key besides.
+    fn take(&mut self, key: &Key) -> Result<Option<Value>, Fault>
+        ensures call { IsPairTake (⟦<SkipList<P, W> as OrderedPairs>⟧.state self.old) (⟦<SkipList<P, W> as OrderedPairs>⟧.state self.new) key.now result }
+        ensures follows { ⟦<SkipList<P, W> as OrderedPairs>⟧.follows self.old self.new }
+        ensures lookups { IsObservable (⟦<SkipList<P, W> as OrderedPairs>⟧.state self.old) → (P.state self.new.pages).lookups ≤ (P.state self.old.pages).lookups + (2 * path_cost (W.drawn self.old.draw) (pairs_of_map (P.state self.old.pages).pages) key.now + path_cost_below (W.drawn self.old.draw) (pairs_of_map (P.state self.old.pages).pages) key.now) }
+    {
+        if !self.is_whole {
+            return Err(Fault::NoMemory);
+        }
+        self.is_whole = false;
+        let taken = take_pair(self.alloc, &mut self.pages, &self.draw, key)?;
+        self.is_whole = true;
+        Ok(taken)
+    }
+
+    /// The groups of one search path are read, and where the pair leads the next group one page more.
+    fn next_from(&mut self, key: &Key) -> Result<Option<(Key, Value)>, Fault>
+        ensures call { IsNextPair (⟦<SkipList<P, W> as OrderedPairs>⟧.state self.old) (⟦<SkipList<P, W> as OrderedPairs>⟧.state self.new) key.now result }
+        ensures follows { ⟦<SkipList<P, W> as OrderedPairs>⟧.follows self.old self.new }
+        ensures lookups { IsObservable (⟦<SkipList<P, W> as OrderedPairs>⟧.state self.old) → (P.state self.new.pages).lookups ≤ (P.state self.old.pages).lookups + path_cost (W.drawn self.old.draw) (pairs_of_map (P.state self.old.pages).pages) key.now + 1 }
+    {
+        let height = self.draw.height();
+        find_next(&mut self.pages, height, key)
     }
 }

@@ -1,10 +1,11 @@
-use Rattle.std.proofs.Common.{◌<◌}
+use Rattle.std.proofs.Common.{◌<◌, ◌≤◌}
 use Rattle.skip_levels.proofs.DescentSteps.{Descends}
 use Rattle.skip_levels.proofs.search.path_end.Given as goal
 
 abbrev pub invariant-loop-level : goal.invariant-loop-level
 invariant-loop-level g l = record {
   within : l.level < l.height;
+  above : l.bottom ≤ l.level;
   descends : Descends (g.P.Pages.state l.initial.pages) (g.P.Pages.state l.pages) l.height l.level l.key l.lead l.next;
   follows : g.P.Pages.follows l.initial.pages l.pages;
 }

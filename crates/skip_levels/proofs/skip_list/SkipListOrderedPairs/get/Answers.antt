@@ -1,5 +1,5 @@
 use Rattle.std.proofs.Common.{[], arith}
-use Rattle.skip_levels.proofs.skip_list.SkipList.get.Goals as goal
+use Rattle.skip_levels.proofs.skip_list.SkipListOrderedPairs.get.Goals as goal
 
 -- a lawful draw has a level
 pub find_value-requires : goal.find_value-requires

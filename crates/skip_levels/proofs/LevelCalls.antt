@@ -1,0 +1,227 @@
+-- The calls that change one level: read, merged and written, a group after another.
+use Rattle.std.proofs.Common.{◌≡◌, ℕ, ◌+◌, ◌<◌, ◌≤◌, List, [], ◌++◌, length, Ok, refl, sym, ap, subst, ◌∙◌, append_assoc, arith}
+use Rattle.std.specs.FinMap as maps
+use Rattle.store_base.specs.declared.label.Lead as declared
+use Rattle.store_model.specs.Labels.{Lead}
+use Rattle.store_model.specs.Labels.Lead.{Leader}
+use Rattle.store_model.specs.Pages.{Cell, Page, group_pages}
+use Rattle.store_model.specs.PageMaps.{map_of_pages}
+use Rattle.node_pages.specs.PagesState.{PagesState, IsObservable, most_pages}
+use Rattle.node_pages.proofs.Runs.{all_pages, no_page}
+use Rattle.skip_levels.specs.Groups.{HoldsGroup}
+use Rattle.skip_levels.specs.GroupCells.{AreCells, IsMerged, merged}
+use Rattle.skip_levels.specs.GroupChanges.{IsChange, IsGroupRead, IsGroupChange}
+use Rattle.skip_levels.specs.CellChanges.{HasRoom, SetsCells, SplitsGroup, JoinsGroups}
+use Rattle.skip_levels.proofs.GroupReads.{few_group_pages}
+
+-- a group of no cell has no page
+pub no_group_pages : (level : ℕ) (lead : Lead) → group_pages level lead [] ≡ []
+no_group_pages level lead = sym (all_pages level lead []) ∙ no_page level lead 0 [] refl
+
+-- what merging the cells of two lists of pages makes
+abbrev pub Merges : ℕ → Lead → List ℕ → List Cell → List Page → List Page → declared.Lead → List Cell → Type 0
+Merges level lead key own low high next cells = (lows highs : List Cell) (low_lead high_lead : Lead) → low ≡ group_pages level low_lead lows → high ≡ group_pages level high_lead highs → AreCells level (merged key lows own highs)
+    → IsMerged lead key lows own highs (next, cells)
+
+abbrev pub MergesFew : ℕ → List Cell → List Page → List Page → List Cell → Type 0
+MergesFew level own low high cells = (lows highs : List Cell) (low_lead high_lead : Lead) → low ≡ group_pages level low_lead lows → high ≡ group_pages level high_lead highs → length cells ≤ length lows + (length own + length highs)
+
+-- ---- the room for what is written
+
+module _ (old mid : PagesState) (level : ℕ) (lead : Lead) (olds : List Page) (read : IsGroupRead old mid level lead (Ok olds)) (room : IsObservable old → HasRoom old.pages level lead) where
+  -- the pages read are few
+  record Few : Type 0 where
+    olds_few : length olds ≤ 8388608
+    all_few : maps.len mid.pages ≤ 2147483648
+    cells : List Cell
+    few : length cells ≤ 8388608
+    olds_are : olds ≡ group_pages level lead cells
+
+  few_read : IsObservable mid → Few
+  few_read o =
+      let h = room (read.hidden o) in
+      let r = read.observed (read.hidden o) in
+      let are : olds ≡ group_pages level lead h.cells = r.found h.cells h.holds (omega (arith, h.few)) in
+      record {
+        olds_few = omega (arith, ap length are, few_group_pages level lead h.cells, h.few);
+        all_few = omega (arith, ap maps.len r.unchanged, h.room);
+        cells = h.cells;
+        few = h.few;
+        olds_are = are;
+      }
+
+  pub room_to_set : (own cells : List Cell) → length own ≤ 1 → MergesFew level own olds olds cells → IsObservable mid → maps.len mid.pages + (length olds + length cells) < most_pages
+  room_to_set own cells one merge o = let f = few_read o in omega (arith, f.olds_few, f.all_few, f.few, merge f.cells f.cells lead lead f.olds_are f.olds_are)
+
+  pub room_to_split : (none : List Page) (cells : List Cell) → none ≡ [] → MergesFew level [] olds none cells → IsObservable mid → maps.len mid.pages + (length olds + length cells) < most_pages
+  room_to_split none cells is merge o =
+      let f = few_read o in
+      omega (arith, f.olds_few, f.all_few, f.few, merge f.cells [] lead lead f.olds_are (is ∙ sym (no_group_pages level lead)))
+
+  pub room_behind : {T : Type 0} (next : PagesState) (unit : T) (none : List Page) (own low high : List Cell) → none ≡ [] → length own ≤ 1 → MergesFew level [] olds none low → MergesFew level own none olds high → IsGroupChange mid next olds (group_pages level lead low) (Ok unit)
+      → IsObservable next → maps.len next.pages + (length none + length high) < most_pages
+  room_behind next unit none own low high is one low_merge high_merge write o =
+      let f = few_read (write.hidden o) in
+      let w = write.observed (write.hidden o) in
+      let empty = is ∙ sym (no_group_pages level lead) in
+      omega (
+        arith,
+        f.olds_few,
+        f.all_few,
+        f.few,
+        ap length is,
+        few_group_pages level lead low,
+        w.room,
+        low_merge f.cells [] lead lead f.olds_are empty,
+        high_merge [] f.cells lead lead empty f.olds_are,
+      )
+
+-- ---- the cells of a key set
+
+module _ (old mid new : PagesState) (level : ℕ) (lead : Lead) (key : List ℕ) (own : List Cell) (olds : List Page) (next : declared.Lead) (cells : List Cell) where
+  pub cells_set : {T : Type 0} (unit : T) → IsGroupRead old mid level lead (Ok olds) → Merges level lead key own olds olds next cells → IsGroupChange mid new olds (group_pages level lead cells) (Ok unit) → SetsCells old new level lead key own (Ok next)
+  cells_set unit read merge write = record {
+    call = record {
+      faults = write.faults ∙ read.faults;
+      lookups_kept = omega (arith, write.lookups, read.lookups_kept);
+      hidden = λ o. read.hidden (write.hidden o);
+      observable = λ o. (write.observed (read.observed o).observable).observable;
+    };
+    set = λ o group front back h.
+        let r = read.observed o in
+        let olds_are : olds ≡ group_pages level lead group = r.found group h.holds h.few in
+        let made = merge group group lead lead olds_are olds_are h.valid in
+        let change : IsChange level lead front back olds (group_pages level lead cells) =
+        subst (λ ps. IsChange level lead front back ps (group_pages level lead cells)) (sym olds_are) (subst (λ xs. IsChange level lead front back (group_pages level lead group) (group_pages level lead xs)) (sym made.cells) h.change) in
+        record {
+          pages_are = (write.observed r.observable).changed level lead front back change (r.unchanged ∙ h.pages_are ∙ ap (λ ps. map_of_pages (front ++ (ps ++ back))) (sym olds_are))
+              ∙ ap (λ xs. map_of_pages (front ++ (group_pages level lead xs ++ back))) made.cells;
+          next_is = made.next;
+        };
+    lookups = λ o group holds. omega (arith, write.lookups, (read.observed o).lookups group holds);
+  }
+
+-- ---- a group cut in two
+
+module _ (old mid between new : PagesState) (level : ℕ) (lead : Lead) (key : List ℕ) (own : List Cell) (olds none : List Page) (next : declared.Lead) (low high : List Cell) where
+  pub group_split : {T : Type 0} (unit unit' : T) (other : declared.Lead) (other_lead : Lead) → none ≡ [] → IsGroupRead old mid level lead (Ok olds) → Merges level lead key [] olds none next low → Merges level other_lead key own none olds other high
+      → IsGroupChange mid between olds (group_pages level lead low) (Ok unit) → IsGroupChange between new none (group_pages level (Leader key) high) (Ok unit') → SplitsGroup old new level lead key own (Ok next)
+  group_split unit unit' other other_lead empty read low_merge high_merge write write' = record {
+    call = record {
+      faults = write'.faults ∙ write.faults ∙ read.faults;
+      lookups_kept = omega (arith, write'.lookups, write.lookups, read.lookups_kept);
+      hidden = λ o. read.hidden (write.hidden (write'.hidden o));
+      observable = λ o. (write'.observed (write.observed (read.observed o).observable).observable).observable;
+    };
+    split = λ o group front back h.
+        let r = read.observed o in
+        let w = write.observed r.observable in
+        let w' = write'.observed w.observable in
+        let olds_are : olds ≡ group_pages level lead group = r.found group h.holds h.few in
+        let none_are : none ≡ group_pages level lead [] = empty ∙ sym (no_group_pages level lead) in
+        let lows = low_merge group [] lead lead olds_are none_are h.low_valid in
+        let highs = high_merge [] group lead lead none_are olds_are h.high_valid in
+        let low_pages = group_pages level lead (merged key group [] []) in
+        let low_are : group_pages level lead low ≡ low_pages = ap (group_pages level lead) lows.cells in
+        let high_are = ap (group_pages level (Leader key)) highs.cells in
+        let first : IsChange level lead front back olds (group_pages level lead low) =
+        subst (λ ps. IsChange level lead front back ps (group_pages level lead low)) (sym olds_are) (subst (IsChange level lead front back (group_pages level lead group)) (sym low_are) h.first) in
+        let second : IsChange level (Leader key) (front ++ low_pages) back none (group_pages level (Leader key) high) =
+        subst (λ ps. IsChange level (Leader key) (front ++ low_pages) back ps (group_pages level (Leader key) high)) (sym empty) (subst (IsChange level (Leader key) (front ++ low_pages) back []) (sym high_are) h.second) in
+        let kept = w.changed level lead front back first (r.unchanged ∙ h.pages_are ∙ ap (λ ps. map_of_pages (front ++ (ps ++ back))) (sym olds_are)) in
+        record {
+          pages_are =
+              w'.changed level (Leader key) (front ++ low_pages) back second
+              (kept ∙ ap (λ ps. map_of_pages (front ++ (ps ++ back))) low_are ∙ ap map_of_pages (sym (append_assoc front low_pages back)) ∙ ap (λ ps. map_of_pages ((front ++ low_pages) ++ (ps ++ back))) (sym empty))
+              ∙ ap (λ ps. map_of_pages ((front ++ low_pages) ++ (ps ++ back))) high_are ∙ ap map_of_pages (append_assoc front low_pages (group_pages level (Leader key) (merged key [] own group) ++ back));
+          next_is = lows.next;
+        };
+    lookups = λ o group holds. omega (arith, write'.lookups, write.lookups, (read.observed o).lookups group holds);
+  }
+
+-- ---- two groups joined
+
+module _ (old mid read_all between new : PagesState) (level : ℕ) (lead : Lead) (key : List ℕ) (lows highs : List Page) (next : declared.Lead) (none cells : List Cell)
+    (read : IsGroupRead old mid level lead (Ok lows)) (read' : IsGroupRead mid read_all level (Leader key) (Ok highs)) where
+  pub groups_joined : {T : Type 0} (unit unit' : T) → none ≡ [] → Merges level lead key [] lows highs next cells → IsGroupChange read_all between highs (group_pages level (Leader key) none) (Ok unit) → IsGroupChange between new lows (group_pages level lead cells) (Ok unit')
+      → JoinsGroups old new level lead key (Ok next)
+  groups_joined unit unit' empty merge write write' = record {
+    call = record {
+      faults = write'.faults ∙ write.faults ∙ read'.faults ∙ read.faults;
+      lookups_kept = omega (arith, write'.lookups, write.lookups, read.lookups_kept, read'.lookups_kept);
+      hidden = λ o. read.hidden (read'.hidden (write.hidden (write'.hidden o)));
+      observable = λ o. (write'.observed (write.observed (read'.observed (read.observed o).observable).observable).observable).observable;
+    };
+    joined = λ o low high front back h.
+        let r = read.observed o in
+        let r' = read'.observed r.observable in
+        let w = write.observed r'.observable in
+        let w' = write'.observed w.observable in
+        let low_pages = group_pages level lead low in
+        let high_pages = group_pages level (Leader key) high in
+        let lows_are : lows ≡ low_pages = r.found low h.low_holds h.low_few in
+        let highs_are : highs ≡ high_pages = r'.found high (subst (λ m. HoldsGroup m level (Leader key) high) (sym r.unchanged) h.high_holds) h.high_few in
+        let made = merge low high lead (Leader key) lows_are highs_are h.valid in
+        let none_are : group_pages level (Leader key) none ≡ [] = ap (group_pages level (Leader key)) empty ∙ no_group_pages level (Leader key) in
+        let made_are = ap (group_pages level lead) made.cells in
+        let first : IsChange level (Leader key) (front ++ low_pages) back highs (group_pages level (Leader key) none) =
+        subst (λ ps. IsChange level (Leader key) (front ++ low_pages) back ps (group_pages level (Leader key) none)) (sym highs_are) (subst (IsChange level (Leader key) (front ++ low_pages) back high_pages) (sym none_are) h.first) in
+        let second : IsChange level lead front back lows (group_pages level lead cells) =
+        subst (λ ps. IsChange level lead front back ps (group_pages level lead cells)) (sym lows_are) (subst (IsChange level lead front back low_pages) (sym made_are) h.second) in
+        let kept =
+        w.changed level (Leader key) (front ++ low_pages) back first
+        (r'.unchanged ∙ r.unchanged ∙ h.pages_are ∙ ap map_of_pages (sym (append_assoc front low_pages (high_pages ++ back))) ∙ ap (λ ps. map_of_pages ((front ++ low_pages) ++ (ps ++ back))) (sym highs_are)) in
+        record {
+          pages_are =
+              w'.changed level lead front back second
+              (kept ∙ ap (λ ps. map_of_pages ((front ++ low_pages) ++ (ps ++ back))) none_are ∙ ap map_of_pages (append_assoc front low_pages back) ∙ ap (λ ps. map_of_pages (front ++ (ps ++ back))) (sym lows_are))
+              ∙ ap (λ ps. map_of_pages (front ++ (ps ++ back))) made_are;
+          next_is = made.next;
+        };
+    lookups = λ o low high low_holds high_holds.
+        let r = read.observed o in
+        let r' = read'.observed r.observable in
+        omega (arith, write'.lookups, write.lookups, r.lookups low low_holds, r'.lookups high (subst (λ m. HoldsGroup m level (Leader key) high) (sym r.unchanged) high_holds));
+  }
+
+  module _ (room : IsObservable old → HasRoom old.pages level lead) (room' : IsObservable old → HasRoom old.pages level (Leader key)) where
+    record FewJoined : Type 0 where
+      lows_few : length lows ≤ 8388608
+      highs_few : length highs ≤ 8388608
+      all_few : maps.len read_all.pages ≤ 2147483648
+      low : List Cell
+      high : List Cell
+      low_few : length low ≤ 8388608
+      high_few : length high ≤ 8388608
+      lows_are : lows ≡ group_pages level lead low
+      highs_are : highs ≡ group_pages level (Leader key) high
+
+    few_joined : IsObservable read_all → FewJoined
+    few_joined o =
+        let first = read.hidden (read'.hidden o) in
+        let r = read.observed first in
+        let r' = read'.observed r.observable in
+        let h = room first in
+        let h' = room' first in
+        let lows_are : lows ≡ group_pages level lead h.cells = r.found h.cells h.holds (omega (arith, h.few)) in
+        let highs_are : highs ≡ group_pages level (Leader key) h'.cells = r'.found h'.cells (subst (λ m. HoldsGroup m level (Leader key) h'.cells) (sym r.unchanged) h'.holds) (omega (arith, h'.few)) in
+        record {
+          lows_few = omega (arith, ap length lows_are, few_group_pages level lead h.cells, h.few);
+          highs_few = omega (arith, ap length highs_are, few_group_pages level (Leader key) h'.cells, h'.few);
+          all_few = omega (arith, ap maps.len r'.unchanged, ap maps.len r.unchanged, h.room);
+          low = h.cells;
+          high = h'.cells;
+          low_few = h.few;
+          high_few = h'.few;
+          lows_are = lows_are;
+          highs_are = highs_are;
+        }
+
+    pub room_to_drop : none ≡ [] → IsObservable read_all → maps.len read_all.pages + (length highs + length none) < most_pages
+    room_to_drop empty o = let f = few_joined o in omega (arith, f.highs_few, f.all_few, ap length empty)
+
+    pub room_to_join : {T : Type 0} (unit : T) → none ≡ [] → MergesFew level [] lows highs cells → IsGroupChange read_all between highs (group_pages level (Leader key) none) (Ok unit) → IsObservable between → maps.len between.pages + (length lows + length cells) < most_pages
+    room_to_join unit empty merge write o =
+        let f = few_joined (write.hidden o) in
+        let w = write.observed (write.hidden o) in
+        omega (arith, f.lows_few, f.highs_few, f.all_few, f.low_few, f.high_few, ap length empty, few_group_pages level (Leader key) none, w.room, merge f.low f.high lead (Leader key) f.lows_are f.highs_are)

@@ -1,0 +1,76 @@
+-- The calls of a list over pages: what holds of the list behind a change that succeeded.
+use Rattle.std.proofs.Common.{◌≡◌, ℕ, ◌+◌, ◌<◌, ◌≤◌, List, [], ◌∷◌, length, not, Bool, true, Option, Ok, Less, Equal, Greater, refl, arith}
+use Rattle.std.specs.Ordering.{eq_by_cmp}
+use Rattle.std.specs.FinMap.{put}
+use Rattle.std.specs.FinMap.Entries.{by_order}
+use Rattle.store_base.specs.Keys.{IsKey}
+use Rattle.store_model.specs.Paths.{key_cmp}
+use Rattle.store_model.specs.Draws.{Draw}
+use Rattle.store_model.specs.Pairs.{Pair, IsValue}
+use Rattle.store_model.proofs.ListsLemmasCuts.{length-filter-le}
+use Rattle.node_pages.specs.PagesState.{PagesState, IsObservable}
+use Rattle.skip_levels.specs.Descent.{HoldsPairs}
+use Rattle.skip_levels.specs.PagePairs.{pairs_of_map, list_over}
+use Rattle.skip_levels.specs.PairsState.{most_pairs, without, IsPairPut, IsPairTake}
+use Rattle.skip_levels.specs.PairChanges.{PutsPairIn, TakesPairIn}
+use Rattle.skip_levels.proofs.PagePairsLemmas.{holds_own, holds_its_pairs}
+use Rattle.skip_levels.proofs.ValidLemmas.{IsPairs-put, IsPairs-without}
+
+-- a put adds one pair at most
+length-put-le : (key value : List ℕ) (s : List Pair) → length (put key_cmp key value s) ≤ length s + 1
+length-put-le key value [] = omega arith
+length-put-le key value (e ∷ s) =
+    let rest = length-put-le key value s in
+    elim (key_cmp key e.0) as (λ r. length (by_order r ((key, value) ∷ e ∷ s) ((e.0, value) ∷ s) (e ∷ put key_cmp key value s)) ≤ length (e ∷ s) + 1) [
+      | Less ↦ omega arith
+      | Equal ↦ omega arith
+      | Greater ↦ omega arith
+    ]
+
+module _ (d : Draw) (old new : PagesState) (key : List ℕ) (is_whole : Bool) (whole : is_whole ≡ true) (held : IsObservable old → HoldsPairs d (pairs_of_map old.pages) old.pages) where
+  abbrev s : List Pair
+  s = pairs_of_map old.pages
+
+  module _ {T : Type 0} (value : List ℕ) (unit : T) (is_key : IsKey key) (is_value : IsValue value) (room : IsObservable old → length s < most_pairs) (call : PutsPairIn d old new key value (Ok unit)) where
+    put_holds : IsObservable old → HoldsPairs d (put key_cmp key value s) new.pages
+    put_holds o =
+        let h = held o in
+        record {
+          lawful = h.lawful;
+          height = h.height;
+          pairs = IsPairs-put key value s is_key is_value h.pairs;
+          few = omega (arith, length-put-le key value s, room o);
+          map_is = call.put o;
+        }
+
+    pub whole_behind_put : IsObservable new → HoldsPairs d (pairs_of_map new.pages) new.pages
+    whole_behind_put o = holds_its_pairs d (put key_cmp key value s) new.pages (put_holds (call.call.hidden o))
+
+    pub list_put : IsPairPut (list_over is_whole old) (list_over true new) key value (Ok unit)
+    list_put = record {
+      faults = call.call.faults;
+      hidden = λ o. (whole, call.call.hidden o.1);
+      observed = λ o. record { observable = (refl, call.call.observable o.1); changed = holds_own d (put key_cmp key value s) new.pages (put_holds o.1) };
+    }
+
+  module _ (taken : Option (List ℕ)) (call : TakesPairIn d old new key (Ok taken)) where
+    take_holds : IsObservable old → HoldsPairs d (without key s) new.pages
+    take_holds o =
+        let h = held o in
+        record {
+          lawful = h.lawful;
+          height = h.height;
+          pairs = IsPairs-without key s h.pairs;
+          few = omega (arith, length-filter-le (λ (e : Pair). not (eq_by_cmp key_cmp key e.0)) s, h.few);
+          map_is = call.taken o;
+        }
+
+    pub whole_behind_take : IsObservable new → HoldsPairs d (pairs_of_map new.pages) new.pages
+    whole_behind_take o = holds_its_pairs d (without key s) new.pages (take_holds (call.call.hidden o))
+
+    pub list_taken : IsPairTake (list_over is_whole old) (list_over true new) key (Ok taken)
+    list_taken = record {
+      faults = call.call.faults;
+      hidden = λ o. (whole, call.call.hidden o.1);
+      observed = λ o. record { observable = (refl, call.call.observable o.1); found = call.found o.1; changed = holds_own d (without key s) new.pages (take_holds o.1) };
+    }

@@ -1,0 +1,13 @@
+use Rattle.std.proofs.Common.{◌≤◌}
+use Rattle.skip_levels.proofs.ChangeSteps.{TakenDown}
+use Rattle.skip_levels.proofs.changes.take_from.Given as goal
+
+abbrev pub invariant-loop-level : goal.invariant-loop-level
+invariant-loop-level g l = record {
+  below : l.level ≤ l.top;
+  down : TakenDown (g.P.Pages.state l.fn.pages) l.height l.top l.key (g.P.Pages.state l.pages) l.level l.lead;
+  follows : g.P.Pages.follows l.fn.pages l.pages;
+}
+
+abbrev pub decreases-loop-level : goal.decreases-loop-level
+decreases-loop-level g l = l.level

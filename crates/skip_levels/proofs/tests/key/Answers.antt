@@ -1,6 +1,0 @@
-use Rattle.std.proofs.Common.{◌++◌, ℕ, List, length, ap₂, ◌∙◌}
-use Rattle.std.proofs.lemmas.List.{drop-replicate}
-use Rattle.skip_levels.proofs.tests.key.Goals as goal
-
-pub returns : goal.returns
-returns c = c.new.ensures.value ∙ ap₂ (λ (xs ys : List ℕ). xs ++ ys) c.copy_from_slice.ensures.after (drop-replicate (length c.args.front.now) 124 0)

@@ -1,0 +1,45 @@
+-- The cells of one group, and what a change of one key makes of them.
+use Rattle.std.specs.Prelude.{◌≡◌, ℕ, List, ◌++◌, map, filter, Bool, true, Option, Some, None, ◌==◌}
+use Rattle.std.specs.List.{AllByRecursion}
+use Rattle.std.specs.List.Sorted.{IsStrictlySortedBy}
+use Rattle.std.specs.Option.{option_map}
+use Rattle.std.specs.Ordering.{is_lt, ordering_index}
+use Rattle.std.specs.declared.cmp.Ordering.{Ordering}
+use Rattle.std.specs.declared.cmp.Ordering.TheVariants.{Less, Equal, Greater}
+use Rattle.store_model.specs.Paths.{key_cmp}
+use Rattle.store_model.specs.Pages.{Cell, IsCell}
+use Rattle.store_base.specs.declared.label.Lead as declared
+use Rattle.store_base.specs.Leads as leads
+use Rattle.store_model.specs.Labels.{Lead}
+use Rattle.skip_levels.specs.Floors.{last_of, lead_from}
+
+-- cells of a level whose keys strictly rise
+pub record AreCells (level : ℕ) (cells : List Cell) : Type 0 where
+  pub each : AllByRecursion (IsCell level) cells
+  pub rising : IsStrictlySortedBy key_cmp (map (λ c. c.key) cells)
+
+-- the key of the last of some cells
+abbrev pub last_key_of : List Cell → Option (List ℕ)
+last_key_of cells = option_map (λ (c : Cell). c.key) (last_of cells)
+
+-- whether a key is above the last one, if there is one
+abbrev pub is_behind : List ℕ → Option (List ℕ) → Bool
+is_behind key None = true
+is_behind key (Some last) = is_lt (key_cmp last key)
+
+-- whether the key of a cell compares so with a key
+abbrev pub compares : Ordering → List ℕ → Cell → Bool
+compares order key cell = ordering_index (key_cmp cell.key key) == ordering_index order
+
+-- the cells whose keys compare so with a key
+abbrev pub side : Ordering → List ℕ → List Cell → List Cell
+side order key cells = filter (compares order key) cells
+
+-- cells below a key, cells of the key, and cells above it
+abbrev pub merged : List ℕ → List Cell → List Cell → List Cell → List Cell
+merged key low own high = (side Less key low ++ side Equal key own) ++ side Greater key high
+
+-- what leads the next lower group of a search path, and the cells with those of the key
+pub record IsMerged (lead : Lead) (key : List ℕ) (low own high : List Cell) (made : declared.Lead × List Cell) : Type 0 where
+  pub next : leads.lead_of made.0 ≡ lead_from (last_of (side Less key low)) lead
+  pub cells : made.1 ≡ merged key low own high
