@@ -1,0 +1,132 @@
+-- The blocks of a file, read one after another.
+use Rattle.std.proofs.Common.{◌≡◌, ℕ, zero, suc, ◌+◌, ◌-◌, ◌*◌, ◌<◌, ◌≤◌, min, List, [], ◌∷◌, ◌++◌, map, length, take, drop, slice_get, Some, refl, sym, ap, ap₂, subst, ◌∙◌, arith}
+use Rattle.std.specs.List.{enumerate_from}
+use Rattle.std.proofs.lemmas.List.{length-append, length-drop, map-append, take_all, take-append-le, drop-append-le, drop_at}
+use Rattle.std.proofs.lemmas.Option.{same_Some}
+use Rattle.store_model.specs.Lists.{IsBytes, numbers_from, run_at, run_count, runs}
+use Rattle.store_model.specs.Paths.{Path, key}
+use Rattle.store_model.specs.Pairs.{Pair, file_block}
+use Rattle.store_model.proofs.ListsLemmas.{all_append, all_from_bytes, bytes_from_all, length-runs}
+use Rattle.tree_pairs.proofs.BlocksLemmas.{length-run_at}
+use Rattle.image_check.specs.Entries.{block_pairs, AreBlocks}
+
+-- ---- runs
+
+map_alike : {B : Type 0} (f g : ℕ → B) (first count : ℕ) → ((i : ℕ) → i < first + count → f i ≡ g i) → map f (numbers_from first count) ≡ map g (numbers_from first count)
+unfolding numbers_from
+map_alike f g first zero alike = refl
+map_alike f g first (suc count) alike = ap₂ (λ x xs. x ∷ xs) (alike first (omega arith)) (map_alike f g (suc first) count (λ i l. alike i (omega arith)))
+
+numbers_more : (first count : ℕ) → numbers_from first (suc count) ≡ numbers_from first count ++ (first + count) ∷ []
+unfolding numbers_from
+numbers_more first zero = ap (λ n. n ∷ []) (let e : first ≡ first + 0 = omega arith in e)
+numbers_more first (suc count) = ap (λ ns. first ∷ ns) (numbers_more (suc first) count ∙ ap (λ n. numbers_from (suc first) count ++ n ∷ []) (let e : suc first + count ≡ first + suc count = omega arith in e))
+
+-- a run behind full ones
+runs_more : (k : ℕ) (xs run : List ℕ) → length xs ≡ 256 * k → 1 ≤ length run → length run ≤ 256 → runs file_block (xs ++ run) ≡ runs file_block xs ++ run ∷ []
+unfolding runs
+runs_more k xs run full some few =
+    let long = length-append xs run in
+    let more : run_count file_block (length (xs ++ run)) ≡ suc k = omega (arith, long, full, some, few) in
+    let before : run_count file_block (length xs) ≡ k = omega (arith, full) in
+    let front : map (run_at file_block (xs ++ run)) (numbers_from 0 k) ≡ map (run_at file_block xs) (numbers_from 0 k) =
+    map_alike (run_at file_block (xs ++ run)) (run_at file_block xs) 0 k (λ i l.
+    ap (take 256) (drop-append-le (256 * i) xs run (omega (arith, full, l))) ∙ take-append-le 256 (drop (256 * i) xs) run (long_enough i l)) in
+    let back : run_at file_block (xs ++ run) k ≡ run = ap (take 256) (drop_at xs run (256 * k) full) ∙ take_all 256 run few in
+    ap (λ n. map (run_at file_block (xs ++ run)) (numbers_from 0 n)) more
+    ∙ ap (map (run_at file_block (xs ++ run))) (numbers_more 0 k)
+    ∙ map-append (run_at file_block (xs ++ run)) (numbers_from 0 k) ((0 + k) ∷ [])
+    ∙ ap₂ (λ (a : List (List ℕ)) (b : List ℕ). a ++ b ∷ []) front (ap (run_at file_block (xs ++ run)) (let e : 0 + k ≡ k = omega arith in e) ∙ back)
+    ∙ ap (λ n. map (run_at file_block xs) (numbers_from 0 n) ++ run ∷ []) (sym before)
+  where
+    long_enough : (i : ℕ) → i < 0 + k → 256 ≤ length (drop (256 * i) xs)
+    long_enough i l = simp (length-drop) (omega (arith, full, l))
+
+enumerate_more : {X : Type 0} (n : ℕ) (xs : List X) (x : X) → enumerate_from n (xs ++ x ∷ []) ≡ enumerate_from n xs ++ (n + length xs, x) ∷ []
+enumerate_more n [] x = ap (λ m. (m, x) ∷ []) (let e : n ≡ n + 0 = omega arith in e)
+enumerate_more n (y ∷ xs) x = ap (λ es. (n, y) ∷ es) (enumerate_more (n + 1) xs x ∙ ap (λ m. enumerate_from (n + 1) xs ++ (m, x) ∷ []) (let e : n + 1 + length xs ≡ n + suc (length xs) = omega arith in e))
+
+-- one block more
+blocks_more : (path : Path) (k : ℕ) (xs run : List ℕ) → length xs ≡ 256 * k → 1 ≤ length run → length run ≤ 256 → block_pairs path (xs ++ run) ≡ block_pairs path xs ++ (key path (k + 1), run) ∷ []
+blocks_more path k xs run full some few =
+    let count : length (runs file_block xs) ≡ k = length-runs file_block xs ∙ (let e : run_count file_block (length xs) ≡ k = omega (arith, full) in e) in
+    ap (λ rs. map (λ (b : ℕ × List ℕ). (key path b.0, b.1)) (enumerate_from 1 rs)) (runs_more k xs run full some few)
+    ∙ ap (map (λ (b : ℕ × List ℕ). (key path b.0, b.1))) (enumerate_more 1 (runs file_block xs) run)
+    ∙ map-append (λ (b : ℕ × List ℕ). (key path b.0, b.1)) (enumerate_from 1 (runs file_block xs)) ((1 + length (runs file_block xs), run) ∷ [])
+    ∙ ap (λ n. block_pairs path xs ++ (key path n, run) ∷ []) (let e : 1 + length (runs file_block xs) ≡ k + 1 = omega (arith, count) in e)
+
+-- ---- the blocks so far
+
+-- the first k pairs are the blocks of some bytes, and so many are left of a file with len bytes
+pub record AreRead (path : Path) (len : ℕ) (s : List Pair) (k left number : ℕ) : Type 0 where
+  pub bytes : List ℕ
+  pub valid : IsBytes bytes
+  pub number_is : number ≡ k + 1
+  pub length_is : length bytes + left ≡ len
+  pub most : length bytes ≤ 256 * k
+  pub full : 0 < left → length bytes ≡ 256 * k
+  pub pairs_are : take k s ≡ block_pairs path bytes
+
+pub read_none : (path : Path) (len : ℕ) (s : List Pair) → AreRead path len s 0 len 1
+unfolding runs numbers_from
+read_none path len s = record {
+  bytes = [];
+  valid = bytes_from_all [] tt;
+  number_is = refl;
+  length_is = omega arith;
+  most = omega arith;
+  full = λ some. refl;
+  pairs_are = refl;
+}
+
+-- bytes are left while pairs are
+some_left : (path : Path) (len : ℕ) (s : List Pair) (k left number : ℕ) → AreRead path len s k left number → k < run_count file_block len → 0 < left
+some_left path len s k left number read more = omega (arith, read.length_is, read.most, more)
+
+pub read_more : (path : Path) (len : ℕ) (s : List Pair) (k left number : ℕ) (pair : Pair) → AreRead path len s k left number → k < length s → k < run_count file_block len → take (k + 1) s ≡ take k s ++ pair ∷ [] → pair.0 ≡ key path number → length pair.1 ≡ min left 256 → IsBytes pair.1
+    → AreRead path len s (k + 1) (left - min left 256) (number + 1)
+read_more path len s k left number pair read within more next key_is long valid =
+    let some = some_left path len s k left number read more in
+    let full = read.full some in
+    let joined = length-append read.bytes pair.1 in
+    record {
+      bytes = read.bytes ++ pair.1;
+      valid = bytes_from_all (read.bytes ++ pair.1) (all_append (λ c. c < 256) read.bytes pair.1 (all_from_bytes read.bytes read.valid) (all_from_bytes pair.1 valid));
+      number_is = omega (arith, read.number_is);
+      length_is = omega (arith, joined, long, read.length_is);
+      most = omega (arith, joined, long, read.most);
+      full = λ left_over. omega (arith, joined, long, full, left_over);
+      pairs_are =
+          let here : pair ≡ (key path (k + 1), pair.1) = λ i. ((key_is ∙ ap (key path) read.number_is) i, pair.1) in
+          next ∙ ap₂ (λ (a : List Pair) (b : Pair). a ++ b ∷ []) read.pairs_are here
+          ∙ sym (blocks_more path k read.bytes pair.1 full (omega (arith, long, some)) (omega (arith, long)));
+    }
+
+-- ---- a block of a file
+
+-- the pair of a run
+abbrev run_pair : Path → ℕ × List ℕ → Pair
+run_pair path b = (key path b.0, b.1)
+
+block_at : (path : Path) (bytes : List ℕ) (number first count k : ℕ) → k < count
+    → slice_get (map (run_pair path) (enumerate_from number (map (run_at file_block bytes) (numbers_from first count)))) k ≡ Some (run_pair path (number + k, run_at file_block bytes (first + k)))
+unfolding numbers_from
+block_at path bytes number first zero k l = absurd (omega arith)
+block_at path bytes number first (suc count) zero l =
+    ap₂ (λ (n i : ℕ). Some (run_pair path (n, run_at file_block bytes i))) (let e : number ≡ number + 0 = omega arith in e) (let e : first ≡ first + 0 = omega arith in e)
+block_at path bytes number first (suc count) (suc k) l =
+    block_at path bytes (number + 1) (suc first) count k (omega arith)
+    ∙ ap₂ (λ (n i : ℕ). Some (run_pair path (n, run_at file_block bytes i))) (let e : number + 1 + k ≡ number + suc k = omega arith in e) (let e : suc first + k ≡ first + suc k = omega arith in e)
+
+-- each pair of a file's blocks has its number, and as many bytes as are left, up to 256
+pub block_is : (path : Path) (len : ℕ) (s : List Pair) (k left number : ℕ) (pair : Pair) → AreRead path len s k left number → k < run_count file_block len → slice_get s k ≡ Some pair → AreBlocks path len s → (pair.0 ≡ key path number) × (length pair.1 ≡ min left 256)
+unfolding runs
+block_is path len s k left number pair read more here are =
+    let bytes = are.0 in
+    let some = some_left path len s k left number read more in
+    let at = block_at path bytes 1 0 (run_count file_block (length bytes)) k (subst (λ n. k < run_count file_block n) (sym are.1) more) in
+    let same : pair ≡ run_pair path (1 + k, run_at file_block bytes (0 + k)) = same_Some pair (run_pair path (1 + k, run_at file_block bytes (0 + k))) (sym here ∙ ap (λ (xs : List Pair). slice_get xs k) are.3 ∙ at) in
+    let run = length-run_at file_block bytes (0 + k) in (
+      ap (λ (x : Pair). x.0) same ∙ ap (key path) (let e : 1 + k ≡ number = omega (arith, read.number_is) in e),
+      ap (λ (x : Pair). length x.1) same ∙ run ∙ (let e : min 256 (length bytes - 256 * (0 + k)) ≡ min left 256 = omega (arith, are.1, read.length_is, read.full some) in e),
+    )

@@ -1,0 +1,11 @@
+pub mod EntryLemmas
+pub mod FileBlocks
+pub mod Found
+pub mod ImageVerdicts
+pub mod Images
+pub mod Layouts
+pub mod ReadLemmas
+pub mod Searches
+pub mod SlotLemmas
+pub mod TablePairs
+pub mod Walk

@@ -1,0 +1,35 @@
+-- Searches for what slots hold, by what was read, and the checks that stand on them.
+use Rattle.std.proofs.Common.{◌≡◌, Some, None, Ok, refl, sym, subst}
+use Rattle.store_model.specs.Parameters.{Parameters}
+use Rattle.store_model.specs.Trees.{Tree}
+use Rattle.store_model.specs.Images.{slots_of}
+use Rattle.store_base.specs.SlotsState.{SlotsState, IsObservable}
+use Rattle.image_check.specs.declared.contents.Contents.{Contents}
+use Rattle.image_check.specs.declared.verdict.Verdict.{Verdict}
+use Rattle.image_check.specs.Contents.{HaveLayout, AreContents}
+use Rattle.image_check.specs.Verdicts.{IsSlotsVerdict}
+use Rattle.image_check.specs.SlotCalls.{ReadsSlots, FindsContents, ChecksSlots, IsVerdictOn}
+use Rattle.image_check.proofs.Layouts.{clean_slots, clean_with}
+use Rattle.image_check.proofs.ReadLemmas.{reads_then, reads_answered}
+
+-- nothing was found
+pub finds_none : {T : Type 0} (p : Parameters) (old new : SlotsState) (read : T) → ReadsSlots old new (Ok read) → (IsObservable old → (t : Tree) → HaveLayout old.slots t p → ⊥) → FindsContents p old new (Ok None)
+finds_none p old new read reads none = record { reads = reads_answered old new read None reads; contents = tt; found = none }
+
+-- the contents of a tree were found
+pub finds_some : {T : Type 0} (p : Parameters) (old new : SlotsState) (read : T) (t : Tree) (contents : Contents) → ReadsSlots old new (Ok read) → AreContents t p contents → (IsObservable old → old.slots ≡ slots_of contents.layout) → FindsContents p old new (Ok (Some contents))
+finds_some p old new read t contents reads are found = record { reads = reads_answered old new read (Some contents) reads; contents = (t, are); found = found }
+
+-- reads behind others
+pub reads_both : {T U : Type 0} (old mid new : SlotsState) (before : T) (value : U) → ReadsSlots old mid (Ok before) → ReadsSlots mid new (Ok value) → ReadsSlots old new (Ok value)
+reads_both old mid new before value first more = reads_then old mid new (Ok value) (reads_answered old mid before tt first) more
+
+-- the verdict on contents that were found
+pub checks_found : (p : Parameters) (old new : SlotsState) (contents : Contents) (verdict : Verdict) → FindsContents p old new (Ok (Some contents)) → IsVerdictOn contents verdict → ChecksSlots p old new (Ok verdict)
+checks_found p old new contents verdict finds is =
+    let are = finds.contents.1 in record {
+      reads = reads_answered old new (Some contents) verdict finds.reads;
+      never = λ no. cc;
+      verdict = λ observable. subst (IsSlotsVerdict old.slots p) (sym is) (clean_slots old.slots finds.contents.0 p contents _ are (finds.found observable) refl);
+      clean = λ observable t held. clean_with old.slots finds.contents.0 t p contents verdict are (finds.found observable) is held;
+    }

@@ -1,0 +1,64 @@
+-- What stands at the front of a list of pairs.
+use Rattle.std.specs.Prelude.{◌≡◌, ℕ, ◌≤◌, IsTrue, ◌+◌, List, [], map, length, take, false}
+use Rattle.std.specs.List.{enumerate_from}
+use Rattle.store_model.specs.Lists.{IsBytes, runs, run_count}
+use Rattle.store_model.specs.Parameters.{Parameters}
+use Rattle.store_model.specs.Paths.{Path, is_path, is_root, key}
+use Rattle.store_model.specs.Pairs.{Pair, file_block, directory_value, file_value, node_pairs}
+use Rattle.store_model.specs.Trees.{Node, IsNode, file_limit}
+use Rattle.store_model.specs.Trees.Node.{Directory, File}
+use Rattle.image_check.specs.declared.contents.Counts.{Counts}
+use Rattle.image_check.specs.declared.kind.Kind.{Kind}
+use Rattle.image_check.specs.declared.kind.Kind.TheVariants as kinds
+
+-- the pairs of the blocks of a file
+abbrev pub block_pairs : Path → List ℕ → List Pair
+block_pairs path bytes = map (λ b. (key path b.0, b.1)) (enumerate_from 1 (runs file_block bytes))
+
+-- the pairs are the blocks of a file with so many bytes
+abbrev pub AreBlocks : Path → ℕ → List Pair → Type 0
+AreBlocks path len s = (bytes : List ℕ) × (length bytes ≡ len) × IsBytes bytes × (s ≡ block_pairs path bytes)
+
+-- what stands at a path, as the program says it
+abbrev pub kind_of : Node → Kind
+kind_of Directory = kinds.Directory
+kind_of (File bytes) = kinds.File (length bytes)
+
+-- the first value of what stands at a path
+abbrev pub value_of : Kind → List ℕ
+value_of kinds.Directory = directory_value
+value_of (kinds.File len) = file_value len
+
+-- the length of a file is in its range
+abbrev pub IsKind : Kind → Type 0
+IsKind kinds.Directory = Unit {0}
+IsKind (kinds.File len) = len ≤ file_limit
+
+-- the key and the value are those of the first pair of a path
+pub record IsFirst (path : Path) (kind : Kind) (key_bytes value : List ℕ) : Type 0 where
+  pub path_is : IsTrue (is_path path)
+  pub below_root : is_root path ≡ false
+  pub kind_is : IsKind kind
+  pub key_is : key_bytes ≡ key path 0
+  pub value_is : value ≡ value_of kind
+
+-- so many pairs stand at a path with their first, and those behind it are these
+abbrev pub HasPairs : Path → Kind → ℕ → List Pair → Type 0
+HasPairs path kinds.Directory count behind = (count ≡ 1) × (behind ≡ [])
+HasPairs path (kinds.File len) count behind = (count ≡ 1 + run_count file_block len) × AreBlocks path len behind
+
+-- so many pairs from the front on are those of what stands at the path
+pub record StandsFirst (s : List Pair) (path : Path) (kind : Kind) (count : ℕ) : Type 0 where
+  pub node : Node
+  pub node_is : IsNode node
+  pub kind_is : kind ≡ kind_of node
+  pub path_is : IsTrue (is_path path)
+  pub below_root : is_root path ≡ false
+  pub some : 1 ≤ count
+  pub within : count ≤ length s
+  pub pairs_are : (p : Parameters) → take count s ≡ node_pairs path node p
+
+-- the counts with what stands at one path more
+abbrev pub CountsMore : Counts → Kind → Counts → Type 0
+CountsMore old kinds.Directory new = (new.dirs ≡ old.dirs + 1) × (new.files ≡ old.files) × (new.bytes ≡ old.bytes)
+CountsMore old (kinds.File len) new = (new.dirs ≡ old.dirs) × (new.files ≡ old.files + 1) × (new.bytes ≡ old.bytes + len)

@@ -1,0 +1,65 @@
+-- What the checks of images ensure.
+use Rattle.std.specs.Prelude.{◌≡◌, ◌≤◌, Option, Some, None, Result, IfOk}
+use Rattle.store_model.specs.Parameters.{Parameters}
+use Rattle.store_model.specs.Trees.{Tree}
+use Rattle.store_model.specs.Images.{Represents}
+use Rattle.store_base.specs.declared.store_fault.Fault.{Fault}
+use Rattle.store_base.specs.Faults.{disk_faults_after}
+use Rattle.disk_model.specs.DiskState.{DiskState, IsObservable}
+use Rattle.gate_journal.specs.Places.{ReadsOnly}
+use Rattle.image_check.specs.declared.contents.Contents.{Contents}
+use Rattle.image_check.specs.declared.contents.Finding.{Finding}
+use Rattle.image_check.specs.declared.contents.Finding.TheVariants as findings
+use Rattle.image_check.specs.declared.verdict.Verdict.{Verdict}
+use Rattle.image_check.specs.declared.verdict.Verdict.TheVariants as verdicts
+use Rattle.image_check.specs.Contents.{AreContents}
+use Rattle.image_check.specs.SlotCalls.{IsVerdictOn}
+use Rattle.image_check.specs.Verdicts.{clean_of, IsVerdict, IsNoImage, IsDamaged, HasParameters}
+
+-- Reads of a disk, of which the first that fails is the last: nothing is written or synced, and nothing is pending but what
+-- was. The count of faults is one more after a fault of the disk, and else the same; no count falls.
+pub record ReadsDisk {T : Type 0} (old new : DiskState) (result : Result T Fault) : Type 0 where
+  pub size : new.size ≡ old.size
+  pub observable : new.is_observable ≡ old.is_observable
+  pub faults : new.faults ≡ disk_faults_after old.faults result
+  pub rise : old.faults ≤ new.faults
+  pub writes : old.writes ≤ new.writes
+  pub syncs : old.syncs ≤ new.syncs
+  pub reads : IsObservable old → ReadsOnly old new
+
+-- a disk of an image's length, with what it holds; an observable one represents the tree
+pub record HasImage (disk : DiskState) (contents : Contents) : Type 0 where
+  pub tree : Tree
+  pub contents_are : AreContents tree contents.params contents
+  pub has_parameters : HasParameters disk contents.params
+  pub represents : IsObservable disk → Represents disk.bytes tree contents.params
+
+-- what is found on a disk
+abbrev pub IsFinding : DiskState → Finding → Type 0
+IsFinding disk (findings.Image contents) = HasImage disk contents
+IsFinding disk findings.NotImage = IsNoImage disk
+IsFinding disk findings.Damaged = IsDamaged disk
+
+-- what is found on a disk of an image's length whose slots hold this
+abbrev pub finding_in : Option Contents → Finding
+finding_in (Some contents) = findings.Image contents
+finding_in None = findings.Damaged
+
+-- the verdict on what is found
+abbrev pub IsVerdictOf : Finding → Verdict → Type 0
+IsVerdictOf (findings.Image contents) verdict = IsVerdictOn contents verdict
+IsVerdictOf findings.NotImage verdict = verdict ≡ verdicts.NotImage
+IsVerdictOf findings.Damaged verdict = verdict ≡ verdicts.Damaged
+
+-- a search for what an image holds
+pub record FindsImage (old new : DiskState) (result : Result Finding Fault) : Type 0 where
+  pub reads : ReadsDisk old new result
+  pub found : IfOk result (IsFinding old)
+
+-- a check of an image
+pub record ChecksImage (old new : DiskState) (result : Result Verdict Fault) : Type 0 where
+  pub reads : ReadsDisk old new result
+  -- the verdict is that on the disk
+  pub verdict : IfOk result (IsVerdict old)
+  -- and where an observable disk represents a tree it is that on the tree
+  pub clean : IsObservable old → (t : Tree) (p : Parameters) → Represents old.bytes t p → IfOk result (λ verdict. verdict ≡ clean_of t p)

@@ -1,0 +1,48 @@
+-- What the checks of slots ensure.
+use Rattle.std.specs.Prelude.{◌≡◌, ℕ, List, Option, Some, None, Result, IfOk, IfSome, length}
+use Rattle.store_model.specs.Parameters.{Parameters}
+use Rattle.store_model.specs.Trees.{Tree}
+use Rattle.store_model.specs.Placement.{pages_in}
+use Rattle.store_model.specs.Images.{slots_of}
+use Rattle.store_base.specs.declared.store_fault.Fault.{Fault}
+use Rattle.store_base.specs.Faults.{disk_faults_after}
+use Rattle.store_base.specs.SlotsState.{SlotsState, IsObservable}
+use Rattle.image_check.specs.declared.contents.Contents.{Contents}
+use Rattle.image_check.specs.declared.verdict.Verdict.{Verdict}
+use Rattle.image_check.specs.declared.verdict.Verdict.TheVariants as verdicts
+use Rattle.image_check.specs.Contents.{HaveLayout, AreContents}
+use Rattle.image_check.specs.Verdicts.{clean_of, IsSlotsVerdict}
+
+-- Reads of slots, of which the first that fails is the last: they leave the slots as they were. The count of faults is one
+-- more after a fault of the disk, and else the same.
+pub record ReadsSlots {T : Type 0} (old new : SlotsState) (result : Result T Fault) : Type 0 where
+  pub count : new.count ≡ old.count
+  pub observable : new.is_observable ≡ old.is_observable
+  pub takes_none : new.takes_none ≡ old.takes_none
+  pub faults : new.faults ≡ disk_faults_after old.faults result
+  pub slots : IsObservable old → new.slots ≡ old.slots
+
+-- what is found in slots: their layout where they hold a tree, and nothing exactly where they hold none
+abbrev pub IsFoundIn : List (List ℕ) → Parameters → Option Contents → Type 0
+IsFoundIn slots p (Some contents) = slots ≡ slots_of contents.layout
+IsFoundIn slots p None = (t : Tree) → HaveLayout slots t p → ⊥
+
+-- a search for the tree that slots hold; what it hands out is that of a tree, whether or not they tell their bytes
+pub record FindsContents (p : Parameters) (old new : SlotsState) (result : Result (Option Contents) Fault) : Type 0 where
+  pub reads : ReadsSlots old new result
+  pub contents : IfOk result (λ found. IfSome found (λ contents. (t : Tree) × AreContents t p contents))
+  pub found : IsObservable old → IfOk result (IsFoundIn old.slots p)
+
+-- the verdict on what a layout holds
+abbrev pub IsVerdictOn : Contents → Verdict → Type 0
+IsVerdictOn contents verdict = verdict ≡ verdicts.Clean (length (pages_in contents.layout)) contents.counts.dirs contents.counts.files contents.counts.bytes
+
+-- a check of slots
+pub record ChecksSlots (p : Parameters) (old new : SlotsState) (result : Result Verdict Fault) : Type 0 where
+  pub reads : ReadsSlots old new result
+  -- slots are never no image
+  pub never : IfOk result (λ verdict. verdict ≡ verdicts.NotImage → ⊥)
+  -- the verdict is that on the slots
+  pub verdict : IsObservable old → IfOk result (IsSlotsVerdict old.slots p)
+  -- and where they hold a tree it is that on the tree
+  pub clean : IsObservable old → (t : Tree) → HaveLayout old.slots t p → IfOk result (λ verdict. verdict ≡ clean_of t p)

@@ -1,0 +1,63 @@
+-- Verdicts on slots and on images.
+use Rattle.std.specs.Prelude.{◌≡◌, ℕ, List, length}
+use Rattle.store_model.specs.Parameters.{Parameters, IsParameters, image_len}
+use Rattle.store_model.specs.Trees.{Tree}
+use Rattle.store_model.specs.Pages.{page_count}
+use Rattle.store_model.specs.Images.{NamesParameters, Represents}
+use Rattle.disk_model.specs.DiskState.{DiskState, IsObservable}
+use Rattle.image_check.specs.declared.verdict.Verdict.{Verdict}
+use Rattle.image_check.specs.declared.verdict.Verdict.TheVariants as verdicts
+use Rattle.image_check.specs.Counts.{count_dirs, count_files, count_bytes}
+use Rattle.image_check.specs.Contents.{HaveLayout}
+
+-- the verdict on what holds the tree: its pages, directories without the root, files and bytes
+abbrev pub clean_of : Tree → Parameters → Verdict
+clean_of t p = verdicts.Clean (page_count t p) (count_dirs t) (count_files t) (count_bytes t)
+
+-- slots that hold a tree, with the verdict on it
+pub record AreCleanSlots (slots : List (List ℕ)) (p : Parameters) (verdict : Verdict) : Type 0 where
+  pub tree : Tree
+  pub layout : HaveLayout slots tree p
+  pub verdict_is : verdict ≡ clean_of tree p
+
+-- the verdict on slots: clean with the tree that they hold, and damaged where they hold none. It is never that they
+-- are no image
+abbrev pub IsSlotsVerdict : List (List ℕ) → Parameters → Verdict → Type 0
+IsSlotsVerdict slots p (verdicts.Clean pages dirs files bytes) = AreCleanSlots slots p (verdicts.Clean pages dirs files bytes)
+IsSlotsVerdict slots p verdicts.NotImage = ⊥
+IsSlotsVerdict slots p verdicts.Damaged = (t : Tree) → HaveLayout slots t p → ⊥
+
+-- the image's header names these parameters, and the image has their length
+pub record IsImageWith (image : List ℕ) (p : Parameters) : Type 0 where
+  pub names : NamesParameters image p
+  pub length_is : length image ≡ image_len p.slots
+
+-- the disk has the length of an image with these parameters, and an observable one is such an image
+pub record HasParameters (disk : DiskState) (p : Parameters) : Type 0 where
+  pub in_range : IsParameters p
+  pub size_is : disk.size ≡ image_len p.slots
+  pub named : IsObservable disk → IsImageWith disk.bytes p
+
+-- an observable disk is no image
+abbrev pub IsNoImage : DiskState → Type 0
+IsNoImage disk = IsObservable disk → (p : Parameters) → IsImageWith disk.bytes p → ⊥
+
+-- a disk of an image's length; an observable one is an image, but represents no tree
+pub record IsDamaged (disk : DiskState) : Type 0 where
+  pub params : Parameters
+  pub has_parameters : HasParameters disk params
+  pub no_tree : IsObservable disk → (t : Tree) (p : Parameters) → Represents disk.bytes t p → ⊥
+
+-- a disk of an image's length; an observable one represents a tree, and the verdict is that on it
+pub record IsClean (disk : DiskState) (verdict : Verdict) : Type 0 where
+  pub params : Parameters
+  pub tree : Tree
+  pub has_parameters : HasParameters disk params
+  pub represents : IsObservable disk → Represents disk.bytes tree params
+  pub verdict_is : verdict ≡ clean_of tree params
+
+-- the verdict on a disk
+abbrev pub IsVerdict : DiskState → Verdict → Type 0
+IsVerdict disk (verdicts.Clean pages dirs files bytes) = IsClean disk (verdicts.Clean pages dirs files bytes)
+IsVerdict disk verdicts.NotImage = IsNoImage disk
+IsVerdict disk verdicts.Damaged = IsDamaged disk

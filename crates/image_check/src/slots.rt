@@ -1,0 +1,106 @@
+//! The check of slots.
+
+ghost use Rattle.std.specs.Prelude.{◌≡◌, ◌≤◌, IfOk, IfSome, MatchOption, length};
+ghost use Rattle.std.specs.List.Sorted.{IsPermutation};
+ghost use Rattle.store_model.specs.Parameters.{Parameters};
+ghost use Rattle.store_model.specs.Trees.{Tree, IsTree};
+ghost use Rattle.store_model.specs.Pairs as model;
+ghost use Rattle.image_check.specs.Collected.{most_pairs};
+ghost use Rattle.image_check.specs.Contents.{AreCounts};
+ghost use Rattle.image_check.specs.SlotCalls.{FindsContents, ChecksSlots, IsVerdictOn};
+
+use crate::collect::read_pairs;
+use crate::compare::are_layout;
+use crate::contents::{Contents, Counts};
+use crate::order::{do_rise, list_of, sort_pairs};
+use crate::tree::count_tree;
+use crate::verdict::Verdict;
+use layout_scratch::{ScratchFault, build};
+use node_pages::PairList;
+use std::alloc::Global;
+use store_base::{Fault, Key, NoMemory, Params, ReadSlots, Value};
+
+/// Pairs in the order of their keys, with what their tree holds; `None` exactly where they are no tree's.
+fn tree_pairs(
+    alloc: Global,
+    mut pairs: Vec<(Key, Value)>,
+) -> Result<Option<(PairList, Counts)>, NoMemory>
+    requires { length pairs.items ≤ most_pairs }
+    ensures tree { (p : Parameters) → IfOk result (λ found. IfSome found (λ (s, counts). (t : Tree) × IsTree t × (s ≡ model.pairs t p) × AreCounts t counts)) }
+    ensures few { IfOk result (λ found. IfSome found (λ (s, counts). length s ≤ most_pairs)) }
+    ensures only { (p : Parameters) (t : Tree) → IsTree t → IsPermutation pairs.items (model.pairs t p) → IfOk result (λ found. MatchOption found ⊥ (λ (s, counts). s ≡ model.pairs t p)) }
+{
+    sort_pairs(&mut pairs)?;
+    if !do_rise(&pairs) {
+        return Ok(None);
+    }
+    let Some(counts) = count_tree(&pairs) else {
+        return Ok(None);
+    };
+    Ok(Some((list_of(alloc, pairs)?, counts)))
+}
+
+/// What slots hold: `None` exactly where they are the layout of no tree. There have to be as many slots as the
+/// parameters say. A fault of the slots is handed on, and the slots are as they were; `NoMemory` comes for want of
+/// memory too.
+pub fn find_contents<S: ReadSlots>(
+    alloc: Global,
+    slots: &mut S,
+    params: &Params,
+) -> Result<Option<Contents>, Fault>
+    requires { (S.state slots.old).count ≡ params.now.slots }
+    ensures call { FindsContents params.now (S.state slots.old) (S.state slots.new) result }
+    ensures follows { S.follows slots.old slots.new }
+{
+    let Some(pairs) = read_pairs(alloc, slots, params)? else {
+        return Ok(None);
+    };
+    let Some((pairs, counts)) = tree_pairs(alloc, pairs)? else {
+        return Ok(None);
+    };
+    let layout = match build(alloc, params, &pairs) {
+        Ok(layout) => layout,
+        // Pages that are more than the slots are the layout of no tree.
+        Err(ScratchFault::Full { .. }) => return Ok(None),
+        Err(ScratchFault::NoMemory) => return Err(Fault::NoMemory),
+    };
+    if !are_layout(slots, params, &layout)? {
+        return Ok(None);
+    }
+    Ok(Some(Contents {
+        params: *params,
+        pairs,
+        layout,
+        counts,
+    }))
+}
+
+/// The verdict on what a tree's layout holds.
+pub fn clean(contents: &Contents) -> Verdict
+    ensures { IsVerdictOn contents.now result }
+{
+    Verdict::Clean {
+        pages: contents.layout.used(),
+        dirs: contents.counts.dirs,
+        files: contents.counts.files,
+        bytes: contents.counts.bytes,
+    }
+}
+
+/// Checks slots: `Clean` exactly where they are the layout of a tree, and else `Damaged`; it never answers `NotImage`.
+/// There have to be as many slots as the parameters say. A fault of the slots is handed on, and the slots are as they
+/// were; `NoMemory` comes for want of memory too.
+pub fn check_slots<S: ReadSlots>(
+    alloc: Global,
+    slots: &mut S,
+    params: &Params,
+) -> Result<Verdict, Fault>
+    requires { (S.state slots.old).count ≡ params.now.slots }
+    ensures call { ChecksSlots params.now (S.state slots.old) (S.state slots.new) result }
+    ensures follows { S.follows slots.old slots.new }
+{
+    Ok(match find_contents(alloc, slots, params)? {
+        Some(contents) => clean(&contents),
+        None => Verdict::Damaged,
+    })
+}
