@@ -1,0 +1,6 @@
+pub mod Blocks
+pub mod Checks
+pub mod Counting
+pub mod Free
+pub mod Phases
+pub mod Stages

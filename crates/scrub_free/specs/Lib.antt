@@ -1,0 +1,4 @@
+pub mod FreeSlots
+pub mod ScrubCalls
+pub mod ScrubbedSlots
+pub mod Scrubbing

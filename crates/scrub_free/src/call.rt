@@ -1,0 +1,61 @@
+//! The call that scrubs an image.
+
+ghost use Rattle.std.specs.Prelude.{◌≡◌, Ok, Err, MatchResult};
+ghost use Rattle.store_model.specs.Parameters.{image_len};
+ghost use Rattle.scrub_free.specs.ScrubCalls.{ChecksScrubbed, Scrubs};
+
+use crate::image::scrub_image;
+use crate::view::ScrubbedView;
+use disk_model::Disk;
+use gate_journal::View;
+use image_check::{Verdict, check_slots, read_params};
+use std::alloc::Global;
+use store_base::{DiskFault, Fault, Params};
+
+/// The verdict on the slots that scrubbing would leave. The disk is only read, and handed back.
+fn check_scrubbed<D: Disk>(alloc: Global, disk: D, params: &Params) -> (D, Result<Verdict, Fault>)
+    requires { (D.state disk).size ≡ image_len params.now.slots }
+    ensures { ChecksScrubbed params.now (D.state disk) (D.state result.0) result.1 }
+{
+    let mut slots = ScrubbedView::new(View::new(disk, params));
+    let checked = check_slots(alloc, &mut slots, params);
+    (slots.into_slots().into_disk(), checked)
+}
+
+/// The verdict, unless the scrub failed.
+fn answer_of(scrubbed: Result<(), DiskFault>, verdict: Verdict) -> Result<Verdict, Fault>
+    ensures { MatchResult scrubbed (λ _. result ≡ Ok verdict) (λ _. result ≡ Err Fault.Disk) }
+{
+    scrubbed?;
+    Ok(verdict)
+}
+
+/// Makes an image what scrubbing leaves of it, where that is the layout of a tree: recovers its journal, and makes bytes
+/// 1 to 4,095 zero in each slot of the table whose byte 0 is 0 and in which they are not. The disk is handed back.
+///
+/// `NotImage` is the answer to a disk that does not start with the header of some image of its length, and to no other;
+/// `Damaged` that to any other disk of which scrubbing would leave the layout of no tree. Then nothing was written. `Clean`
+/// comes with what that tree holds, and then the disk is durable and reads its layout; no slot is written that is clean.
+///
+/// `Fault::Disk` comes only where the disk failed; `Fault::NoMemory` comes before the first write. Each image that a crash
+/// at any moment of the call may leave is one that a crash before it might have left, or scrubs to the same, and so does
+/// what the disk reads after a fault: scrub it again.
+pub fn scrub<D: Disk>(alloc: Global, mut disk: D) -> (D, Result<Verdict, Fault>)
+    ensures { Scrubs (D.state disk) (D.state result.0) result.1 }
+{
+    let params = match read_params(&mut disk) {
+        Ok(Some(params)) => params,
+        Ok(None) => return (disk, Ok(Verdict::NotImage)),
+        Err(fault) => return (disk, Err(fault.into())),
+    };
+    let (mut disk, checked) = check_scrubbed(alloc, disk, &params);
+    let verdict = match checked {
+        Ok(verdict) => verdict,
+        Err(fault) => return (disk, Err(fault)),
+    };
+    let Verdict::Clean { .. } = verdict else {
+        return (disk, Ok(verdict));
+    };
+    let scrubbed = scrub_image(&mut disk, &params);
+    (disk, answer_of(scrubbed, verdict))
+}
