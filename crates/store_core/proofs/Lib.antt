@@ -1,0 +1,10 @@
+pub mod ChangeLemmas
+pub mod CommitLemmas
+pub mod CostLemmas
+pub mod DifferLemmas
+pub mod DiskLemmas
+pub mod Laying
+pub mod OpeningLemmas
+pub mod StepLemmas
+pub mod TakingSteps
+pub mod Unchanged

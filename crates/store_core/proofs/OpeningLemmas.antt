@@ -1,0 +1,270 @@
+-- How a store is opened: a sync, the check of the image, and its recovery.
+use Rattle.std.proofs.Common.{◌≡◌, ◌⊎◌, ◌+◌, ℕ, List, Result, Ok, Err, OnOk, false, refl, sym, ap, subst, ◌∙◌, inl, inr, ⊎_elim, arith}
+use Rattle.store_base.specs.declared.fault.DiskFault.{DiskFault}
+use Rattle.store_base.specs.declared.store_fault.Fault.{Fault}
+use Rattle.store_base.specs.declared.store_fault.Fault.TheVariants as causes
+use Rattle.store_base.specs.Counts.{raised, faults_after}
+use Rattle.store_model.specs.Parameters.{Parameters}
+use Rattle.store_model.specs.Pairs.{Pair}
+use Rattle.store_model.specs.Trees.{Tree}
+use Rattle.store_model.specs.Images.{Represents, recovered}
+use Rattle.store_model.proofs.TreesLemmasLayouts.{images_tell}
+use Rattle.disk_model.specs.DiskState.{DiskState, IsObservable, IsDurable, IsSound}
+use Rattle.disk_model.specs.DiskCalls.{LeavesOnly, IsSync}
+use Rattle.disk_model.proofs.Crashes.{LeavesOnly-sync, LeavesOnly-trans, LeavesOnly-weaken, MayLeaveOnly-end}
+use Rattle.gate_journal.specs.Disks.{KeepsDisk}
+use Rattle.gate_journal.specs.Costs.{opening_writes, opening_syncs, CountsOpening}
+use Rattle.gate_journal.specs.Phases.{HasEmptyJournal}
+use Rattle.gate_journal.specs.Places.{AreCalls, Made, Makes, ReadsOnly}
+use Rattle.gate_journal.specs.Recovery.{Recovers, RecoversAs, redo_writes, redo_syncs, erase_writes}
+use Rattle.gate_journal.proofs.Layouts.{recovers-represents}
+use Rattle.gate_journal.proofs.Phases.{recovered_empty}
+use Rattle.gate_journal.proofs.Reading.{IsDurable-reads}
+use Rattle.image_check.specs.declared.contents.Contents.{Contents}
+use Rattle.image_check.specs.declared.contents.Finding.{Finding}
+use Rattle.image_check.specs.declared.contents.Finding.TheVariants as findings
+use Rattle.image_check.specs.Contents.{AreContents}
+use Rattle.image_check.specs.ImageCalls.{ReadsDisk, HasImage, FindsImage}
+use Rattle.image_check.specs.Verdicts.{IsImageWith, HasParameters, IsNoImage, IsDamaged}
+use Rattle.store_core.specs.declared.fault.AttachFault.TheVariants as attach
+use Rattle.store_core.specs.LaidTree.{LaidState, IsLaid}
+use Rattle.store_core.specs.Opening.{contents_in, IsSynced, ChecksSynced}
+use Rattle.store_core.specs.Standing.{IsFitting, Stands}
+use Rattle.store_core.specs.StoreCalls.{IsOpened, IsAttached, KeepsImage, IsRefused}
+use Rattle.store_core.proofs.CostLemmas.{counts_opening}
+use Rattle.store_core.proofs.DiskLemmas.{keeps_then, keeps_calls}
+
+-- ---- a sync, and reads
+
+synced_alone : {T E : Type 0} (old new : DiskState) (result : Result T E) → IsObservable old → IsSync old new result → IsSynced old new
+synced_alone old new result observable sync =
+    let effect = sync.observed observable in
+    record {
+      leaves = LeavesOnly-sync old new result old.crash_images observable sync (λ image left. left);
+      bytes = effect.bytes;
+      writes = effect.write_count;
+      syncs = effect.sync_count;
+    }
+
+synced_reads : (old mid new : DiskState) → IsSound mid → IsSynced old mid → ReadsOnly mid new → IsSynced old new
+synced_reads old mid new sound synced reads = record {
+  leaves =
+      LeavesOnly-trans old mid new old.crash_images synced.leaves
+      (LeavesOnly-weaken mid new mid.crash_images old.crash_images (MayLeaveOnly-end old mid old.crash_images sound synced.leaves) reads.leaves);
+  bytes = reads.bytes ∙ synced.bytes;
+  writes = reads.write_count ∙ synced.writes;
+  syncs = reads.sync_count ∙ synced.syncs;
+}
+
+-- ---- what is found of a disk holds of one that reads the same
+
+module _ (old new : DiskState) (size : new.size ≡ old.size) (observable : new.is_observable ≡ old.is_observable) (bytes : IsObservable old → new.bytes ≡ old.bytes) where
+  parameters_before : (p : Parameters) → HasParameters new p → HasParameters old p
+  parameters_before p has = record {
+    in_range = has.in_range;
+    size_is = sym size ∙ has.size_is;
+    named = λ here. subst (λ (image : List ℕ). IsImageWith image p) (bytes here) (has.named (observable ∙ here));
+  }
+
+  image_before : (contents : Contents) → HasImage new contents → HasImage old contents
+  image_before contents has = record {
+    tree = has.tree;
+    contents_are = has.contents_are;
+    has_parameters = parameters_before contents.params has.has_parameters;
+    represents = λ here. subst (λ (image : List ℕ). Represents image has.tree contents.params) (bytes here) (has.represents (observable ∙ here));
+  }
+
+  no_image_before : IsNoImage new → IsNoImage old
+  no_image_before none here p is = none (observable ∙ here) p (subst (λ (image : List ℕ). IsImageWith image p) (sym (bytes here)) is)
+
+  damaged_before : IsDamaged new → IsDamaged old
+  damaged_before damaged = record {
+    params = damaged.params;
+    has_parameters = parameters_before damaged.params damaged.has_parameters;
+    no_tree = λ here t p is. damaged.no_tree (observable ∙ here) t p (subst (λ (image : List ℕ). Represents image t p) (sym (bytes here)) is);
+  }
+
+-- ---- the check
+
+module _ {T E : Type 0} (old mid new : DiskState) (value : T) (sound : IsObservable mid → IsSound mid) (sync : IsSync {E = E} old mid (Ok value)) where
+  module _ (found : Result Finding Fault) (reads : ReadsDisk mid new found) where
+    keeps : KeepsDisk old new
+    keeps = record {
+      size = reads.size ∙ sync.call.size;
+      observable = reads.observable ∙ sync.call.observable;
+      faults = omega (arith, sync.call.rise, reads.rise);
+      writes = omega (arith, sync.call.writes, reads.writes);
+      syncs = omega (arith, sync.call.syncs, reads.syncs);
+    }
+
+    synced : IsObservable old → IsSynced old new
+    synced observable =
+        let observable_mid : IsObservable mid = sync.call.observable ∙ observable in
+        synced_reads old mid new (sound observable_mid) (synced_alone old mid (Ok value) observable sync) (reads.reads observable_mid)
+
+    durable : IsObservable old → IsDurable new
+    durable observable = IsDurable-reads mid new ((sync.observed observable).durable) (reads.reads (sync.call.observable ∙ observable))
+
+  same : IsObservable old → mid.bytes ≡ old.bytes
+  same observable = (sync.observed observable).bytes
+
+  -- its sync succeeded, and this was found
+  pub checked : (found : Result Finding Fault) → FindsImage mid new found → ChecksSynced old new (contents_in found)
+  checked (Ok (findings.Image contents)) finds = record {
+    kept = keeps (Ok (findings.Image contents)) finds.reads;
+    faults = finds.reads.faults ∙ sync.call.faults;
+    synced = synced (Ok (findings.Image contents)) finds.reads;
+    durable = durable (Ok (findings.Image contents)) finds.reads;
+    image = image_before old mid sync.call.size sync.call.observable same contents finds.found;
+    not_image = λ e. absurd (cc);
+    damaged = λ e. absurd (cc);
+  }
+  checked (Ok findings.NotImage) finds = record {
+    kept = keeps (Ok findings.NotImage) finds.reads;
+    faults = finds.reads.faults ∙ sync.call.faults;
+    synced = synced (Ok findings.NotImage) finds.reads;
+    durable = λ observable. tt;
+    image = tt;
+    not_image = λ e. no_image_before old mid sync.call.size sync.call.observable same finds.found;
+    damaged = λ e. absurd (cc);
+  }
+  checked (Ok findings.Damaged) finds = record {
+    kept = keeps (Ok findings.Damaged) finds.reads;
+    faults = finds.reads.faults ∙ sync.call.faults;
+    synced = synced (Ok findings.Damaged) finds.reads;
+    durable = λ observable. tt;
+    image = tt;
+    not_image = λ e. absurd (cc);
+    damaged = λ e. damaged_before old mid sync.call.size sync.call.observable same finds.found;
+  }
+  checked (Err causes.Disk) finds = record {
+    kept = keeps (Err causes.Disk) finds.reads;
+    faults = finds.reads.faults ∙ ap raised sync.call.faults;
+    synced = synced (Err causes.Disk) finds.reads;
+    durable = λ observable. tt;
+    image = tt;
+    not_image = λ e. absurd (cc);
+    damaged = λ e. absurd (cc);
+  }
+  checked (Err causes.NoMemory) finds = record {
+    kept = keeps (Err causes.NoMemory) finds.reads;
+    faults = finds.reads.faults ∙ sync.call.faults;
+    synced = synced (Err causes.NoMemory) finds.reads;
+    durable = λ observable. tt;
+    image = tt;
+    not_image = λ e. absurd (cc);
+    damaged = λ e. absurd (cc);
+  }
+
+-- ---- recovery
+
+module _ (old mid new : DiskState) (contents : Contents) (checks : ChecksSynced old mid (Ok contents)) (result : Result (Unit {0}) DiskFault) (calls : AreCalls mid new result)
+    (recovers : IsObservable mid → Recovers contents.params.slots mid new result)
+    (quiet : IsObservable mid → HasEmptyJournal contents.params.slots mid.bytes → new.writes ≡ mid.writes)
+    (quiet_syncs : IsObservable mid → HasEmptyJournal contents.params.slots mid.bytes → new.syncs ≡ raised mid.syncs)
+    (makes : IsObservable mid → (HasEmptyJournal contents.params.slots mid.bytes → ⊥) → Makes (redo_writes contents.params.slots mid.bytes + erase_writes contents.params.slots mid.bytes) (redo_syncs mid.bytes + 2) mid new result) where
+  pub kept_by_both : KeepsDisk old new
+  kept_by_both = keeps_then old mid new checks.kept (keeps_calls mid new result calls)
+
+  -- what the disk reads before recovery represents the tree, and so does what it reads behind it
+  before : IsObservable old → Represents mid.bytes checks.image.tree contents.params
+  before observable =
+      subst (λ (image : List ℕ). Represents image checks.image.tree contents.params) (sym (checks.synced observable).bytes) (checks.image.represents observable)
+
+  after : IsObservable old → Represents new.bytes checks.image.tree contents.params
+  after observable =
+      recovers-represents mid.bytes new.bytes checks.image.tree contents.params (before observable) (recovers (checks.kept.observable ∙ observable)).reads
+
+  leaves : IsObservable old → LeavesOnly old new (λ image. old.crash_images image ⊎ Represents image checks.image.tree contents.params)
+  leaves observable =
+      let observable_mid : IsObservable mid = checks.kept.observable ∙ observable in
+      let durable : IsDurable mid = checks.durable observable in
+      let P : List ℕ → Type 0 = λ image. old.crash_images image ⊎ Represents image checks.image.tree contents.params in
+      LeavesOnly-trans old mid new P
+      (LeavesOnly-weaken old mid old.crash_images P (λ image left. inl left) (checks.synced observable).leaves)
+      (LeavesOnly-weaken mid new (λ image. mid.crash_images image ⊎ RecoversAs contents.params.slots mid.bytes image) P
+      (λ image either. ⊎_elim
+      (λ left. inr (subst (λ (x : List ℕ). Represents x checks.image.tree contents.params) (sym (durable image left)) (before observable)))
+      (λ alike. inr (recovers-represents mid.bytes image checks.image.tree contents.params (before observable) alike)) either)
+      (recovers observable_mid).crash)
+
+  counts : IsObservable old → CountsOpening contents.params.slots old new result
+  counts observable =
+      let observable_mid : IsObservable mid = checks.kept.observable ∙ observable in
+      let synced = checks.synced observable in
+      let first : Made 0 1 old mid = record { write_count = omega (arith, synced.writes); sync_count = omega (arith, synced.syncs) } in
+      counts_opening contents.params.slots old mid new result first synced.bytes (quiet observable_mid) (quiet_syncs observable_mid) (makes observable_mid)
+
+  -- it failed: no other tree is represented, under no other parameters
+  pub refused_recovery : (fault : DiskFault) → result ≡ Err fault → IsRefused old attach.Disk new
+  refused_recovery fault is = record {
+    kept = kept_by_both;
+    faults = subst (λ (r : Result (Unit {0}) DiskFault). new.faults ≡ faults_after mid.faults r) is calls.faults ∙ ap raised checks.faults;
+    not_image = λ e. absurd (cc);
+    damaged = λ e. absurd (cc);
+    unwritten = λ observable other. absurd (other refl);
+    looked = λ observable either. ⊎_elim (λ e. absurd (cc)) (λ e. absurd (cc)) either;
+    represented = λ observable t p represents.
+        let same = images_tell old.bytes checks.image.tree t contents.params p (checks.image.represents observable) represents in
+        subst (λ (q : Parameters). KeepsImage t q old attach.Disk new) same.1 (subst (λ (u : Tree). KeepsImage u contents.params old attach.Disk new) same.0 (record {
+          not_image = λ e. absurd (cc);
+          damaged = λ e. absurd (cc);
+          represents = after observable;
+          crash = leaves observable;
+          limit = (counts observable).limit;
+        }));
+    unrepresented = λ observable none. absurd (none checks.image.tree contents.params (checks.image.represents observable));
+  }
+
+  -- it succeeded
+  module _ (value : Unit {0}) (is : result ≡ Ok value) where
+    recovered_is : IsObservable old → new.bytes ≡ recovered contents.params.slots old.bytes
+    recovered_is observable =
+        subst (λ (r : Result (Unit {0}) DiskFault). OnOk r (new.bytes ≡ recovered contents.params.slots mid.bytes)) is (recovers (checks.kept.observable ∙ observable)).done
+        ∙ ap (recovered contents.params.slots) (checks.synced observable).bytes
+
+    pub stands : IsObservable old → Stands new checks.image.tree contents.params
+    stands observable = record {
+      layout_is = recovered_is observable ∙ (checks.image.represents observable).layout_is;
+      durable = subst (λ (r : Result (Unit {0}) DiskFault). OnOk r (IsDurable new)) is (recovers (checks.kept.observable ∙ observable)).durable;
+    }
+
+    pub opened : IsObservable old → IsOpened checks.image.tree contents.params old new
+    opened observable = record {
+      represents = checks.image.represents observable;
+      stands = stands observable;
+      crash = leaves observable;
+      counts = subst (λ (r : Result (Unit {0}) DiskFault). OnOk r (Made (opening_writes contents.params.slots old.bytes) (opening_syncs contents.params.slots old.bytes) old new)) is (counts observable).made;
+      unwritten = λ empty. record {
+        bytes = recovered_is observable ∙ recovered_empty contents.params.slots old.bytes (checks.image.represents observable).length_is empty;
+        writes =
+            quiet (checks.kept.observable ∙ observable) (subst (λ (image : List ℕ). HasEmptyJournal contents.params.slots image) (sym (checks.synced observable).bytes) empty)
+            ∙ (checks.synced observable).writes;
+      };
+    }
+
+    pub not_failed : new.faults ≡ old.faults
+    not_failed = subst (λ (r : Result (Unit {0}) DiskFault). new.faults ≡ faults_after mid.faults r) is calls.faults ∙ checks.faults
+
+-- ---- the store that is made of a disk
+
+-- its pairs and its layout are those of the tree
+pub laid : (t : Tree) (contents : Contents) (items : List Pair) → AreContents t contents.params contents → items ≡ contents.pairs → IsLaid contents.params items contents.layout t
+laid t contents items are same = record {
+  fitting = record { in_range = are.in_range; tree = are.tree; fits = are.fits };
+  pairs_are = same ∙ are.pairs_are;
+  table_is = are.table_is;
+}
+
+pub attached : {D : Type 0} (state : D → DiskState) (old : DiskState) (disk : D) (kept : LaidState) (t : Tree) (p : Parameters) → kept ≡ record { params = p; tree = t }
+    → KeepsDisk old (state disk) → (state disk).faults ≡ old.faults → HasParameters old p → IsFitting t p → (IsObservable old → IsOpened t p old (state disk))
+    → IsAttached state old (record { params = kept.params; tree = kept.tree; disk = disk; is_stopped = false })
+attached state old disk kept t p same keeps faults has fitting opened =
+    subst (λ (l : LaidState). IsAttached state old (record { params = l.params; tree = l.tree; disk = disk; is_stopped = false })) (sym same) (record {
+      kept = keeps;
+      faults = faults;
+      runs = refl;
+      has_parameters = has;
+      fitting = fitting;
+      observed = opened;
+    })

@@ -1,0 +1,11 @@
+pub mod Changes
+pub mod Commits
+pub mod Faults
+pub mod LaidTree
+pub mod Laying
+pub mod Opening
+pub mod Outcomes
+pub mod Standing
+pub mod Steps
+pub mod StoreCalls
+pub mod StoreState

@@ -1,0 +1,113 @@
+-- What the calls of a store do.
+use Rattle.std.specs.Prelude.{◌≡◌, ◌↔◌, ◌⊎◌, Bool, true, false, Result, Err, IfOk, IfErr, OnOk, OnErr, IsErrOf}
+use Rattle.store_model.specs.Parameters.{Parameters}
+use Rattle.store_model.specs.Trees.{Tree}
+use Rattle.store_model.specs.Images.{Represents}
+use Rattle.store_model.specs.Commands.{Command}
+use Rattle.store_model.specs.Steps.{step}
+use Rattle.disk_model.specs.DiskState.{DiskState, IsObservable}
+use Rattle.disk_model.specs.DiskCalls.{Rose, LeavesOnly}
+use Rattle.gate_journal.specs.Phases.{HasEmptyJournal}
+use Rattle.gate_journal.specs.Places.{Made, ReadsOnly}
+use Rattle.gate_journal.specs.Disks.{KeepsDisk, IsUnwritten, IsOnlySynced}
+use Rattle.gate_journal.specs.Costs.{opening_writes, opening_syncs, MadeAtMost, CountsCommit}
+use Rattle.image_check.specs.Verdicts.{HasParameters, IsNoImage, IsDamaged}
+use Rattle.script_lines.specs.declared.reply.Reply.{Reply}
+use Rattle.script_lines.specs.Replies.{reply_of}
+use Rattle.store_core.specs.declared.fault.AttachFault.{AttachFault}
+use Rattle.store_core.specs.declared.fault.AttachFault.TheVariants as attach
+use Rattle.store_core.specs.declared.fault.ApplyFault.{ApplyFault}
+use Rattle.store_core.specs.declared.fault.ApplyFault.TheVariants as apply
+use Rattle.store_core.specs.Changes.{slots_between}
+use Rattle.store_core.specs.Faults.{attach_faults_by, apply_faults_after}
+use Rattle.store_core.specs.Standing.{IsFitting, Stands}
+use Rattle.store_core.specs.StoreState.{StoreState}
+
+-- ---- attach
+
+-- The image represented the tree, and the disk stands at it.
+pub record IsOpened (t : Tree) (p : Parameters) (old new : DiskState) : Type 0 where
+  pub represents : Represents old.bytes t p
+  pub stands : Stands new t p
+  -- a crash leaves an image that one before the call might have left, or one that represents the tree
+  pub crash : LeavesOnly old new (λ image. old.crash_images image ⊎ Represents image t p)
+  -- just the writes and syncs were made that its journal takes, and with an empty journal no write
+  pub counts : Made (opening_writes p.slots old.bytes) (opening_syncs p.slots old.bytes) old new
+  pub unwritten : HasEmptyJournal p.slots old.bytes → IsUnwritten old new
+
+-- A store was had.
+pub record IsAttached {D : Type 0} (state : D → DiskState) (old : DiskState) (store : StoreState D) : Type 0 where
+  pub kept : KeepsDisk old (state store.disk)
+  pub faults : (state store.disk).faults ≡ old.faults
+  pub runs : store.is_stopped ≡ false
+  -- its parameters are the image's, and its tree is one that fits
+  pub has_parameters : HasParameters old store.params
+  pub fitting : IsFitting store.tree store.params
+  pub observed : IsObservable old → IsOpened store.tree store.params old (state store.disk)
+
+-- No store was had of an image that represents a tree: it does so still, and so does each image that a crash leaves which
+-- one before the call might not have left. No more writes and syncs were made than opening it takes.
+pub record KeepsImage (t : Tree) (p : Parameters) (old : DiskState) (fault : AttachFault) (new : DiskState) : Type 0 where
+  pub not_image : fault ≡ attach.NotImage → ⊥
+  pub damaged : fault ≡ attach.Damaged → ⊥
+  pub represents : Represents new.bytes t p
+  pub crash : LeavesOnly old new (λ image. old.crash_images image ⊎ Represents image t p)
+  pub limit : MadeAtMost (opening_writes p.slots old.bytes) (opening_syncs p.slots old.bytes) old new
+
+-- Nothing was written, and each image that a crash leaves is one that a crash before the call might have left.
+pub record LeavesImage (old new : DiskState) : Type 0 where
+  pub synced : IsOnlySynced old new
+  pub crash : LeavesOnly old new old.crash_images
+
+-- No store was had, for this fault.
+pub record IsRefused (old : DiskState) (fault : AttachFault) (new : DiskState) : Type 0 where
+  pub kept : KeepsDisk old new
+  pub faults : new.faults ≡ attach_faults_by fault old.faults
+  pub not_image : fault ≡ attach.NotImage → IsNoImage old
+  pub damaged : fault ≡ attach.Damaged → IsDamaged old
+  -- nothing was written, unless the disk failed
+  pub unwritten : IsObservable old → (fault ≡ attach.Disk → ⊥) → LeavesImage old new
+  -- and the image was looked at behind just one sync, where that told the reason
+  pub looked : IsObservable old → (fault ≡ attach.NotImage) ⊎ (fault ≡ attach.Damaged) → Made 0 1 old new
+  -- an image that represents a tree keeps it, and one that represents none is left as it was, whatever the fault
+  pub represented : IsObservable old → (t : Tree) (p : Parameters) → Represents old.bytes t p → KeepsImage t p old fault new
+  pub unrepresented : IsObservable old → ((t : Tree) (p : Parameters) → Represents old.bytes t p → ⊥) → LeavesImage old new
+
+-- A disk is taken as a store, or handed back with the reason why not.
+pub record Attaches {D : Type 0} (state : D → DiskState) (old : DiskState) (result : Result (StoreState D) (AttachFault × D)) : Type 0 where
+  pub attached : IfOk result (IsAttached state old)
+  pub refused : IfErr result (λ refused. IsRefused old refused.0 (state refused.1))
+
+-- ---- apply
+
+-- What carrying out a command does to an observable disk that stands at a tree, where the command leads to the next one.
+pub record ChangesImage {T : Type 0} (t next : Tree) (p : Parameters) (old new : DiskState) (is_stopped : Bool) (result : Result T ApplyFault) : Type 0 where
+  pub stands : OnOk result (Stands new next p)
+  -- a crash at any moment of the call leaves an image of the one tree or of the other, and the disk reads one
+  pub crash : LeavesOnly old new (λ image. Represents image t p ⊎ Represents image next p)
+  pub reads : Represents new.bytes t p ⊎ Represents new.bytes next p
+  -- where nothing changes and where memory ran out, the disk was read at most
+  pub still : next ≡ t → ReadsOnly old new
+  pub no_memory : IsErrOf result apply.NoMemory → ReadsOnly old new
+  -- the slots that differ are committed, and no others
+  pub counts : CountsCommit (slots_between p t next) old new result
+  -- the store is stopped only by a fault at a write or a sync, or behind one, and any other fault leaves the disk as it was
+  pub stops : is_stopped ≡ true → IsErrOf result apply.Disk × (Rose old.writes new.writes ⊎ Rose old.syncs new.syncs)
+  pub goes_on : is_stopped ≡ false → IsErrOf result apply.Disk → ReadsOnly old new
+
+-- A store carries out a command, as the definitions' step does.
+pub record Applies {D : Type 0} (state : D → DiskState) (command : Command) (old new : StoreState D) (result : Result Reply ApplyFault) : Type 0 where
+  pub params : new.params ≡ old.params
+  pub kept : KeepsDisk (state old.disk) (state new.disk)
+  pub faults : (state new.disk).faults ≡ apply_faults_after (state old.disk).faults result
+  -- a stopped store answers so and does nothing, and no other answers so
+  pub stopped : (result ≡ Err apply.Stopped) ↔ (old.is_stopped ≡ true)
+  pub still : old.is_stopped ≡ true → new ≡ old
+  -- over an observable disk the reply and the tree are the step's; a fault leaves the tree of any
+  pub reply : IsObservable (state old.disk) → IfOk result (λ reply. reply_of reply ≡ (step old.tree command old.params).reply)
+  pub tree : IsObservable (state old.disk) → OnOk result (new.tree ≡ (step old.tree command old.params).tree)
+  pub fault : OnErr result (new.tree ≡ old.tree)
+  -- only a fault of the disk stops it
+  pub runs : old.is_stopped ≡ false → (result ≡ Err apply.Disk → ⊥) → new.is_stopped ≡ false
+  pub observed : IsObservable (state old.disk) → old.is_stopped ≡ false
+      → ChangesImage old.tree (step old.tree command old.params).tree old.params (state old.disk) (state new.disk) new.is_stopped result
