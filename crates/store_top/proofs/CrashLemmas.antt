@@ -1,39 +1,17 @@
--- Lemmas on what a crash leaves while an image is opened, and while lines are answered.
-use Rattle.std.proofs.Common.{◌≡◌, ◌⊎◌, ℕ, ◌+◌, ◌≤◌, List, refl, sym, subst, ◌∙◌, inl, inr, ⊎_elim, arith}
+-- Lemmas on what a crash leaves while lines are answered, and while an image is opened.
+use Rattle.std.proofs.Common.{◌≡◌, ◌⊎◌, ℕ, ◌+◌, ◌≤◌, List, refl, sym, subst, inl, inr, ⊎_elim, arith}
+use Rattle.std.proofs.lemmas.Bool.{false≢true}
 use Rattle.store_model.specs.Parameters.{Parameters}
 use Rattle.store_model.specs.Trees.{Tree}
 use Rattle.store_model.specs.Images.{Represents}
-use Rattle.disk_model.specs.DiskState.{DiskState, IsSound, IsDurable, MayLeaveOnly}
+use Rattle.disk_model.specs.DiskState.{DiskState, IsSound, MayLeaveOnly}
 use Rattle.disk_model.specs.DiskCalls.{LeavesOnly}
 use Rattle.disk_model.proofs.Crashes.{LeavesOnly-refl, LeavesOnly-trans, LeavesOnly-weaken, MayLeaveOnly-end}
-use Rattle.gate_journal.specs.Places.{ReadsOnly}
-use Rattle.gate_journal.specs.Recovery.{RecoversAs}
-use Rattle.gate_journal.proofs.Layouts.{recovers-represents}
-use Rattle.store_base.specs.declared.store_fault.Fault.{Fault}
-use Rattle.store_base.specs.declared.store_fault.Fault.TheVariants as causes
+use Rattle.store_core.specs.Standing.{Stands}
 use Rattle.store_top.specs.declared.status.Status.{Status}
 use Rattle.store_top.specs.declared.status.Status.TheVariants as statuses
-use Rattle.store_top.specs.Directories.{IsServedImage, MayLeaveServed}
-use Rattle.store_top.specs.Disks.{Stands}
-use Rattle.store_top.specs.Promises.{IsBetweenLines, RepresentsOneOf, PromisesCrashes}
-use Rattle.store_top.specs.Steps.{fault_status}
-
--- an image that a crash at the start may leave, or one that represents the tree
-abbrev pub IsFirstOr : DiskState → Tree → Parameters → List ℕ → Type 0
-IsFirstOr disk t p image = disk.crash_images image ⊎ Represents image t p
-
--- a disk that is synced, read and then recovered
-pub opened : (old synced mid new : DiskState) (t : Tree) (p q : Parameters) → LeavesOnly old synced (IsFirstOr old t p) → IsDurable synced → synced.bytes ≡ old.bytes → ReadsOnly synced mid
-    → LeavesOnly mid new (λ image. mid.crash_images image ⊎ RecoversAs q.slots mid.bytes image) → Represents old.bytes t p → q ≡ p → LeavesOnly old new (IsFirstOr old t p)
-opened old synced mid new t p q first durable synced_is reads recovers represents same =
-    let at_sync : (image : List ℕ) → synced.crash_images image → IsFirstOr old t p image =
-    λ image left. inr (subst (λ (x : List ℕ). Represents x t p) (sym (durable image left ∙ synced_is)) represents) in
-    let mid_represents : Represents mid.bytes t p = subst (λ (x : List ℕ). Represents x t p) (sym (reads.bytes ∙ synced_is)) represents in
-    let at_recovery : (image : List ℕ) → mid.crash_images image ⊎ RecoversAs q.slots mid.bytes image → IsFirstOr old t p image =
-    λ image either. ⊎_elim (λ left. at_sync image ((reads.crash image).0 left)) (λ alike. inr (recovers-represents mid.bytes image t p mid_represents (subst (λ (r : Parameters). RecoversAs r.slots mid.bytes image) same alike))) either in
-    LeavesOnly-trans old mid new (IsFirstOr old t p)
-    (LeavesOnly-trans old synced mid (IsFirstOr old t p) first (LeavesOnly-weaken synced mid synced.crash_images (IsFirstOr old t p) at_sync reads.leaves))
-    (LeavesOnly-weaken mid new (λ image. mid.crash_images image ⊎ RecoversAs q.slots mid.bytes image) (IsFirstOr old t p) at_recovery recovers)
+use Rattle.store_top.specs.Promises.{RepresentsOneOf, PromisesCrashes}
+use Rattle.store_top.specs.Statuses.{IsBetweenLines}
 
 -- ---- while lines are answered
 
@@ -51,17 +29,15 @@ crash_more trees n p first now next t u before line here after =
     (λ image either. ⊎_elim (λ old. one_of trees n (n + 1) p image (omega arith) (subst (λ (v : Tree). Represents image v p) (sym here) old))
     (λ new. one_of trees (n + 1) (n + 1) p image (omega arith) (subst (λ (v : Tree). Represents image v p) (sym after) new)) either) line)
 
+-- a line that leaves the tree, and of which the disk is not asked
+pub crash_still : (trees : ℕ → Tree) (n : ℕ) (p : Parameters) (first now : DiskState) → LeavesOnly first now (RepresentsOneOf trees n p) → LeavesOnly first now (RepresentsOneOf trees (n + 1) p)
+crash_still trees n p first now before =
+    LeavesOnly-weaken first now (RepresentsOneOf trees n p) (RepresentsOneOf trees (n + 1) p) (λ image one. let low : one.0 ≤ n = one.1 in one_of trees one.0 (n + 1) p image (omega arith) one.2) before
+
 -- before the first line
 pub crash_start : (trees : ℕ → Tree) (p : Parameters) (disk : DiskState) (t : Tree) → IsSound disk → MayLeaveOnly disk (λ image. Represents image t p) → trees 0 ≡ t → LeavesOnly disk disk (RepresentsOneOf trees 0 p)
 crash_start trees p disk t sound may here =
     LeavesOnly-refl disk (RepresentsOneOf trees 0 p) sound (λ image left. one_of trees 0 0 p image (omega arith) (subst (λ (v : Tree). Represents image v p) (sym here) (may image left)))
-
--- what stands at a tree still does after reads
-pub stands_reading : (old new : DiskState) (t : Tree) (p : Parameters) → ReadsOnly old new → Stands old t p → Stands new t p
-stands_reading old new t p reads stands = record {
-  layout_is = reads.bytes ∙ stands.layout_is;
-  durable = λ image left. stands.durable image ((reads.crash image).0 left) ∙ sym reads.bytes;
-}
 
 -- the call ended between two lines or for want of memory
 pub crashes_between : (status : Status) (done : ℕ) (trees : ℕ → Tree) (old new : DiskState) (p : Parameters) → (status ≡ statuses.DiskFault → ⊥) → LeavesOnly old new (RepresentsOneOf trees done p) → Stands new (trees done) p
@@ -74,25 +50,24 @@ crashes_between status done trees old new p other leaves stands = record {
   no_memory = λ e. inl stands;
 }
 
--- a line in which a fault came
-pub crashes_fault : (cause : Fault) (done : ℕ) (trees : ℕ → Tree) (first now next : DiskState) (p : Parameters) (t u : Tree) → (cause ≡ causes.NoMemory → ReadsOnly now next) → IsSound now
-    → LeavesOnly first now (RepresentsOneOf trees done p) → Stands now (trees done) p → LeavesOnly now next (λ image. Represents image t p ⊎ Represents image u p) → IsSound next → trees done ≡ t → trees (done + 1) ≡ u
-    → PromisesCrashes (fault_status cause) done trees first next p
-crashes_fault causes.NoMemory done trees first now next p t u reads sound_now leaves stands line sound here after =
-    let may = MayLeaveOnly-end first now (RepresentsOneOf trees done p) sound_now leaves in
-    crashes_between statuses.NoMemory done trees first next p (λ e. cc)
-    (LeavesOnly-trans first now next (RepresentsOneOf trees done p) leaves (LeavesOnly-weaken now next now.crash_images (RepresentsOneOf trees done p) may (reads refl).leaves))
-    (stands_reading now next (trees done) p (reads refl) stands)
-crashes_fault causes.Disk done trees first now next p t u reads sound_now leaves stands line sound here after = record {
+-- the disk failed in a line
+pub crashes_fault : (done : ℕ) (trees : ℕ → Tree) (first now next : DiskState) (p : Parameters) (t u : Tree)
+    → LeavesOnly first now (RepresentsOneOf trees done p) → LeavesOnly now next (λ image. Represents image t p ⊎ Represents image u p) → IsSound next → trees done ≡ t → trees (done + 1) ≡ u
+    → PromisesCrashes statuses.DiskFault done trees first next p
+crashes_fault done trees first now next p t u leaves line sound here after = record {
   during = λ h. absurd (h refl);
   during_fault = λ e. crash_more trees done p first now next t u leaves line here after;
-  between = λ h. absurd h;
+  between = λ h. absurd (false≢true h);
   fault = λ e. subst (λ (v : Tree). MayLeaveOnly next (λ image. Represents image v p ⊎ Represents image (trees (done + 1)) p)) (sym here)
       (subst (λ (v : Tree). MayLeaveOnly next (λ image. Represents image t p ⊎ Represents image v p)) (sym after) (MayLeaveOnly-end now next (λ image. Represents image t p ⊎ Represents image u p) sound line));
   no_memory = λ e. absurd (cc);
 }
 
 -- ---- behind the opening of an image
+
+-- an image that a crash at the start may leave, or one that represents the tree
+abbrev pub IsFirstOr : DiskState → Tree → Parameters → List ℕ → Type 0
+IsFirstOr disk t p image = disk.crash_images image ⊎ Represents image t p
 
 -- where each image that a crash at the start may leave represents the tree, so does each while the image is opened
 pub opened_represents : (old new : DiskState) (t : Tree) (p : Parameters) → MayLeaveOnly old (λ image. Represents image t p) → LeavesOnly old new (IsFirstOr old t p) → LeavesOnly old new (λ image. Represents image t p)
@@ -126,7 +101,3 @@ crashes_refused status trees old new p t other sound leaves here =
       fault = λ e image left. inl (at_start image (may image left));
       no_memory = λ e. inr (λ image left. at_start image (may image left));
     }
-
--- an image that the disk reads is one that a crash may leave
-pub reads_served : (disk : DiskState) (t : Tree) (p : Parameters) → IsSound disk → MayLeaveServed disk t p → IsServedImage disk.bytes t p
-reads_served disk t p sound may = record { directories = may.directories; represents = may.represents disk.bytes sound.read_image }

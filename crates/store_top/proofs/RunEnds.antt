@@ -1,161 +1,132 @@
--- Lemmas on runs that ended, before their first line or after it, and the images that they were given.
-use Rattle.std.proofs.Common.{◌≡◌, ℕ, ◌+◌, List, [], take, refl, sym, ap, ◌∙◌, subst, arith, ◌⊎◌, ⊎_elim, inl, inr}
+-- How a run ends: before its first line, or behind the lines of its script.
+use Rattle.std.proofs.Common.{◌≡◌, ◌⊎◌, ℕ, ◌+◌, ◌≤◌, not, true, false, List, [], length, take, refl, sym, ap, ◌∙◌, subst, arith, inl, inr, ⊎_elim, length-append}
+use Rattle.std.proofs.lemmas.Bool.{false≢true}
 use Rattle.std.proofs.lemmas.List.{append-nil}
 use Rattle.store_model.specs.Parameters.{Parameters}
 use Rattle.store_model.specs.Trees.{Tree}
 use Rattle.store_model.specs.Commands.{Reply}
-use Rattle.store_model.specs.Scripts.{replies_text, tree_by}
+use Rattle.store_model.specs.Scripts.{lines, replies_text, script_limit}
 use Rattle.store_model.specs.Images.{Represents}
+use Rattle.store_model.proofs.ListsLemmas.{first_true, second_true}
 use Rattle.store_model.proofs.TreesLemmasLayouts.{images_tell}
-use Rattle.disk_model.specs.DiskState.{DiskState}
+use Rattle.store_base.specs.Counts.{raised, Rose}
+use Rattle.disk_model.specs.DiskState.{DiskState, IsSound, MayLeaveOnly}
+use Rattle.disk_model.specs.DiskState as disks
+use Rattle.disk_model.proofs.Crashes.{LeavesOnly-refl}
+use Rattle.gate_journal.specs.Costs.{opening_writes, opening_syncs}
+use Rattle.image_check.specs.Verdicts.{IsNoImage, IsDamaged, HasParameters}
 use Rattle.script_lines.specs.SourceState.{SourceState}
+use Rattle.script_lines.specs.SourceState as sources
 use Rattle.script_lines.specs.SinkState.{SinkState}
+use Rattle.script_lines.specs.LineState.{LineState}
+use Rattle.store_core.specs.declared.fault.AttachFault.{AttachFault}
+use Rattle.store_core.specs.declared.fault.AttachFault.TheVariants as faults
+use Rattle.store_core.specs.Standing.{Stands}
+use Rattle.store_core.specs.StoreCalls.{IsAttached, IsRefused, KeepsImage, LeavesImage}
+use Rattle.store_core.specs.StoreState.{StoreState}
+use Rattle.store_core.proofs.CostLemmas.{made_none, at_most}
+use Rattle.store_core.proofs.Unchanged.{keeps_itself}
 use Rattle.store_top.specs.declared.status.Status.{Status}
 use Rattle.store_top.specs.declared.status.Status.TheVariants as statuses
-use Rattle.store_top.specs.declared.attach.AttachFault.{AttachFault}
-use Rattle.store_top.specs.declared.attach.AttachFault.TheVariants as faults
-use Rattle.store_top.specs.Directories.{IsImageWith, IsServedImage}
-use Rattle.store_top.specs.Disks.{IsOnlySynced, Stands}
-use Rattle.store_top.specs.Promises.{IsBetweenLines, PromisesImage}
-use Rattle.store_top.specs.Runs.{RepliesKept, KeepsLimit, run_trees}
-use Rattle.store_top.specs.Steps.{attach_status}
-use Rattle.store_top.proofs.DiskLemmas.{no_sync}
+use Rattle.store_top.specs.Endings.{attach_status}
+use Rattle.store_top.specs.Outside.{Outside, outside_of, KeepsOutside}
+use Rattle.store_top.specs.Promises.{PromisesImage, PromisesCrashes}
+use Rattle.store_top.specs.RunCall.{RunsFrom, IsRun}
+use Rattle.store_top.specs.Runs.{RepliesKept, KeepsLimit, AnswersLines, IsReady, IsUnread, run_replies, run_trees}
+use Rattle.store_top.specs.Statuses.{Row, row, IsRunStatus, IsEndOfRun, IsRefusedImage, IsPastHeader, IsBetweenLines, MayComeFirst}
+use Rattle.store_top.proofs.CostLemmas.{run_refused, run_counts}
+use Rattle.store_top.proofs.CrashLemmas.{crashes_refused, crashes_behind, opened_represents}
+use Rattle.store_top.proofs.LoopTurn.{no_line}
+use Rattle.store_top.proofs.OutsideLemmas.{outside_behind}
+use Rattle.store_top.proofs.ReportLemmas.{rose}
+use Rattle.store_top.proofs.RunLemmas.{length-replies}
+use Rattle.store_top.proofs.StatusLemmas.{other_than}
 
--- an image that is served names its parameters
-pub names : (image : List ℕ) (t : Tree) (p : Parameters) → IsServedImage image t p → IsImageWith image p
-names image t p h = record { names = h.represents.names; length_is = h.represents.length_is }
+-- ---- no store was had
 
--- and it has one tree and one list of parameters
-pub one_tree : (image : List ℕ) (t u : Tree) (p q : Parameters) → IsServedImage image t p → IsServedImage image u q → t ≡ u
-one_tree image t u p q a b = (images_tell image t u p q a.represents b.represents).0
+runs_so : (fault : AttachFault) → IsRunStatus (attach_status fault)
+runs_so faults.Disk = refl
+runs_so faults.NoMemory = refl
+runs_so faults.NotImage = refl
+runs_so faults.Damaged = refl
 
-pub same_parameters : (image : List ℕ) (t u : Tree) (p q : Parameters) → IsServedImage image t p → IsServedImage image u q → p ≡ q
-same_parameters image t u p q a b = (images_tell image t u p q a.represents b.represents).1
+not_between : (fault : AttachFault) → IsBetweenLines (attach_status fault) → ⊥
+not_between faults.Disk h = false≢true h
+not_between faults.NoMemory h = false≢true h
+not_between faults.NotImage h = false≢true h
+not_between faults.Damaged h = false≢true h
 
--- ---- what the image is promised to be
+no_image_by : (fault : AttachFault) → attach_status fault ≡ statuses.NotImage → fault ≡ faults.NotImage
+no_image_by faults.Disk e = absurd (cc)
+no_image_by faults.NoMemory e = absurd (cc)
+no_image_by faults.NotImage e = refl
+no_image_by faults.Damaged e = absurd (cc)
 
-pub no_line : (t : Tree) (script : List ℕ) (p : Parameters) → run_trees t script p 0 ≡ t
-unfolding tree_by
-no_line t script p = refl
+damaged_by : (fault : AttachFault) → attach_status fault ≡ statuses.Damaged → fault ≡ faults.Damaged
+damaged_by faults.Disk e = absurd (cc)
+damaged_by faults.NoMemory e = absurd (cc)
+damaged_by faults.NotImage e = absurd (cc)
+damaged_by faults.Damaged e = refl
 
-pub not_between : (fault : AttachFault) → IsBetweenLines (attach_status fault) → ⊥
-not_between faults.Disk h = h
-not_between faults.NoMemory h = h
-not_between faults.NotImage h = h
-not_between faults.Damaged h = h
+disk_by : (fault : AttachFault) → attach_status fault ≡ statuses.DiskFault → fault ≡ faults.Disk
+disk_by faults.Disk e = refl
+disk_by faults.NoMemory e = absurd (cc)
+disk_by faults.NotImage e = absurd (cc)
+disk_by faults.Damaged e = absurd (cc)
 
--- the store could not be had
-pub image_refused : (fault : AttachFault) (t : Tree) (script : List ℕ) (old new : DiskState) (p : Parameters)
-    → ((fault ≡ faults.Disk → ⊥) → IsOnlySynced old new) → (fault ≡ faults.Disk → Represents new.bytes t p)
-    → PromisesImage (attach_status fault) 0 (run_trees t script p) old new p
-image_refused fault t script old new p unwritten after = record {
-  between = λ between. absurd (not_between fault between);
-  no_memory = λ e. inr (refl, unwritten (λ d. memory_only fault e d));
-  fault = λ e. inl (subst (λ (u : Tree). Represents new.bytes u p) (sym (no_line t script p)) (after (disk_by fault e)));
-}
-  where
-    disk_by : (fault : AttachFault) → attach_status fault ≡ statuses.DiskFault → fault ≡ faults.Disk
-    disk_by faults.Disk e = refl
-    disk_by faults.NoMemory e = absurd (cc)
-    disk_by faults.NotImage e = absurd (cc)
-    disk_by faults.Damaged e = absurd (cc)
+memory_only : (fault : AttachFault) → attach_status fault ≡ statuses.NoMemory → fault ≡ faults.Disk → ⊥
+memory_only faults.Disk e d = cc
+memory_only faults.NoMemory e d = cc
+memory_only faults.NotImage e d = cc
+memory_only faults.Damaged e d = cc
 
-    memory_only : (fault : AttachFault) → attach_status fault ≡ statuses.NoMemory → fault ≡ faults.Disk → ⊥
-    memory_only faults.Disk e d = cc
-    memory_only faults.NoMemory e d = cc
-    memory_only faults.NotImage e d = cc
-    memory_only faults.Damaged e d = cc
+refusal_only : (fault : AttachFault) → IsRefusedImage (attach_status fault) → fault ≡ faults.Disk → ⊥
+refusal_only faults.Disk h d = false≢true h
+refusal_only faults.NoMemory h d = false≢true h
+refusal_only faults.NotImage h d = cc
+refusal_only faults.Damaged h d = cc
 
--- the reader of lines could not be had
-pub image_left : (t : Tree) (script : List ℕ) (disk : DiskState) (p : Parameters) → PromisesImage statuses.NoMemory 0 (run_trees t script p) disk disk p
-image_left t script disk p = record {
-  between = λ between. absurd between;
-  no_memory = λ e. inr (refl, no_sync disk);
-  fault = λ e. absurd (cc);
-}
-
--- lines were answered
-pub image_answered : (status : Status) (done : ℕ) (trees : ℕ → Tree) (old new : DiskState) (p : Parameters)
-    → ((status ≡ statuses.DiskFault → ⊥) → Stands new (trees done) p)
-    → (status ≡ statuses.DiskFault → Represents new.bytes (trees done) p ⊎ Represents new.bytes (trees (done + 1)) p)
-    → PromisesImage status done trees old new p
-image_answered status done trees old new p here after = record {
-  between = λ between. here (λ e. subst IsBetweenLines e between);
-  no_memory = λ e. inl (here (λ d. other (sym e ∙ d)));
-  fault = after;
-}
-  where
-    other : statuses.NoMemory ≡ statuses.DiskFault → ⊥
-    other e = cc
-
--- ---- a run that ended before its first line
+-- a fault other than that the image is none or damaged
+comes_first : (fault : AttachFault) → (fault ≡ faults.NotImage → ⊥) → (fault ≡ faults.Damaged → ⊥) → MayComeFirst (attach_status fault)
+comes_first faults.Disk image whole = refl
+comes_first faults.NoMemory image whole = refl
+comes_first faults.NotImage image whole = absurd (image refl)
+comes_first faults.Damaged image whole = absurd (whole refl)
 
 no_text : (replies : List Reply) → replies_text (take 0 replies) ≡ []
 unfolding replies_text
 no_text replies = refl
 
--- for want of memory, or by the disk
-pub none_answered : (status : Status) (fault : (status ≡ statuses.NoMemory) ⊎ (status ≡ statuses.DiskFault)) (replies : List Reply) (source source_new : SourceState) (sink : SinkState) → source_new ≡ source
-    → RepliesKept status 0 replies source source_new sink sink
-none_answered status fault replies source source_new sink e = record {
-  taken = [];
-  written = [];
-  taken_is = ap (λ (s : SourceState). s.left) (sym e);
-  written_is = sym (append-nil sink.written);
-  promised = record {
-    all = λ h. absurd (⊎_elim (λ m. differ_1 (sym h ∙ m)) (λ d. differ_2 (sym h ∙ d)) fault);
-    answered = λ c. sym (no_text replies);
-    in_part = λ h. absurd (⊎_elim (λ m. differ_3 (sym h ∙ m)) (λ d. differ_4 (sym h ∙ d)) fault);
-    ended = λ h. absurd (⊎_elim (λ m. differ_5 (sym h ∙ m)) (λ d. differ_6 (sym h ∙ d)) fault);
-    ended_in_limit = λ h. absurd (⊎_elim (λ m. differ_7 (sym h ∙ m)) (λ d. differ_8 (sym h ∙ d)) fault);
-    counted = omega arith;
-    some_line = λ h. absurd (⊎_elim (λ m. differ_3 (sym h ∙ m)) (λ d. differ_4 (sym h ∙ d)) fault);
-    is_image = λ h. ⊎_elim (λ m. differ_9 (sym h ∙ m)) (λ d. differ_10 (sym h ∙ d)) fault;
-    is_whole = λ h. ⊎_elim (λ m. differ_11 (sym h ∙ m)) (λ d. differ_12 (sym h ∙ d)) fault;
-  };
-}
-  where
-    differ_1 : statuses.Done ≡ statuses.NoMemory → ⊥
-    differ_1 e = cc
+-- no line was answered
+none_answered : (status : Status) → MayComeFirst status → (replies : List Reply) (source : SourceState) (sink : SinkState) → RepliesKept status 0 replies source source sink sink
+none_answered status first replies source sink =
+    let never : (other : Status) → (row other).may_come_first ≡ false → status ≡ other → ⊥ = λ other no. other_than (λ (r : Row). r.may_come_first) status other first no in
+    record {
+      taken = [];
+      taken_is = refl;
+      counted = record {
+        all = λ e. absurd (never statuses.Done refl e);
+        ended = λ e. absurd (never statuses.SourceFault refl e);
+        ended_in_limit = λ e. absurd (never statuses.TooLong refl e);
+        counted = omega arith;
+        some_line = λ e. absurd (never statuses.SinkFault refl e);
+      };
+      written = λ o. record {
+        written = [];
+        written_is = sym (append-nil sink.written);
+        promised = record {
+          all = λ e. absurd (never statuses.Done refl e);
+          answered = λ c. sym (no_text replies);
+          in_part = λ e. absurd (never statuses.SinkFault refl e);
+        };
+      };
+    }
 
-    differ_2 : statuses.Done ≡ statuses.DiskFault → ⊥
-    differ_2 e = cc
-
-    differ_3 : statuses.SinkFault ≡ statuses.NoMemory → ⊥
-    differ_3 e = cc
-
-    differ_4 : statuses.SinkFault ≡ statuses.DiskFault → ⊥
-    differ_4 e = cc
-
-    differ_5 : statuses.SourceFault ≡ statuses.NoMemory → ⊥
-    differ_5 e = cc
-
-    differ_6 : statuses.SourceFault ≡ statuses.DiskFault → ⊥
-    differ_6 e = cc
-
-    differ_7 : statuses.TooLong ≡ statuses.NoMemory → ⊥
-    differ_7 e = cc
-
-    differ_8 : statuses.TooLong ≡ statuses.DiskFault → ⊥
-    differ_8 e = cc
-
-    differ_9 : statuses.NotImage ≡ statuses.NoMemory → ⊥
-    differ_9 e = cc
-
-    differ_10 : statuses.NotImage ≡ statuses.DiskFault → ⊥
-    differ_10 e = cc
-
-    differ_11 : statuses.Damaged ≡ statuses.NoMemory → ⊥
-    differ_11 e = cc
-
-    differ_12 : statuses.Damaged ≡ statuses.DiskFault → ⊥
-    differ_12 e = cc
-
--- a store that could not be had: nothing was taken
-pub none_taken : (fault : AttachFault) (old new : SourceState) → new ≡ old → KeepsLimit (attach_status fault) old new
-none_taken fault old new e = record {
+-- nothing was taken
+none_taken : (fault : AttachFault) (source : SourceState) → KeepsLimit (attach_status fault) source source
+none_taken fault source = record {
   too_long = λ h. absurd (not_too_long fault h);
-  within = λ h. (0, omega arith, record { taken = []; taken_is = ap (λ (s : SourceState). s.left) (sym e); count_is = refl });
+  within = λ h. (0, omega arith, record { taken = []; taken_is = refl; count_is = refl });
   whole = λ h. absurd (not_done fault h);
 }
   where
@@ -171,15 +142,225 @@ none_taken fault old new e = record {
     not_done faults.NotImage e = cc
     not_done faults.Damaged e = cc
 
--- a fault other than that the image is none or damaged
-pub attach_fault : (fault : AttachFault) → (fault ≡ faults.NotImage → ⊥) → (fault ≡ faults.Damaged → ⊥) → (attach_status fault ≡ statuses.NoMemory) ⊎ (attach_status fault ≡ statuses.DiskFault)
-attach_fault faults.Disk a b = inr refl
-attach_fault faults.NoMemory a b = inl refl
-attach_fault faults.NotImage a b = absurd (a refl)
-attach_fault faults.Damaged a b = absurd (b refl)
+left_alone : (disk : DiskState) → IsSound disk → LeavesImage disk disk
+left_alone disk sound = record {
+  synced = record { bytes = refl; writes = refl; sync_limit = omega arith };
+  crash = LeavesOnly-refl disk disk.crash_images sound (λ image gone. gone);
+}
 
-pub damaged_by : (fault : AttachFault) → attach_status fault ≡ statuses.Damaged → fault ≡ faults.Damaged
-damaged_by faults.Disk e = absurd (cc)
-damaged_by faults.NoMemory e = absurd (cc)
-damaged_by faults.NotImage e = absurd (cc)
-damaged_by faults.Damaged e = refl
+no_image_reason : faults.NoMemory ≡ faults.NotImage → ⊥
+no_image_reason e = cc
+
+damage_reason : faults.NoMemory ≡ faults.Damaged → ⊥
+damage_reason e = cc
+
+-- nothing was asked of the disk
+pub nothing_opened : (disk : DiskState) → (disks.IsObservable disk → IsSound disk) → IsRefused disk faults.NoMemory disk
+nothing_opened disk sound = record {
+  kept = keeps_itself disk;
+  faults = refl;
+  not_image = λ e. absurd (cc);
+  damaged = λ e. absurd (cc);
+  unwritten = λ o other. left_alone disk (sound o);
+  looked = λ o reason. absurd (⊎_elim no_image_reason damage_reason reason);
+  represented = λ o t p represents. record {
+    not_image = λ e. cc;
+    damaged = λ e. cc;
+    represents = represents;
+    crash = LeavesOnly-refl disk (λ image. disk.crash_images image ⊎ Represents image t p) (sound o) (λ image gone. inl gone);
+    limit = at_most disk disk 0 0 (opening_writes p.slots disk.bytes) (opening_syncs p.slots disk.bytes) (made_none disk) (omega arith) (omega arith);
+  };
+  unrepresented = λ o none. left_alone disk (sound o);
+}
+
+module _ (fault : AttachFault) (old new : DiskState) (refused : IsRefused old fault new) (o : disks.IsObservable old) where
+  says_no_image : (f : AttachFault) → fault ≡ f → IsNoImage old → (attach_status f ≡ statuses.NotImage) ⊎ MayComeFirst (attach_status f)
+  says_no_image faults.Disk is none = inr refl
+  says_no_image faults.NoMemory is none = inr refl
+  says_no_image faults.NotImage is none = inl refl
+  says_no_image faults.Damaged is none = let damaged = refused.damaged is in absurd (none o damaged.params (damaged.has_parameters.named o))
+
+  says_damaged : (f : AttachFault) → fault ≡ f → IsDamaged old → (attach_status f ≡ statuses.Damaged) ⊎ MayComeFirst (attach_status f)
+  says_damaged faults.Disk is damaged = inr refl
+  says_damaged faults.NoMemory is damaged = inr refl
+  says_damaged faults.NotImage is damaged = absurd (refused.not_image is o damaged.params (damaged.has_parameters.named o))
+  says_damaged faults.Damaged is damaged = inl refl
+
+named_by : (fault : AttachFault) (old : DiskState) → (fault ≡ faults.Damaged → IsDamaged old) → IsPastHeader (attach_status fault) → (p : Parameters) × HasParameters old p
+named_by faults.Disk old damaged h = absurd (false≢true h)
+named_by faults.NoMemory old damaged h = absurd (false≢true h)
+named_by faults.NotImage old damaged h = absurd (false≢true h)
+named_by faults.Damaged old damaged h = let is = damaged refl in (is.params, is.has_parameters)
+
+-- of an image that represents a tree, where no call failed
+memory_left : (fault : AttachFault) (old new : DiskState) (t : Tree) (p : Parameters) → IsRefused old fault new → KeepsImage t p old fault new → (Rose old.faults new.faults → ⊥) → attach_status fault ≡ statuses.NoMemory
+memory_left faults.Disk old new t p refused keeps whole = absurd (whole (rose old.faults new.faults refused.faults))
+memory_left faults.NoMemory old new t p refused keeps whole = refl
+memory_left faults.NotImage old new t p refused keeps whole = absurd (keeps.not_image refl)
+memory_left faults.Damaged old new t p refused keeps whole = absurd (keeps.damaged refl)
+
+module _ {D R W : Type 0} (disk_of : D → DiskState) (source_of : R → SourceState) (sink_of : W → SinkState) (sound : (disk : D) → disks.IsObservable (disk_of disk) → IsSound (disk_of disk)) where
+  -- The run had no store.
+  pub run_unopened : (before : Outside D R W) (fault : AttachFault) (disk : D) → IsRefused (disk_of before.disk) fault (disk_of disk)
+      → IsRun disk_of source_of sink_of before (record { status = attach_status fault; done = 0; disk = disk; source = before.source; sink = before.sink })
+  run_unopened before fault disk refused =
+      let old = disk_of before.disk in
+      let new = disk_of disk in
+      let script : List ℕ = (source_of before.source).left in
+      record {
+        ends = runs_so fault;
+        named = named_by fault old refused.damaged;
+        limit = λ os. none_taken fault (source_of before.source);
+        refused = λ h. record { done = refl; source = refl; sink = refl };
+        observed = λ o. record {
+          not_image = record { only = λ e. refused.not_image (no_image_by fault e); always = says_no_image fault old new refused o fault refl };
+          damaged = record { only = λ e. refused.damaged (damaged_by fault e); always = says_damaged fault old new refused o fault refl };
+          represented = λ between. absurd (not_between fault between);
+          unwritten = λ h. (refused.unwritten o (refusal_only fault h)).synced;
+          nothing = λ none.
+              let left = refused.unrepresented o none in
+              record { idle = record { done = refl; source = refl; sink = refl }; synced = left.synced; crash = left.crash };
+          runs = λ os t p represents.
+              let keeps = refused.represented o t p represents in
+              let trees : ℕ → Tree = run_trees t script p in
+              record {
+                replies = none_answered (attach_status fault) (comes_first fault keeps.not_image keeps.damaged) (run_replies t script p) (source_of before.source) (sink_of before.sink);
+                image = record {
+                  between = λ between. absurd (not_between fault between);
+                  no_memory = λ e. inr (refl, (refused.unwritten o (memory_only fault e)).synced);
+                  fault = λ e. inl (subst (λ (u : Tree). Represents new.bytes u p) (sym (no_line t script p)) keeps.represents);
+                };
+                counts = run_refused (attach_status fault) trees p old new (not_between fault) keeps.limit (λ e. (refused.unwritten o (memory_only fault e)).synced);
+                quiet = λ empty whole all.
+                    let synced = (refused.unwritten o (λ e. whole (ap attach_status e))).synced in
+                    record { bytes = synced.bytes; writes = synced.writes };
+                complete = λ within disk_whole source_whole sink_whole. inr (memory_left fault old new t p refused keeps disk_whole);
+              };
+          crashes = λ os t p may.
+              let keeps = refused.represented o t p (may old.bytes (sound before.disk o).read_image) in
+              crashes_refused (attach_status fault) (run_trees t script p) old new p t (not_between fault) (sound disk (refused.kept.observable ∙ o)) (opened_represents old new t p may keeps.crash) (no_line t script p);
+        };
+      }
+
+-- ---- lines were answered
+
+-- the call ended between two lines or after the last, or by a fault
+not_refused : (status : Status) → IsEndOfRun status → IsRefusedImage status → ⊥
+not_refused status ends refused = false≢true (sym (ap not refused) ∙ second_true _ _ ends)
+
+image_answered : (status : Status) (done : ℕ) (trees : ℕ → Tree) (old new : DiskState) (p : Parameters)
+    → ((status ≡ statuses.DiskFault → ⊥) → Stands new (trees done) p)
+    → (status ≡ statuses.DiskFault → Represents new.bytes (trees done) p ⊎ Represents new.bytes (trees (done + 1)) p)
+    → PromisesImage status done trees old new p
+image_answered status done trees old new p here after = record {
+  between = λ between. here (other_than (λ (r : Row). r.is_between_lines) status statuses.DiskFault between refl);
+  no_memory = λ e. inl (here (λ d. two (sym e ∙ d)));
+  fault = after;
+}
+  where
+    two : statuses.NoMemory ≡ statuses.DiskFault → ⊥
+    two e = cc
+
+-- where no call failed, memory was there and the script is within its limit, every line was answered
+all_answered : (status : Status) (done : ℕ) (t : Tree) (p : Parameters) (disk disk_new : DiskState) (source source_new : SourceState) (sink sink_new : SinkState)
+    → IsEndOfRun status → KeepsOutside status disk disk_new source source_new sink sink_new → KeepsLimit status source source_new
+    → RepliesKept status done (run_replies t source.left p) source source_new sink sink_new → length source.left ≤ script_limit
+    → (Rose disk.faults disk_new.faults → ⊥) → (Rose source.faults source_new.faults → ⊥) → (Rose sink.faults sink_new.faults → ⊥)
+    → ((status ≡ statuses.Done) × (done ≡ length (lines source.left))) ⊎ (status ≡ statuses.NoMemory)
+all_answered statuses.Done done t p disk disk_new source source_new sink sink_new ends outside limit replies within disk_whole source_whole sink_whole =
+    inl (refl, (replies.counted.all refl).1 ∙ length-replies t (lines source.left) p)
+all_answered statuses.SourceFault done t p disk disk_new source source_new sink sink_new ends outside limit replies within disk_whole source_whole sink_whole = absurd (source_whole (rose source.faults source_new.faults outside.source_faults))
+all_answered statuses.SinkFault done t p disk disk_new source source_new sink sink_new ends outside limit replies within disk_whole source_whole sink_whole = absurd (sink_whole (rose sink.faults sink_new.faults outside.sink_faults))
+all_answered statuses.DiskFault done t p disk disk_new source source_new sink sink_new ends outside limit replies within disk_whole source_whole sink_whole = absurd (disk_whole (rose disk.faults disk_new.faults outside.disk_faults))
+all_answered statuses.TooLong done t p disk disk_new source source_new sink sink_new ends outside limit replies within disk_whole source_whole sink_whole =
+    let taken = limit.too_long refl in
+    absurd (omega (arith, ap length taken.taken_is, length-append taken.taken source_new.left, taken.count_is, within))
+all_answered statuses.NoMemory done t p disk disk_new source source_new sink sink_new ends outside limit replies within disk_whole source_whole sink_whole = inr refl
+all_answered statuses.Usage done t p disk disk_new source source_new sink sink_new ends outside limit replies within disk_whole source_whole sink_whole = absurd (false≢true ends)
+all_answered statuses.NotImage done t p disk disk_new source source_new sink sink_new ends outside limit replies within disk_whole source_whole sink_whole = absurd (false≢true ends)
+all_answered statuses.Damaged done t p disk disk_new source source_new sink sink_new ends outside limit replies within disk_whole source_whole sink_whole = absurd (false≢true ends)
+all_answered statuses.AlreadyImage done t p disk disk_new source source_new sink sink_new ends outside limit replies within disk_whole source_whole sink_whole = absurd (false≢true ends)
+all_answered statuses.WrongLength done t p disk disk_new source source_new sink sink_new ends outside limit replies within disk_whole source_whole sink_whole = absurd (false≢true ends)
+
+-- a reader as it is made
+pub new_reader_is_unread : {R : Type 0} (reader : LineState R) (source : R) → reader ≡ record { source = source; held = []; taken = 0; limit = script_limit; is_ended = false; is_live = true; text = [] } → IsUnread reader
+new_reader_is_unread {R} reader source is = record {
+  held = ap (λ (r : LineState R). r.held) is;
+  taken = ap (λ (r : LineState R). r.taken) is;
+  limit = ap (λ (r : LineState R). r.limit) is;
+  live = ap (λ (r : LineState R). r.is_live) is;
+}
+
+-- a store that was had is ready for lines
+pub attached_is_ready : {D : Type 0} (disk_of : D → DiskState) (old : DiskState) (store : StoreState D) → IsAttached disk_of old store → IsReady disk_of store
+attached_is_ready disk_of old store attached = record {
+  runs = attached.runs;
+  fitting = attached.fitting;
+  stands = λ o. (attached.observed (sym attached.kept.observable ∙ o)).stands;
+}
+
+module _ {D R W : Type 0} (disk_of : D → DiskState) (source_of : R → SourceState) (sink_of : W → SinkState) (sound : (disk : D) → disks.IsObservable (disk_of disk) → IsSound (disk_of disk))
+    (disk : D) (store store_new : StoreState D) (reader reader_new : LineState R) (sink sink_new : W) (status : Status) (done : ℕ)
+    (attached : IsAttached disk_of (disk_of disk) store) (answered : AnswersLines disk_of source_of sink_of status done store store_new reader reader_new sink sink_new) where
+  module _ (o : disks.IsObservable (disk_of disk)) (os : sources.IsObservable (source_of reader.source)) where
+    -- what is promised over the tree of the store
+    runs_from : RunsFrom disk_of source_of sink_of store.tree store.params (outside_of disk reader.source sink) (record { status = status; done = done; disk = store_new.disk; source = reader_new.source; sink = sink_new })
+    runs_from =
+        let old = disk_of disk in
+        let mid = disk_of store.disk in
+        let new = disk_of store_new.disk in
+        let trees : ℕ → Tree = run_trees store.tree (source_of reader.source).left store.params in
+        let opened = attached.observed o in
+        let observable = attached.kept.observable ∙ o in
+        let changes = answered.changes os observable in
+        let outside = outside_behind status old mid new (source_of reader.source) (source_of reader_new.source) (sink_of sink) (sink_of sink_new) attached.kept attached.faults answered.outside in
+        record {
+          replies = answered.replies os observable;
+          image = image_answered status done trees old new store.params changes.stands changes.fault;
+          counts = run_counts status done trees store.params old mid new opened.counts changes.counts;
+          quiet = λ empty whole all.
+              let reads = changes.quiet whole all in
+              let opening = opened.unwritten empty in
+              record { bytes = reads.bytes ∙ opening.bytes; writes = reads.write_count ∙ opening.writes };
+          complete = λ within disk_whole source_whole sink_whole.
+              all_answered status done store.tree store.params old new (source_of reader.source) (source_of reader_new.source) (sink_of sink) (sink_of sink_new) answered.ends outside (answered.limit os) (answered.replies os observable) within disk_whole source_whole sink_whole;
+        }
+
+  -- The run answered lines.
+  pub run_answered : IsRun disk_of source_of sink_of (outside_of disk reader.source sink) (record { status = status; done = done; disk = store_new.disk; source = reader_new.source; sink = sink_new })
+  run_answered =
+      let old = disk_of disk in
+      let mid = disk_of store.disk in
+      let new = disk_of store_new.disk in
+      let script : List ℕ = (source_of reader.source).left in
+      record {
+        ends = first_true _ _ answered.ends;
+        named = λ h. (store.params, attached.has_parameters);
+        limit = answered.limit;
+        refused = λ h. absurd (not_refused status answered.ends h);
+        observed = λ o. record {
+          not_image = record {
+            only = λ e. absurd (not_refused status answered.ends (subst IsRefusedImage (sym e) refl));
+            always = λ none. absurd (none o store.params (attached.has_parameters.named o));
+          };
+          damaged = record {
+            only = λ e. absurd (not_refused status answered.ends (subst IsRefusedImage (sym e) refl));
+            always = λ damaged. absurd (damaged.no_tree o store.tree store.params (attached.observed o).represents);
+          };
+          represented = λ h. record { tree = store.tree; params = store.params; represents = (attached.observed o).represents };
+          unwritten = λ h. absurd (not_refused status answered.ends h);
+          nothing = λ none. absurd (none store.tree store.params (attached.observed o).represents);
+          runs = λ os t p represents.
+              let same = images_tell old.bytes store.tree t store.params p (attached.observed o).represents represents in
+              let at_tree = subst (λ (u : Tree). RunsFrom disk_of source_of sink_of u store.params (outside_of disk reader.source sink) (record { status = status; done = done; disk = store_new.disk; source = reader_new.source; sink = sink_new })) same.0 (runs_from o os) in
+              subst (λ (q : Parameters). RunsFrom disk_of source_of sink_of t q (outside_of disk reader.source sink) (record { status = status; done = done; disk = store_new.disk; source = reader_new.source; sink = sink_new })) same.1 at_tree;
+          crashes = λ os t p may.
+              let opened = attached.observed o in
+              let same = images_tell old.bytes t store.tree p store.params (may old.bytes (sound disk o).read_image) opened.represents in
+              let there = subst (λ (q : Parameters). MayLeaveOnly old (λ image. Represents image store.tree q)) same.1 (subst (λ (u : Tree). MayLeaveOnly old (λ image. Represents image u p)) same.0 may) in
+              let behind = crashes_behind status done (run_trees store.tree script store.params) old mid new store.params store.tree (opened_represents old mid store.tree store.params there opened.crash) (no_line store.tree script store.params)
+              (answered.changes os (attached.kept.observable ∙ o)).crashes in
+              subst (λ (q : Parameters). PromisesCrashes status done (run_trees t script q) old new q) (sym same.1)
+              (subst (λ (u : Tree). PromisesCrashes status done (run_trees u script store.params) old new store.params) (sym same.0) behind);
+        };
+      }

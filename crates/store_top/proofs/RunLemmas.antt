@@ -1,55 +1,45 @@
--- Lemmas on a script that is answered line after line.
-use Rattle.std.proofs.Common.{◌≡◌, ℕ, suc, ◌+◌, ◌-◌, ◌<◌, ◌≤◌, List, [], ◌∷◌, ◌++◌, length, take, drop, true, false, IsTrue, Result, Ok, Err, refl, sym, ap, ◌∙◌, subst, arith, append_assoc, length-append, length-drop, length-take}
+-- Lemmas on a script that is answered line after line: what was answered so far, and what is promised of the replies at each end.
+use Rattle.std.proofs.Common.{◌≡◌, ℕ, suc, ◌+◌, ◌-◌, ◌<◌, ◌≤◌, List, [], ◌∷◌, ◌++◌, length, take, drop, true, false, IsTrue, refl, sym, ap, ◌∙◌, subst, arith, append_assoc, length-append, length-drop, length-take}
+use Rattle.std.proofs.lemmas.Bool.{false≢true}
 use Rattle.std.proofs.lemmas.List.{take_at, drop_at, append-nil, take-append-drop, drop-drop}
 use Rattle.std.proofs.lemmas.List.Concat.{flat_map-append}
 use Rattle.store_model.specs.Parameters.{Parameters}
 use Rattle.store_model.specs.Trees.{Tree}
 use Rattle.store_model.specs.Commands.{Reply, reply_text}
-use Rattle.store_model.specs.Scripts.{lines, replies_by, tree_by, replies_text, script_limit}
-use Rattle.store_model.proofs.ScriptsLemmas.{replies_by-append, tree_by-append}
+use Rattle.store_model.specs.Scripts.{lines, answer, answers_by, state_by, replies_by, tree_by, replies, tree_after, replies_text, script_limit}
+use Rattle.store_model.proofs.ScriptsLemmas.{replies-append, tree_after-append}
 use Rattle.script_lines.specs.SourceState.{SourceState}
 use Rattle.script_lines.specs.SinkState.{SinkState, AppendsPrefix}
-use Rattle.std.specs.Result.{is_err, OnErr, OnOk}
 use Rattle.script_lines.specs.Lines.{ended_lines}
-use Rattle.script_lines.specs.LineState.{LineState, Falls, unread, left, to_come, ended_within, Takes, Answers, FailsBetween, PassesLimit, NextLine}
-use Rattle.script_lines.specs.declared.lines.Line.{Line}
-use Rattle.script_lines.specs.declared.lines.Line.TheVariants as answers
+use Rattle.script_lines.specs.LineState.{LineState, left, to_come, Takes, Answers, FailsBetween, PassesLimit}
 use Rattle.script_lines.proofs.StateLemmas.{Answers-refl, Answers-trans, Takes-trans}
 use Rattle.script_lines.proofs.LineLemmas.{lines-none}
-use Rattle.store_base.specs.declared.store_fault.Fault.{Fault}
-use Rattle.store_base.specs.declared.store_fault.Fault.TheVariants as causes
-use Rattle.store_top.specs.Steps.{fault_status}
 use Rattle.store_top.specs.declared.status.Status.{Status}
 use Rattle.store_top.specs.declared.status.Status.TheVariants as statuses
-use Rattle.store_top.specs.ServedLines.{served_answer}
-use Rattle.store_top.specs.Runs.{run_replies, run_trees, RepliesKept, HasTaken, KeepsLimit, IsLine, IsEndOfRun}
+use Rattle.store_top.specs.Runs.{run_replies, run_trees, RepliesKept, HasTaken, KeepsLimit}
+use Rattle.store_top.specs.Statuses.{Row, row, MayComeFirst}
+use Rattle.store_top.proofs.StatusLemmas.{other_than}
 
--- the replies to lines, and the tree after them
-abbrev pub replies_on : Tree → List (List ℕ) → Parameters → List Reply
-replies_on t texts p = replies_by (λ u text. served_answer u text p) t texts
+-- there is a reply to each line
+pub length-replies : (t : Tree) (texts : List (List ℕ)) (p : Parameters) → length (replies t texts p) ≡ length texts
+unfolding replies replies_by answers_by
+length-replies t [] p = refl
+length-replies t (text ∷ texts) p = ap suc (length-replies (answer t text p).tree texts p)
 
-abbrev pub tree_on : Tree → List (List ℕ) → Parameters → Tree
-tree_on t texts p = tree_by (λ u text. served_answer u text p) t texts
-
-length-replies_on : (t : Tree) (texts : List (List ℕ)) (p : Parameters) → length (replies_on t texts p) ≡ length texts
-unfolding replies_by
-length-replies_on t [] p = refl
-length-replies_on t (text ∷ texts) p = ap suc (length-replies_on (served_answer t text p).tree texts p)
-
-one_reply : (t : Tree) (text : List ℕ) (p : Parameters) → replies_on t (text ∷ []) p ≡ (served_answer t text p).reply ∷ []
-unfolding replies_by
+one_reply : (t : Tree) (text : List ℕ) (p : Parameters) → replies t (text ∷ []) p ≡ (answer t text p).reply ∷ []
+unfolding replies replies_by answers_by
 one_reply t text p = refl
 
-one_tree : (t : Tree) (text : List ℕ) (p : Parameters) → tree_on t (text ∷ []) p ≡ (served_answer t text p).tree
-unfolding tree_by
+one_tree : (t : Tree) (text : List ℕ) (p : Parameters) → tree_after t (text ∷ []) p ≡ (answer t text p).tree
+unfolding tree_after tree_by state_by
 one_tree t text p = refl
 
-no_tree : (t : Tree) (p : Parameters) → tree_on t [] p ≡ t
-unfolding tree_by
+no_tree : (t : Tree) (p : Parameters) → tree_after t [] p ≡ t
+unfolding tree_after tree_by state_by
 no_tree t p = refl
 
-no_replies : (t : Tree) (p : Parameters) → replies_text (replies_on t [] p) ≡ []
-unfolding replies_by replies_text
+no_replies : (t : Tree) (p : Parameters) → replies_text (replies t [] p) ≡ []
+unfolding replies replies_by answers_by replies_text
 no_replies t p = refl
 
 replies_text-append : (a b : List Reply) → replies_text (a ++ b) ≡ replies_text a ++ replies_text b
@@ -72,8 +62,8 @@ module _ {R : Type 0} (state : R → SourceState) where
     pub texts : List (List ℕ)
     pub answers : Answers state first now texts
     pub count : done ≡ length texts
-    pub tree : t_now ≡ tree_on t_first texts p
-    pub written : IsTrue sink_first.is_observable → sink_now.written ≡ sink_first.written ++ replies_text (replies_on t_first texts p)
+    pub tree : t_now ≡ tree_after t_first texts p
+    pub written : IsTrue sink_first.is_observable → sink_now.written ≡ sink_first.written ++ replies_text (replies t_first texts p)
 
   pub halfway_start : (first : LineState R) (sink : SinkState) (t : Tree) (p : Parameters) → Halfway first first sink sink t t p 0
   halfway_start first sink t p = record {
@@ -86,27 +76,27 @@ module _ {R : Type 0} (state : R → SourceState) where
 
   -- one line more, whose reply was written
   pub halfway_more : (first now next : LineState R) (sink_first sink_now sink_next : SinkState) (t_first t_now t_next : Tree) (p : Parameters) (done : ℕ) (text : List ℕ)
-      → Halfway first now sink_first sink_now t_first t_now p done → Answers state now next (text ∷ []) → t_next ≡ (served_answer t_now text p).tree
-      → (IsTrue sink_first.is_observable → sink_next.written ≡ sink_now.written ++ reply_text (served_answer t_now text p).reply)
+      → Halfway first now sink_first sink_now t_first t_now p done → Answers state now next (text ∷ []) → t_next ≡ (answer t_now text p).tree
+      → (IsTrue sink_first.is_observable → sink_next.written ≡ sink_now.written ++ reply_text (answer t_now text p).reply)
       → Halfway first next sink_first sink_next t_first t_next p (done + 1)
   halfway_more first now next sink_first sink_now sink_next t_first t_now t_next p done text h answers tree written =
-      let step = served_answer t_now text p in
-      let tree_after : tree_on t_first (h.texts ++ text ∷ []) p ≡ (served_answer t_now text p).tree =
-      tree_by-append (λ u x. served_answer u x p) t_first h.texts (text ∷ []) ∙ ap (λ u. tree_on u (text ∷ []) p) (sym h.tree) ∙ one_tree t_now text p in
-      let replies_after : replies_on t_first (h.texts ++ text ∷ []) p ≡ replies_on t_first h.texts p ++ (served_answer t_now text p).reply ∷ [] =
-      replies_by-append (λ u x. served_answer u x p) t_first h.texts (text ∷ [])
-      ∙ ap (λ u. replies_on t_first h.texts p ++ replies_on u (text ∷ []) p) (sym h.tree) ∙ ap (λ rs. replies_on t_first h.texts p ++ rs) (one_reply t_now text p) in
+      let step = answer t_now text p in
+      let tree_after : tree_after t_first (h.texts ++ text ∷ []) p ≡ (answer t_now text p).tree =
+      tree_after-append t_first h.texts (text ∷ []) p ∙ ap (λ u. tree_after u (text ∷ []) p) (sym h.tree) ∙ one_tree t_now text p in
+      let replies_after : replies t_first (h.texts ++ text ∷ []) p ≡ replies t_first h.texts p ++ (answer t_now text p).reply ∷ [] =
+      replies-append t_first h.texts (text ∷ []) p
+      ∙ ap (λ u. replies t_first h.texts p ++ replies u (text ∷ []) p) (sym h.tree) ∙ ap (λ rs. replies t_first h.texts p ++ rs) (one_reply t_now text p) in
       record {
         texts = h.texts ++ text ∷ [];
         answers = Answers-trans state first now next h.texts (text ∷ []) h.answers answers;
         count = omega (arith, h.count, length-append h.texts (text ∷ []));
         tree = tree ∙ sym tree_after;
         written = λ o.
-            written o ∙ ap (λ xs. xs ++ reply_text (served_answer t_now text p).reply) (h.written o)
-            ∙ append_assoc sink_first.written (replies_text (replies_on t_first h.texts p)) (reply_text (served_answer t_now text p).reply)
+            written o ∙ ap (λ xs. xs ++ reply_text (answer t_now text p).reply) (h.written o)
+            ∙ append_assoc sink_first.written (replies_text (replies t_first h.texts p)) (reply_text (answer t_now text p).reply)
             ∙ ap (λ xs. sink_first.written ++ xs) (
-            ap (λ xs. replies_text (replies_on t_first h.texts p) ++ xs) (sym (replies_text-one (served_answer t_now text p).reply))
-            ∙ sym (replies_text-append (replies_on t_first h.texts p) ((served_answer t_now text p).reply ∷ []))
+            ap (λ xs. replies_text (replies t_first h.texts p) ++ xs) (sym (replies_text-one (answer t_now text p).reply))
+            ∙ sym (replies_text-append (replies t_first h.texts p) ((answer t_now text p).reply ∷ []))
             ∙ ap replies_text (sym replies_after));
       }
 
@@ -122,20 +112,20 @@ module _ {R : Type 0} (state : R → SourceState) where
     pub trees_at : (now : LineState R) (sink_first sink_now : SinkState) (t_first t_now : Tree) (p : Parameters) (done : ℕ)
         → Halfway first now sink_first sink_now t_first t_now p done → run_trees t_first (left state first) p done ≡ t_now
     trees_at now sink_first sink_now t_first t_now p done h =
-        ap (λ xs. tree_on t_first (take done xs) p) (lines_split now h.texts h.answers)
-        ∙ ap (λ xs. tree_on t_first xs p) (take_at h.texts (lines (to_come state now)) done (sym h.count))
+        ap (λ xs. tree_after t_first (take done xs) p) (lines_split now h.texts h.answers)
+        ∙ ap (λ xs. tree_after t_first xs p) (take_at h.texts (lines (to_come state now)) done (sym h.count))
         ∙ sym h.tree
 
     replies_split : (now : LineState R) (texts : List (List ℕ)) (t : Tree) (p : Parameters) → Answers state first now texts
-        → run_replies t (left state first) p ≡ replies_on t texts p ++ replies_on (tree_on t texts p) (lines (to_come state now)) p
+        → run_replies t (left state first) p ≡ replies t texts p ++ replies (tree_after t texts p) (lines (to_come state now)) p
     replies_split now texts t p answers =
-        ap (λ xs. replies_on t xs p) (lines_split now texts answers) ∙ replies_by-append (λ u x. served_answer u x p) t texts (lines (to_come state now))
+        ap (λ xs. replies t xs p) (lines_split now texts answers) ∙ replies-append t texts (lines (to_come state now)) p
 
     pub replies_at : (now : LineState R) (sink_first sink_now : SinkState) (t_first t_now : Tree) (p : Parameters) (done : ℕ)
-        (h : Halfway first now sink_first sink_now t_first t_now p done) → take done (run_replies t_first (left state first) p) ≡ replies_on t_first h.texts p
+        (h : Halfway first now sink_first sink_now t_first t_now p done) → take done (run_replies t_first (left state first) p) ≡ replies t_first h.texts p
     replies_at now sink_first sink_now t_first t_now p done h =
         ap (take done) (replies_split now h.texts t_first p h.answers)
-        ∙ take_at (replies_on t_first h.texts p) (replies_on (tree_on t_first h.texts p) (lines (to_come state now)) p) done (length-replies_on t_first h.texts p ∙ sym h.count)
+        ∙ take_at (replies t_first h.texts p) (replies (tree_after t_first h.texts p) (lines (to_come state now)) p) done (length-replies t_first h.texts p ∙ sym h.count)
 
     -- the bytes taken so far, and those left
     pub taken_split : (now : LineState R) → Takes state first now → left state first ≡ take (now.taken - first.taken) (left state first) ++ left state now
@@ -143,27 +133,30 @@ module _ {R : Type 0} (state : R → SourceState) where
 
     -- the end of the script
     pub at_end : (now next : LineState R) (sink_first sink_now : SinkState) (t_first t_now : Tree) (p : Parameters) (done : ℕ)
-        → Halfway first now sink_first sink_now t_first t_now p done → Answers state now next [] → to_come state next ≡ [] → IsTrue sink_first.is_observable
+        → Halfway first now sink_first sink_now t_first t_now p done → Answers state now next [] → to_come state next ≡ []
         → RepliesKept statuses.Done done (run_replies t_first (left state first) p) (state first.source) (state next.source) sink_first sink_now
-    at_end now next sink_first sink_now t_first t_now p done h answers none o =
+    at_end now next sink_first sink_now t_first t_now p done h answers none =
         let all = Answers-trans state first now next h.texts [] h.answers answers in
         let texts_are : lines (left state first) ≡ h.texts = lines_split next (h.texts ++ []) all ∙ ap (λ xs. (h.texts ++ []) ++ lines xs) none ∙ ap (λ xs. (h.texts ++ []) ++ xs) lines-none ∙ append-nil (h.texts ++ []) ∙ append-nil h.texts in
-        let replies_are : run_replies t_first (left state first) p ≡ replies_on t_first h.texts p = ap (λ xs. replies_on t_first xs p) texts_are in
+        let replies_are : run_replies t_first (left state first) p ≡ replies t_first h.texts p = ap (λ xs. replies t_first xs p) texts_are in
         record {
           taken = take (next.taken - first.taken) (left state first);
-          written = replies_text (replies_on t_first h.texts p);
           taken_is = taken_split next all.takes;
-          written_is = h.written o;
-          promised = record {
-            all = λ e. (second_nil next.held (left state next) none, h.count ∙ sym (length-replies_on t_first h.texts p) ∙ ap length (sym replies_are), ap replies_text (sym replies_are));
-            answered = λ c. absurd c;
-            in_part = λ e. absurd (cc);
+          counted = record {
+            all = λ e. (second_nil next.held (left state next) none, h.count ∙ sym (length-replies t_first h.texts p) ∙ ap length (sym replies_are));
             ended = λ e. absurd (cc);
             ended_in_limit = λ e. absurd (cc);
-            counted = counted_by (run_replies t_first (left state first) p) (replies_on t_first h.texts p) done (replies_at now sink_first sink_now t_first t_now p done h) (length-replies_on t_first h.texts p ∙ sym h.count);
+            counted = counted_by (run_replies t_first (left state first) p) (replies t_first h.texts p) done (replies_at now sink_first sink_now t_first t_now p done h) (length-replies t_first h.texts p ∙ sym h.count);
             some_line = λ e. absurd (cc);
-            is_image = λ e. cc;
-            is_whole = λ e. cc;
+          };
+          written = λ o. record {
+            written = replies_text (replies t_first h.texts p);
+            written_is = h.written o;
+            promised = record {
+              all = λ e. ap replies_text (sym replies_are);
+              answered = λ c. absurd (false≢true c);
+              in_part = λ e. absurd (cc);
+            };
           };
         }
       where
@@ -172,107 +165,103 @@ module _ {R : Type 0} (state : R → SourceState) where
         second_nil (x ∷ xs) ys e = absurd (cc)
 
     -- a fault of the disk, or want of memory, in a line
-    pub at_fault : (fault : Fault) (now next : LineState R) (sink_first sink_now : SinkState) (t_first t_now : Tree) (p : Parameters) (done : ℕ)
-        → Halfway first now sink_first sink_now t_first t_now p done → Takes state now next → IsTrue sink_first.is_observable
-        → RepliesKept (fault_status fault) done (run_replies t_first (left state first) p) (state first.source) (state next.source) sink_first sink_now
-    at_fault causes.Disk now next sink_first sink_now t_first t_now p done h takes o = record {
-      taken = take (next.taken - first.taken) (left state first);
-      written = replies_text (replies_on t_first h.texts p);
-      taken_is = taken_split next (Takes-trans state first now next h.answers.takes takes);
-      written_is = h.written o;
-      promised = record {
-        all = λ e. absurd (cc);
-        answered = λ c. ap replies_text (sym (replies_at now sink_first sink_now t_first t_now p done h));
-        in_part = λ e. absurd (cc);
-        ended = λ e. absurd (cc);
-        ended_in_limit = λ e. absurd (cc);
-        counted = counted_by (run_replies t_first (left state first) p) (replies_on t_first h.texts p) done (replies_at now sink_first sink_now t_first t_now p done h) (length-replies_on t_first h.texts p ∙ sym h.count);
-        some_line = λ e. absurd (cc);
-        is_image = λ e. cc;
-        is_whole = λ e. cc;
-      };
-    }
-    at_fault causes.NoMemory now next sink_first sink_now t_first t_now p done h takes o = record {
-      taken = take (next.taken - first.taken) (left state first);
-      written = replies_text (replies_on t_first h.texts p);
-      taken_is = taken_split next (Takes-trans state first now next h.answers.takes takes);
-      written_is = h.written o;
-      promised = record {
-        all = λ e. absurd (cc);
-        answered = λ c. ap replies_text (sym (replies_at now sink_first sink_now t_first t_now p done h));
-        in_part = λ e. absurd (cc);
-        ended = λ e. absurd (cc);
-        ended_in_limit = λ e. absurd (cc);
-        counted = counted_by (run_replies t_first (left state first) p) (replies_on t_first h.texts p) done (replies_at now sink_first sink_now t_first t_now p done h) (length-replies_on t_first h.texts p ∙ sym h.count);
-        some_line = λ e. absurd (cc);
-        is_image = λ e. cc;
-        is_whole = λ e. cc;
-      };
-    }
+    pub at_fault : (status : Status) → MayComeFirst status → (now next : LineState R) (sink_first sink_now : SinkState) (t_first t_now : Tree) (p : Parameters) (done : ℕ)
+        → Halfway first now sink_first sink_now t_first t_now p done → Takes state now next
+        → RepliesKept status done (run_replies t_first (left state first) p) (state first.source) (state next.source) sink_first sink_now
+    at_fault status fault now next sink_first sink_now t_first t_now p done h takes =
+        let never : (other : Status) → (row other).may_come_first ≡ false → status ≡ other → ⊥ = λ other no. other_than (λ (r : Row). r.may_come_first) status other fault no in
+        record {
+          taken = take (next.taken - first.taken) (left state first);
+          taken_is = taken_split next (Takes-trans state first now next h.answers.takes takes);
+          counted = record {
+            all = λ e. absurd (never statuses.Done refl e);
+            ended = λ e. absurd (never statuses.SourceFault refl e);
+            ended_in_limit = λ e. absurd (never statuses.TooLong refl e);
+            counted = counted_by (run_replies t_first (left state first) p) (replies t_first h.texts p) done (replies_at now sink_first sink_now t_first t_now p done h) (length-replies t_first h.texts p ∙ sym h.count);
+            some_line = λ e. absurd (never statuses.SinkFault refl e);
+          };
+          written = λ o. record {
+            written = replies_text (replies t_first h.texts p);
+            written_is = h.written o;
+            promised = record {
+              all = λ e. absurd (never statuses.Done refl e);
+              answered = λ c. ap replies_text (sym (replies_at now sink_first sink_now t_first t_now p done h));
+              in_part = λ e. absurd (never statuses.SinkFault refl e);
+            };
+          };
+        }
 
     -- a take that failed
     pub at_source_fault : (now next : LineState R) (sink_first sink_now : SinkState) (t_first t_now : Tree) (p : Parameters) (done : ℕ)
-        → Halfway first now sink_first sink_now t_first t_now p done → FailsBetween state now next → IsTrue sink_first.is_observable
+        → Halfway first now sink_first sink_now t_first t_now p done → FailsBetween state now next
         → RepliesKept statuses.SourceFault done (run_replies t_first (left state first) p) (state first.source) (state next.source) sink_first sink_now
-    at_source_fault now next sink_first sink_now t_first t_now p done h fails o =
+    at_source_fault now next sink_first sink_now t_first t_now p done h fails =
         let size : (now.taken - first.taken) + (next.taken - now.taken) ≡ next.taken - first.taken = omega (arith, h.answers.takes.taken, fails.takes.taken) in
         let ended_are : ended_lines (take (next.taken - first.taken) (left state first)) ≡ h.texts =
         ap (λ n. ended_lines (take n (left state first))) (sym size) ∙ ap (λ xs. ended_lines (xs ++ take ((now.taken - first.taken) + (next.taken - now.taken)) (left state first))) (sym held)
         ∙ h.answers.ended fails.before_end (next.taken - now.taken) ∙ ap (λ xs. h.texts ++ xs) fails.none ∙ append-nil h.texts in
         record {
           taken = take (next.taken - first.taken) (left state first);
-          written = replies_text (replies_on t_first h.texts p);
           taken_is = taken_split next (Takes-trans state first now next h.answers.takes fails.takes);
-          written_is = h.written o;
-          promised = record {
+          counted = record {
             all = λ e. absurd (cc);
-            answered = λ c. ap replies_text (sym (replies_at now sink_first sink_now t_first t_now p done h));
-            in_part = λ e. absurd (cc);
             ended = λ e. h.count ∙ ap length (sym ended_are);
             ended_in_limit = λ e. absurd (cc);
-            counted = counted_by (run_replies t_first (left state first) p) (replies_on t_first h.texts p) done (replies_at now sink_first sink_now t_first t_now p done h) (length-replies_on t_first h.texts p ∙ sym h.count);
+            counted = counted_by (run_replies t_first (left state first) p) (replies t_first h.texts p) done (replies_at now sink_first sink_now t_first t_now p done h) (length-replies t_first h.texts p ∙ sym h.count);
             some_line = λ e. absurd (cc);
-            is_image = λ e. cc;
-            is_whole = λ e. cc;
+          };
+          written = λ o. record {
+            written = replies_text (replies t_first h.texts p);
+            written_is = h.written o;
+            promised = record {
+              all = λ e. absurd (cc);
+              answered = λ c. ap replies_text (sym (replies_at now sink_first sink_now t_first t_now p done h));
+              in_part = λ e. absurd (cc);
+            };
           };
         }
 
     -- a reply that could not be written
     pub at_sink_fault : (now next : LineState R) (sink_first sink_now sink_next : SinkState) (t_first t_now : Tree) (p : Parameters) (done : ℕ) (text : List ℕ)
-        → Halfway first now sink_first sink_now t_first t_now p done → Answers state now next (text ∷ []) → IsTrue sink_first.is_observable
-        → AppendsPrefix sink_now.written sink_next.written (reply_text (served_answer t_now text p).reply)
+        → Halfway first now sink_first sink_now t_first t_now p done → Answers state now next (text ∷ [])
+        → (IsTrue sink_first.is_observable → AppendsPrefix sink_now.written sink_next.written (reply_text (answer t_now text p).reply))
         → RepliesKept statuses.SinkFault (done + 1) (run_replies t_first (left state first) p) (state first.source) (state next.source) sink_first sink_next
-    at_sink_fault now next sink_first sink_now sink_next t_first t_now p done text h answers o appends =
+    at_sink_fault now next sink_first sink_now sink_next t_first t_now p done text h answers appends =
         let all = replies_split now h.texts t_first p h.answers in
         let before : done + 1 - 1 ≡ done = omega arith in
-        let size : length (replies_on t_first h.texts p) ≡ done = length-replies_on t_first h.texts p ∙ sym h.count in
-        let last : take 1 (drop (done + 1 - 1) (run_replies t_first (left state first) p)) ≡ (served_answer t_now text p).reply ∷ [] =
+        let size : length (replies t_first h.texts p) ≡ done = length-replies t_first h.texts p ∙ sym h.count in
+        let last : take 1 (drop (done + 1 - 1) (run_replies t_first (left state first) p)) ≡ (answer t_now text p).reply ∷ [] =
         ap (λ n. take 1 (drop n (run_replies t_first (left state first) p))) before ∙ ap (λ rs. take 1 (drop done rs)) all
-        ∙ ap (take 1) (drop_at (replies_on t_first h.texts p) (replies_on (tree_on t_first h.texts p) (lines (to_come state now)) p) done size)
-        ∙ ap (λ u. take 1 (replies_on u (lines (to_come state now)) p)) (sym h.tree)
-        ∙ ap (λ xs. take 1 (replies_on t_now xs p)) answers.lines
-        ∙ ap (take 1) (replies_by-append (λ u x. served_answer u x p) t_now (text ∷ []) (lines (to_come state next)))
-        ∙ ap (λ rs. take 1 (rs ++ replies_on (tree_on t_now (text ∷ []) p) (lines (to_come state next)) p)) (one_reply t_now text p) in
+        ∙ ap (take 1) (drop_at (replies t_first h.texts p) (replies (tree_after t_first h.texts p) (lines (to_come state now)) p) done size)
+        ∙ ap (λ u. take 1 (replies u (lines (to_come state now)) p)) (sym h.tree)
+        ∙ ap (λ xs. take 1 (replies t_now xs p)) answers.lines
+        ∙ ap (take 1) (replies-append t_now (text ∷ []) (lines (to_come state next)) p)
+        ∙ ap (λ rs. take 1 (rs ++ replies (tree_after t_now (text ∷ []) p) (lines (to_come state next)) p)) (one_reply t_now text p) in
         record {
           taken = take (next.taken - first.taken) (left state first);
-          written = replies_text (replies_on t_first h.texts p) ++ appends.part;
           taken_is = taken_split next (Takes-trans state first now next h.answers.takes answers.takes);
-          written_is = appends.appended ∙ ap (λ xs. xs ++ appends.part) (h.written o) ∙ append_assoc sink_first.written (replies_text (replies_on t_first h.texts p)) appends.part;
-          promised = record {
+          counted = record {
             all = λ e. absurd (cc);
-            answered = λ c. absurd c;
-            in_part = λ e. record {
-              part = appends.part;
-              front = record { rest = appends.rest; whole = ap replies_text last ∙ replies_text-one (served_answer t_now text p).reply ∙ appends.is_prefix };
-              written_is = ap (λ rs. replies_text rs ++ appends.part) (sym (replies_at now sink_first sink_now t_first t_now p done h) ∙ ap (λ n. take n (run_replies t_first (left state first) p)) (sym before));
-            };
             ended = λ e. absurd (cc);
             ended_in_limit = λ e. absurd (cc);
-            counted = one_more (run_replies t_first (left state first) p) (served_answer t_now text p).reply done (ap (λ n. take 1 (drop n (run_replies t_first (left state first) p))) (sym before) ∙ last);
+            counted = one_more (run_replies t_first (left state first) p) (answer t_now text p).reply done (ap (λ n. take 1 (drop n (run_replies t_first (left state first) p))) (sym before) ∙ last);
             some_line = λ e. omega arith;
-            is_image = λ e. cc;
-            is_whole = λ e. cc;
           };
+          written = λ o.
+              let appended = appends o in
+              record {
+                written = replies_text (replies t_first h.texts p) ++ appended.part;
+                written_is = appended.appended ∙ ap (λ xs. xs ++ appended.part) (h.written o) ∙ append_assoc sink_first.written (replies_text (replies t_first h.texts p)) appended.part;
+                promised = record {
+                  all = λ e. absurd (cc);
+                  answered = λ c. absurd (false≢true c);
+                  in_part = λ e. record {
+                    part = appended.part;
+                    front = record { rest = appended.rest; whole = ap replies_text last ∙ replies_text-one (answer t_now text p).reply ∙ appended.is_prefix };
+                    written_is = ap (λ rs. replies_text rs ++ appended.part) (sym (replies_at now sink_first sink_now t_first t_now p done h) ∙ ap (λ n. take n (run_replies t_first (left state first) p)) (sym before));
+                  };
+                };
+              };
         }
 
     -- all bytes, as those taken up to one past the limit and those left
@@ -281,9 +270,9 @@ module _ {R : Type 0} (state : R → SourceState) where
 
     -- one byte too many
     pub at_too_long : (now next : LineState R) (sink_first sink_now : SinkState) (t_first t_now : Tree) (p : Parameters) (done : ℕ) → first.limit ≡ script_limit
-        → Halfway first now sink_first sink_now t_first t_now p done → PassesLimit state now next → IsTrue sink_first.is_observable
+        → Halfway first now sink_first sink_now t_first t_now p done → PassesLimit state now next
         → RepliesKept statuses.TooLong done (run_replies t_first (left state first) p) (state first.source) (state next.source) sink_first sink_now
-    at_too_long now next sink_first sink_now t_first t_now p done limit h passes o =
+    at_too_long now next sink_first sink_now t_first t_now p done limit h passes =
         let limit_now : now.limit ≡ script_limit = h.answers.takes.limit ∙ limit in
         let within : now.taken ≤ script_limit = subst (λ n. now.taken ≤ n) limit_now passes.within in
         let size : (now.taken - first.taken) + (now.limit - now.taken) ≡ script_limit = omega (arith, none_taken, limit_now, within) in
@@ -296,19 +285,22 @@ module _ {R : Type 0} (state : R → SourceState) where
         ∙ h.answers.ended passes.before_end (now.limit - now.taken) ∙ ap (λ xs. h.texts ++ xs) passes.none ∙ append-nil h.texts in
         record {
           taken = take (script_limit + 1) (left state first);
-          written = replies_text (replies_on t_first h.texts p);
           taken_is = taken_all left_is;
-          written_is = h.written o;
-          promised = record {
+          counted = record {
             all = λ e. absurd (cc);
-            answered = λ c. ap replies_text (sym (replies_at now sink_first sink_now t_first t_now p done h));
-            in_part = λ e. absurd (cc);
             ended = λ e. absurd (cc);
             ended_in_limit = λ e. h.count ∙ ap length (sym ended_are) ∙ ap (λ xs. length (ended_lines (take script_limit xs))) (taken_all left_is);
-            counted = counted_by (run_replies t_first (left state first) p) (replies_on t_first h.texts p) done (replies_at now sink_first sink_now t_first t_now p done h) (length-replies_on t_first h.texts p ∙ sym h.count);
+            counted = counted_by (run_replies t_first (left state first) p) (replies t_first h.texts p) done (replies_at now sink_first sink_now t_first t_now p done h) (length-replies t_first h.texts p ∙ sym h.count);
             some_line = λ e. absurd (cc);
-            is_image = λ e. cc;
-            is_whole = λ e. cc;
+          };
+          written = λ o. record {
+            written = replies_text (replies t_first h.texts p);
+            written_is = h.written o;
+            promised = record {
+              all = λ e. absurd (cc);
+              answered = λ c. ap replies_text (sym (replies_at now sink_first sink_now t_first t_now p done h));
+              in_part = λ e. absurd (cc);
+            };
           };
         }
 
@@ -358,68 +350,11 @@ module _ {R : Type 0} (state : R → SourceState) where
         second_nil [] ys e = e
         second_nil (x ∷ xs) ys e = absurd (cc)
 
--- the line that a reader answered, and what it is
-pub record LineAnswered {R : Type 0} (state : R → SourceState) (line : Line) (shown : List ℕ) (a b : LineState R) : Type 0 where
-  pub text : List ℕ
-  pub is : IsLine line shown text
-  pub answers : Answers state a b (text ∷ [])
-
-pub line_answered : {R : Type 0} (state : R → SourceState) (line : Line) (shown : List ℕ) (a b : LineState R) → (line ≡ answers.End → ⊥) → shown ≡ b.text → NextLine state a b (Ok line) → LineAnswered state line shown a b
-line_answered state answers.Text shown a b other e h = record { text = b.text; is = e; answers = h }
-line_answered state answers.Long shown a b other e h = record { text = h.0; is = h.1; answers = h.2 }
-line_answered state answers.End shown a b other e h = absurd (other refl)
-
 -- the tree after one line more, whether or not its reply was written
 pub trees_next : {R : Type 0} (state : R → SourceState) (first : LineState R) (held : first.held ≡ []) (none_taken : first.taken ≡ 0) (now next : LineState R) (sink_first sink_now : SinkState) (t_first t_now t_next : Tree) (p : Parameters) (done : ℕ) (text : List ℕ)
-    → Halfway state first now sink_first sink_now t_first t_now p done → Answers state now next (text ∷ []) → t_next ≡ (served_answer t_now text p).tree
+    → Halfway state first now sink_first sink_now t_first t_now p done → Answers state now next (text ∷ []) → t_next ≡ (answer t_now text p).tree
     → run_trees t_first (left state first) p (done + 1) ≡ t_next
 trees_next state first held none_taken now next sink_first sink_now t_first t_now t_next p done text h answers tree =
-    let sink_next : SinkState = record { is_observable = true; written = sink_now.written ++ reply_text (served_answer t_now text p).reply; faults = 0 } in
+    let sink_next : SinkState = record { is_observable = true; written = sink_now.written ++ reply_text (answer t_now text p).reply; faults = 0 } in
     trees_at state first held none_taken next sink_first sink_next t_first t_next p (done + 1)
     (halfway_more state first now next sink_first sink_now sink_next t_first t_now t_next p done text h answers tree (λ o. refl))
-
--- ---- faults
-
-pub end_of_fault : (fault : Fault) → IsEndOfRun (fault_status fault)
-end_of_fault causes.Disk = tt
-end_of_fault causes.NoMemory = tt
-
-pub disk_fault : (fault : Fault) → fault_status fault ≡ statuses.DiskFault → fault ≡ causes.Disk
-disk_fault causes.Disk e = refl
-disk_fault causes.NoMemory e = absurd (cc)
-
-pub no_source_fault : (fault : Fault) → fault_status fault ≡ statuses.SourceFault → ⊥
-no_source_fault causes.Disk e = cc
-no_source_fault causes.NoMemory e = cc
-
-pub no_sink_fault : (fault : Fault) → fault_status fault ≡ statuses.SinkFault → ⊥
-no_sink_fault causes.Disk e = cc
-no_sink_fault causes.NoMemory e = cc
-
-pub not_too_long : (fault : Fault) → fault_status fault ≡ statuses.TooLong → ⊥
-not_too_long causes.Disk e = cc
-not_too_long causes.NoMemory e = cc
-
-pub not_done : (fault : Fault) → fault_status fault ≡ statuses.Done → ⊥
-not_done causes.Disk e = cc
-not_done causes.NoMemory e = cc
-
-pub memory_fault : (fault : Fault) → (fault_status fault ≡ statuses.DiskFault → ⊥) → fault ≡ causes.NoMemory
-memory_fault causes.Disk other = absurd (other refl)
-memory_fault causes.NoMemory other = refl
-
-pub at_err : {T E P : Type 0} (r : Result T E) → is_err r ≡ true → OnErr r P → P
-at_err (Ok x) h p = absurd (cc)
-at_err (Err x) h p = p
-
-pub at_ok : {T E P : Type 0} (r : Result T E) → is_err r ≡ false → OnOk r P → P
-at_ok (Ok x) h p = p
-at_ok (Err x) h p = absurd (cc)
-
--- ---- the end of a loop over lines
-
--- a line that was answered leaves fewer bytes to come
-pub falls_line : {R : Type 0} (old new : LineState R) (line : Line) → (line ≡ answers.End → ⊥) → Falls old new line → unread new < unread old
-falls_line old new answers.Text other falls = falls
-falls_line old new answers.Long other falls = falls
-falls_line old new answers.End other falls = absurd (other refl)

@@ -1,5 +1,5 @@
 -- Lemmas on the words that are served.
-use Rattle.std.proofs.Common.{◌≡◌, ◌≢◌, ℕ, ◌<◌, ◌≤◌, List, [], ◌∷◌, length, Bool, true, false, cond, ◌&&◌, Option, Some, None, eqb, leb, refl, sym, ap, ◌∙◌, inl, inr, ◌⊎◌, ⊎_elim, arith, codes, if◌then◌else◌, Result, Ok, Err, IsOk, IfOk, ◌↔◌}
+use Rattle.std.proofs.Common.{◌≡◌, ◌≢◌, ℕ, ◌<◌, ◌≤◌, List, [], ◌∷◌, length, Bool, true, false, cond, ◌&&◌, Option, Some, None, eqb, leb, refl, sym, ap, ◌∙◌, ⊎_elim, arith, codes, if◌then◌else◌, Result, Ok, Err, IsOk, IfOk, ◌↔◌}
 use Rattle.std.specs.Option.{option_map}
 use Rattle.std.specs.Cmp.Lexicographic.{bytes_decides}
 use Rattle.std.specs.Result.{result_ok, OkIff}
@@ -10,9 +10,9 @@ use Rattle.hex.proofs.HexLemmas.{decode_sized-twice, decode_sized-ok}
 use Rattle.store_model.specs.Parameters.{Parameters, IsParameters, slots_limit}
 use Rattle.store_model.specs.declared.draw_kind.DrawKind.{DrawKind}
 use Rattle.store_model.specs.Lists.{IsBytes, same_bytes}
-use Rattle.store_model.specs.Grammar.{number_of, ◌>>=◌, ok_value, on_word}
+use Rattle.store_model.specs.Grammar.{number_of, ◌>>=◌, ok_value}
 use Rattle.store_model.specs.Words.{Request, request_of, number_in, kind_of_word, seed_of_word}
-use Rattle.store_model.specs.Words.Request.{Format, Run, Check, Scrub, Wipe, Big}
+use Rattle.store_model.specs.Words.Request.{Format, Big}
 use Rattle.store_model.proofs.ListsLemmas.{first_true, second_true}
 use Rattle.store_top.specs.ServedWords.{served_request, served}
 
@@ -134,20 +134,14 @@ pub made_request : {E : Type 0} (r : Result Parameters E) (a b k s : List ℕ) (
 made_request r a b k s n h kind seed slots height draw digits size bytes exact value =
     rw (asked a b k s, number_in_some 1 slots_limit n a slots, number_in_some 1 8 h b height, draw, digits) (made r n h kind seed size bytes exact value)
 
--- a single word is served where it is `run`
-pub single_word : (w : List ℕ) → served_request (w ∷ []) ≡ (if same_bytes w (codes "run") then Some Run else None)
+not_same : (xs ys : List ℕ) → xs ≢ ys → same_bytes xs ys ≡ false
+not_same xs ys other = ⊎_elim (λ yes. absurd (other ((bytes_decides xs ys).0 yes))) (λ no. no) (cases_Bool (same_bytes xs ys))
+
+-- another single word than these is not served
+pub other_single : (w : List ℕ) → w ≢ codes "run" → w ≢ codes "check" → w ≢ codes "scrub" → w ≢ codes "wipe" → served_request (w ∷ []) ≡ None
 unfolding served_request request_of
-single_word w =
-    elim (same_bytes w (codes "run")) as (λ b. ((cond b (Some Run) (on_word w (codes "check") (Some Check) (on_word w (codes "scrub") (Some Scrub) (on_word w (codes "wipe") (Some Wipe) None)))) >>= served) ≡ cond b (Some Run) None) [
-      | true ↦ refl
-      | false ↦ elim (same_bytes w (codes "check")) as (λ b. ((cond b (Some Check) (on_word w (codes "scrub") (Some Scrub) (on_word w (codes "wipe") (Some Wipe) None))) >>= served) ≡ None) [
-        | true ↦ refl
-        | false ↦ elim (same_bytes w (codes "scrub")) as (λ b. ((cond b (Some Scrub) (on_word w (codes "wipe") (Some Wipe) None)) >>= served) ≡ None) [
-          | true ↦ refl
-          | false ↦ elim (same_bytes w (codes "wipe")) as (λ b. ((cond b (Some Wipe) None) >>= served) ≡ None) [ true ↦ refl | false ↦ refl ]
-        ]
-      ]
-    ]
+other_single w run check scrub wipe =
+    rw (not_same w (codes "run") run, not_same w (codes "check") check, not_same w (codes "scrub") scrub, not_same w (codes "wipe") wipe) refl
 
 big_is_none : (b : Bool) (o q : Option ℕ) → ((cond b (o >>= λ n. q >>= λ k. Some (Big n k)) None) >>= served) ≡ None
 big_is_none true None q = refl
@@ -189,9 +183,6 @@ seed_decoded w r e =
     (λ h. ap result_ok (decode_sized-twice w 32 (eqb-true _ _ h)) ∙ same_value (decode_of w) ∙ sym (seed_right w h))
     (λ h. no_value (decode_sized w 32) (λ bytes q. false≢true (sym h ∙ eq-eqb _ _ (decode_sized-ok w 32 bytes q))) ∙ sym (seed_wrong w h))
     (cases_Bool (eqb (length w) 64))
-
-not_same : (xs ys : List ℕ) → xs ≢ ys → same_bytes xs ys ≡ false
-not_same xs ys other = ⊎_elim (λ yes. absurd (other ((bytes_decides xs ys).0 yes))) (λ no. no) (cases_Bool (same_bytes xs ys))
 
 -- a word that is neither of the two names no draw
 pub other_kind : (w : List ℕ) → w ≢ codes "ruler" → w ≢ codes "sha256" → kind_of_word w ≡ None

@@ -14,24 +14,9 @@ use Rattle.disk_model.specs.DiskCalls.{LeavesOnly}
 use Rattle.script_lines.specs.Lines.{ended_lines}
 use Rattle.store_top.specs.declared.status.Status.{Status}
 use Rattle.store_top.specs.declared.status.Status.TheVariants as statuses
-use Rattle.store_top.specs.Disks.{Stands, IsOnlySynced}
-
--- the call ended before the script did, and not because of the sink: by the source, the disk, the script's length or
--- want of memory
-abbrev pub IsCutShort : Status → Type 0
-IsCutShort statuses.SourceFault = Unit {0}
-IsCutShort statuses.DiskFault = Unit {0}
-IsCutShort statuses.TooLong = Unit {0}
-IsCutShort statuses.NoMemory = Unit {0}
-IsCutShort _ = ⊥
-
--- the call ended between two lines or after the last, with its disk whole
-abbrev pub IsBetweenLines : Status → Type 0
-IsBetweenLines statuses.Done = Unit {0}
-IsBetweenLines statuses.SourceFault = Unit {0}
-IsBetweenLines statuses.SinkFault = Unit {0}
-IsBetweenLines statuses.TooLong = Unit {0}
-IsBetweenLines _ = ⊥
+use Rattle.gate_journal.specs.Disks.{IsOnlySynced}
+use Rattle.store_core.specs.Standing.{Stands}
+use Rattle.store_top.specs.Statuses.{IsBetweenLines, IsCutShort}
 
 -- some bytes of a text, from its front on
 pub record IsFrontOf (part text : List ℕ) : Type 0 where
@@ -44,15 +29,20 @@ pub record WroteInPart (done : ℕ) (replies : List Reply) (written : List ℕ) 
   pub front : IsFrontOf part (replies_text (take 1 (drop (done - 1) replies)))
   pub written_is : written ≡ replies_text (take (done - 1) replies) ++ part
 
--- The replies that were written. `written` is what was appended to the sink, `taken` what was taken from the source and
--- `left` what is left there.
-pub record PromisesReplies (status : Status) (done : ℕ) (replies : List Reply) (written taken left : List ℕ) : Type 0 where
-  -- the source is at its end, and each line was answered
-  pub all : status ≡ statuses.Done → (left ≡ []) × (done ≡ length replies) × (written ≡ replies_text replies)
+-- The replies that were written to a sink that tells it.
+pub record PromisesReplies (status : Status) (done : ℕ) (replies : List Reply) (written : List ℕ) : Type 0 where
+  -- each line was answered
+  pub all : status ≡ statuses.Done → written ≡ replies_text replies
   -- the lines that were carried out were answered
   pub answered : IsCutShort status → written ≡ replies_text (take done replies)
   -- so they were but for the last of them, and of its reply there is a part
   pub in_part : status ≡ statuses.SinkFault → WroteInPart done replies written
+
+-- The lines that were carried out, whatever the sink tells. `taken` is what was taken from the source and `left` what is left
+-- there.
+pub record CountsReplies (status : Status) (done : ℕ) (replies : List Reply) (taken left : List ℕ) : Type 0 where
+  -- the source is at its end, and each line was carried out
+  pub all : status ≡ statuses.Done → (left ≡ []) × (done ≡ length replies)
   -- each line that was ended among the bytes taken was carried out; of a script that is too long, among as many as it
   -- may have
   pub ended : status ≡ statuses.SourceFault → done ≡ length (ended_lines taken)
@@ -60,9 +50,12 @@ pub record PromisesReplies (status : Status) (done : ℕ) (replies : List Reply)
   -- no more lines were carried out than there are, and the reply that could not be written was that of one of them
   pub counted : done ≤ length replies
   pub some_line : status ≡ statuses.SinkFault → 1 ≤ done
-  -- the image is one
-  pub is_image : status ≡ statuses.NotImage → ⊥
-  pub is_whole : status ≡ statuses.Damaged → ⊥
+
+-- the disk reads as an image of some tree
+pub record RepresentsSome (disk : DiskState) : Type 0 where
+  pub tree : Tree
+  pub params : Parameters
+  pub represents : Represents disk.bytes tree params
 
 -- The image, on a disk that was in one state before the call and is in another after it.
 pub record PromisesImage (status : Status) (done : ℕ) (trees : ℕ → Tree) (old new : DiskState) (p : Parameters) : Type 0 where

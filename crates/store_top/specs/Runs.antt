@@ -1,66 +1,63 @@
--- What answering a script does: the replies and trees of its lines, and what calls keep of the outside.
-use Rattle.std.specs.Prelude.{◌≡◌, ℕ, ◌+◌, ◌<◌, ◌≤◌, List, [], ◌++◌, length, take}
+-- What answering a script does: the replies and trees of its lines, and what a loop over them leaves.
+use Rattle.std.specs.Prelude.{◌≡◌, ◌⊎◌, ℕ, ◌+◌, ◌≤◌, true, false, List, [], ◌++◌, length, take, Result, Ok, Err, IfOk, nat_lt, if◌then◌else◌, Option, Some, None, ◌<◌, IsTrue, ◌↔◌, IsOk, IsOkAnd, ◌∷◌}
+use Rattle.store_model.specs.declared.refusal.Refusal.{Refusal}
+use Rattle.store_model.specs.declared.refusal.Refusal.TheVariants as refusals
 use Rattle.store_model.specs.Parameters.{Parameters}
 use Rattle.store_model.specs.Trees.{Tree}
-use Rattle.store_model.specs.Commands.{Reply}
-use Rattle.store_model.specs.Scripts.{lines, line_limit, replies_by, tree_by, script_limit}
+use Rattle.store_model.specs.Images.{Represents}
+use Rattle.store_model.specs.Commands as model
+use Rattle.store_model.specs.Commands.Reply.{Refused}
+use Rattle.store_model.specs.Grammar.{parse}
+use Rattle.store_model.specs.Scripts.{lines, line_limit, script_limit, replies, tree_after}
+use Rattle.disk_model.specs.DiskState.{DiskState}
+use Rattle.disk_model.specs.DiskState as disks
+use Rattle.gate_journal.specs.Places.{ReadsOnly}
 use Rattle.script_lines.specs.SourceState.{SourceState}
+use Rattle.script_lines.specs.SourceState as sources
 use Rattle.script_lines.specs.SinkState.{SinkState}
-use Rattle.script_lines.specs.declared.lines.Line.{Line}
-use Rattle.script_lines.specs.declared.lines.Line.TheVariants as answers
+use Rattle.script_lines.specs.SinkState as sinks
+use Rattle.script_lines.specs.LineState.{LineState, KeepsSource, Answers, FailsBetween, PassesLimit, to_come, unread}
+use Rattle.script_lines.specs.declared.lines.LineFault.{LineFault}
+use Rattle.script_lines.specs.declared.lines.LineFault.TheVariants as causes
+use Rattle.script_lines.specs.declared.command.Command.{Command}
+use Rattle.script_lines.specs.declared.reply.Reply.{Reply}
+use Rattle.script_lines.specs.Parsing.{reading_of}
+use Rattle.script_lines.specs.Replies.{reply_of}
+use Rattle.store_core.specs.declared.fault.ApplyFault.{ApplyFault}
+use Rattle.store_core.specs.Standing.{IsFitting, Stands}
+use Rattle.store_core.specs.StoreState.{StoreState}
+use Rattle.store_core.specs.StoreCalls.{Applies}
 use Rattle.store_top.specs.declared.status.Status.{Status}
 use Rattle.store_top.specs.declared.status.Status.TheVariants as statuses
-use Rattle.disk_model.specs.DiskState.{DiskState}
-use Rattle.store_top.specs.Disks.{KeepsDisk}
-use Rattle.store_top.specs.Faults.{disk_faults_by, source_faults_by, sink_faults_by}
-use Rattle.store_top.specs.ServedLines.{served_answer}
-use Rattle.store_top.specs.Promises.{PromisesReplies}
+use Rattle.store_top.specs.Costs.{CountsLines}
+use Rattle.store_top.specs.Outside.{KeepsOutside}
+use Rattle.store_top.specs.Promises.{PromisesReplies, CountsReplies, PromisesCrashes}
+use Rattle.store_top.specs.Statuses.{IsEndOfRun}
 
 -- the replies to the lines of a script
-abbrev pub run_replies : Tree → List ℕ → Parameters → List Reply
-run_replies t script p = replies_by (λ u text. served_answer u text p) t (lines script)
+abbrev pub run_replies : Tree → List ℕ → Parameters → List model.Reply
+run_replies t script p = replies t (lines script) p
 
 -- the tree after so many of its lines; after the last of them it stays
 abbrev pub run_trees : Tree → List ℕ → Parameters → ℕ → Tree
-run_trees t script p k = tree_by (λ u text. served_answer u text p) t (take k (lines script))
-
--- the line that a reader answered, of which it shows this text
-abbrev pub IsLine : Line → List ℕ → List ℕ → Type 0
-IsLine answers.Text shown text = shown ≡ text
-IsLine answers.Long shown text = line_limit < length text
-IsLine answers.End shown text = ⊥
-
--- how answering a script can end
-abbrev pub IsEndOfRun : Status → Type 0
-IsEndOfRun statuses.Done = Unit {0}
-IsEndOfRun statuses.SourceFault = Unit {0}
-IsEndOfRun statuses.SinkFault = Unit {0}
-IsEndOfRun statuses.DiskFault = Unit {0}
-IsEndOfRun statuses.TooLong = Unit {0}
-IsEndOfRun statuses.NoMemory = Unit {0}
-IsEndOfRun _ = ⊥
+run_trees t script p k = tree_after t (take k (lines script)) p
 
 -- the tree after each of the first lines is that before them
 abbrev pub IsUnchanged : (ℕ → Tree) → ℕ → Type 0
 IsUnchanged trees done = (k : ℕ) → k ≤ done → trees k ≡ trees 0
 
--- What a call that ended so leaves of the disk, the source and the sink, whatever they are: each tells its bytes where it
--- did, the disk has its size, no count of it fell, and one call failed at most, which the status tells.
-pub record KeepsOutside (status : Status) (disk disk_new : DiskState) (source source_new : SourceState) (sink sink_new : SinkState) : Type 0 where
-  pub disk_kept : KeepsDisk disk disk_new
-  pub source_observable : source_new.is_observable ≡ source.is_observable
-  pub sink_observable : sink_new.is_observable ≡ sink.is_observable
-  pub disk_faults : disk_new.faults ≡ disk_faults_by status disk.faults
-  pub source_faults : source_new.faults ≡ source_faults_by status source.faults
-  pub sink_faults : sink_new.faults ≡ sink_faults_by status sink.faults
-
--- a call that ended so took these bytes from the source and wrote these to the sink, as is promised of the replies
-pub record RepliesKept (status : Status) (done : ℕ) (replies : List Reply) (source_old source_new : SourceState) (sink_old sink_new : SinkState) : Type 0 where
-  pub taken : List ℕ
+-- a call that ended so wrote these bytes to the sink, as is promised of the replies
+pub record WritesReplies (status : Status) (done : ℕ) (replies : List model.Reply) (old new : SinkState) : Type 0 where
   pub written : List ℕ
+  pub written_is : new.written ≡ old.written ++ written
+  pub promised : PromisesReplies status done replies written
+
+-- It took these bytes from the source and carried out so many lines, and the replies were written to a sink that tells it.
+pub record RepliesKept (status : Status) (done : ℕ) (replies : List model.Reply) (source_old source_new : SourceState) (sink_old sink_new : SinkState) : Type 0 where
+  pub taken : List ℕ
   pub taken_is : source_old.left ≡ taken ++ source_new.left
-  pub written_is : sink_new.written ≡ sink_old.written ++ written
-  pub promised : PromisesReplies status done replies written taken source_new.left
+  pub counted : CountsReplies status done replies taken source_new.left
+  pub written : sinks.IsObservable sink_old → WritesReplies status done replies sink_old sink_new
 
 -- so many bytes were taken from the source
 pub record HasTaken (count : ℕ) (old new : SourceState) : Type 0 where
@@ -74,3 +71,78 @@ pub record KeepsLimit (status : Status) (old new : SourceState) : Type 0 where
   pub too_long : status ≡ statuses.TooLong → HasTaken (script_limit + 1) old new
   pub within : (status ≡ statuses.TooLong → ⊥) → (count : ℕ) × (count ≤ script_limit) × HasTaken count old new
   pub whole : status ≡ statuses.Done → new.left ≡ []
+
+-- ---- one line
+
+-- what a line asks for: a line of more than 8,192 bytes is refused with `long`
+unfoldable pub reading : List ℕ → Result model.Command Refusal
+reading text = if nat_lt line_limit (length text) then Err refusals.Long else parse text
+
+module _ {R : Type 0} (source_of : R → SourceState) where
+  -- what was read of a source that tells its bytes: the next line, its end, or none for a fault
+  abbrev pub NextReading : LineState R → LineState R → Result (Option (Result Command Refusal)) LineFault → Type 0
+  NextReading old new (Ok (Some asked)) = (text : List ℕ) × (reading_of asked ≡ reading text) × Answers source_of old new (text ∷ [])
+  NextReading old new (Ok None) = Answers source_of old new [] × (to_come source_of new ≡ [])
+  NextReading old new (Err causes.Source) = FailsBetween source_of old new
+  NextReading old new (Err causes.TooLong) = PassesLimit source_of old new
+
+  -- the bytes that may still come fall where a line was read
+  abbrev pub FallsAt : LineState R → LineState R → Option (Result Command Refusal) → Type 0
+  FallsAt old new (Some asked) = unread new < unread old
+  FallsAt old new None = unread new ≤ unread old
+
+  -- The next line is read, with what it asks for.
+  pub record ReadsLine (old new : LineState R) (result : Result (Option (Result Command Refusal)) LineFault) : Type 0 where
+    pub source : KeepsSource (source_of old.source) (source_of new.source) result
+    pub live : IsTrue new.is_live ↔ IsOk result
+    pub limit : new.limit ≡ old.limit
+    pub in_limit : new.taken ≤ new.limit
+    pub falls : IfOk result (FallsAt old new)
+    pub next : sources.IsObservable (source_of old.source) → NextReading old new result
+
+-- a line was refused: nothing was called, and nothing changed
+pub record IsRefusedLine {D : Type 0} (refusal : Refusal) (old new : StoreState D) (result : Result Reply ApplyFault) : Type 0 where
+  pub reply : IsOkAnd result (λ reply. reply_of reply ≡ Refused refusal)
+  pub same : new ≡ old
+
+module _ {D : Type 0} (disk_of : D → DiskState) where
+  -- What a line asks for is answered: a command is carried out, and a refusal is the reply.
+  abbrev pub AnswersReading : Result model.Command Refusal → StoreState D → StoreState D → Result Reply ApplyFault → Type 0
+  AnswersReading (Ok command) old new result = Applies disk_of command old new result
+  AnswersReading (Err refusal) old new result = IsRefusedLine refusal old new result
+
+-- ---- all lines
+
+-- A reader of which nothing was read yet.
+pub record IsUnread {R : Type 0} (reader : LineState R) : Type 0 where
+  pub held : reader.held ≡ []
+  pub taken : reader.taken ≡ 0
+  pub limit : reader.limit ≡ script_limit
+  pub live : reader.is_live ≡ true
+
+-- A store that is ready for lines.
+pub record IsReady {D : Type 0} (disk_of : D → DiskState) (store : StoreState D) : Type 0 where
+  pub runs : store.is_stopped ≡ false
+  pub fitting : IsFitting store.tree store.params
+  pub stands : disks.IsObservable (disk_of store.disk) → Stands (disk_of store.disk) store.tree store.params
+
+-- What so many lines did to an observable disk, over the trees of the run.
+pub record ChangesByLines (status : Status) (done : ℕ) (trees : ℕ → Tree) (p : Parameters) (old new : DiskState) : Type 0 where
+  -- it stands at the tree after them; where the disk failed it represents that or the tree after the next line
+  pub stands : (status ≡ statuses.DiskFault → ⊥) → Stands new (trees done) p
+  pub fault : status ≡ statuses.DiskFault → Represents new.bytes (trees done) p ⊎ Represents new.bytes (trees (done + 1)) p
+  pub crashes : PromisesCrashes status done trees old new p
+  -- lines that change nothing only read it; the others write and sync just the commits of the slots that differ
+  pub quiet : (status ≡ statuses.DiskFault → ⊥) → IsUnchanged trees done → ReadsOnly old new
+  pub counts : CountsLines status done trees p old new
+
+-- The lines of a script were answered, from a store on, and the call ended so, with so many lines carried out.
+pub record AnswersLines {D R W : Type 0} (disk_of : D → DiskState) (source_of : R → SourceState) (sink_of : W → SinkState) (status : Status) (done : ℕ)
+    (store store_new : StoreState D) (reader reader_new : LineState R) (sink sink_new : W) : Type 0 where
+  pub ends : IsEndOfRun status
+  pub outside : KeepsOutside status (disk_of store.disk) (disk_of store_new.disk) (source_of reader.source) (source_of reader_new.source) (sink_of sink) (sink_of sink_new)
+  pub limit : sources.IsObservable (source_of reader.source) → KeepsLimit status (source_of reader.source) (source_of reader_new.source)
+  pub replies : sources.IsObservable (source_of reader.source) → disks.IsObservable (disk_of store.disk)
+      → RepliesKept status done (run_replies store.tree (source_of reader.source).left store.params) (source_of reader.source) (source_of reader_new.source) (sink_of sink) (sink_of sink_new)
+  pub changes : sources.IsObservable (source_of reader.source) → disks.IsObservable (disk_of store.disk)
+      → ChangesByLines status done (run_trees store.tree (source_of reader.source).left store.params) store.params (disk_of store.disk) (disk_of store_new.disk)

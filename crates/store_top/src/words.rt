@@ -61,7 +61,7 @@ impl Words {
     {
         let words = self.words.as_slice();
         match words.len() {
-            1 => run_request(words[0].as_str()),
+            1 => single_request(words[0].as_str()),
             5 => format_request(
                 words[0].as_str(),
                 words[1].as_str(),
@@ -81,17 +81,25 @@ pub enum Request {
     Format(Params),
     /// Answers a script.
     Run,
+    /// Tells what the image is.
+    Check,
+    /// Recovers the image, and makes its free slots zero.
+    Scrub,
+    /// Makes every byte zero.
+    Wipe,
 }
 
 /// What a single word asks for.
-fn run_request(word: &str) -> Option<Request>
+fn single_request(word: &str) -> Option<Request>
     ensures value { option_map request_seen result ≡ served_request (word.now ∷ []) }
     ensures valid { IfSome result IsInRange }
 {
-    if word == "run" {
-        Some(Request::Run)
-    } else {
-        None
+    match word {
+        "run" => Some(Request::Run),
+        "check" => Some(Request::Check),
+        "scrub" => Some(Request::Scrub),
+        "wipe" => Some(Request::Wipe),
+        _ => None,
     }
 }
 
@@ -157,7 +165,7 @@ pub fn wanted_len(words: &Words) -> Result<Wanted, NoMemory>
         return Ok(Wanted::Usage);
     };
     Ok(match request {
-        Request::Run => Wanted::Existing,
+        Request::Run | Request::Check | Request::Scrub | Request::Wipe => Wanted::Existing,
         Request::Format(params) => Wanted::Fresh(image_len(params.slots())),
     })
 }

@@ -1,0 +1,108 @@
+-- What lines do to an observable disk, one after another.
+use Rattle.std.proofs.Common.{◌≡◌, ◌⊎◌, ℕ, ◌+◌, Bool, false, Result, Ok, Err, refl, sym, subst, ◌∙◌, arith}
+use Rattle.store_model.specs.Parameters.{Parameters}
+use Rattle.store_model.specs.Trees.{Tree}
+use Rattle.store_model.specs.Images.{Represents}
+use Rattle.store_model.specs.Commands.{Command}
+use Rattle.store_model.specs.Scripts.{answer_by}
+use Rattle.store_model.specs.declared.refusal.Refusal.{Refusal}
+use Rattle.disk_model.specs.DiskState.{DiskState, IsObservable, IsSound}
+use Rattle.disk_model.specs.DiskCalls.{LeavesOnly}
+use Rattle.disk_model.proofs.Crashes.{LeavesOnly-trans, LeavesOnly-weaken, MayLeaveOnly-end}
+use Rattle.gate_journal.specs.Places.{Made, ReadsOnly}
+use Rattle.gate_journal.specs.Costs.{commit_writes, commit_syncs}
+use Rattle.gate_journal.proofs.Reading.{ReadsOnly-refl, ReadsOnly-trans}
+use Rattle.script_lines.specs.declared.reply.Reply.{Reply}
+use Rattle.store_core.specs.declared.fault.ApplyFault.TheVariants as apply
+use Rattle.store_core.specs.Standing.{IsFitting, Stands}
+use Rattle.store_core.specs.StoreCalls.{ChangesImage}
+use Rattle.store_core.specs.StoreState.{StoreState}
+use Rattle.store_core.proofs.CostLemmas.{made_none, none_between}
+use Rattle.store_core.proofs.Unchanged.{standing_represents, stands_reading}
+use Rattle.store_top.specs.declared.status.Status.{Status}
+use Rattle.store_top.specs.declared.status.Status.TheVariants as statuses
+use Rattle.store_top.specs.Costs.{run_writes, run_syncs}
+use Rattle.store_top.specs.Promises.{RepresentsOneOf}
+use Rattle.store_top.specs.Runs.{AnswersReading, ChangesByLines, IsUnchanged}
+use Rattle.store_top.proofs.CostLemmas.{lines_more, lines_fault, lines_reading, lines_whole}
+use Rattle.store_top.proofs.CrashLemmas.{crash_start, crash_more, crash_still, crashes_between, crashes_fault}
+
+-- What the lines that were carried out so far did to it.
+pub record DiskSoFar (trees : ℕ → Tree) (p : Parameters) (done : ℕ) (first now : DiskState) : Type 0 where
+  pub stands : Stands now (trees done) p
+  pub crash : LeavesOnly first now (RepresentsOneOf trees done p)
+  pub quiet : IsUnchanged trees done → ReadsOnly first now
+  pub counts : Made (run_writes p trees done) (run_syncs p trees done) first now
+
+module _ (trees : ℕ → Tree) (p : Parameters) where
+  -- before the first line
+  pub disk_start : (disk : DiskState) → IsSound disk → IsFitting (trees 0) p → Stands disk (trees 0) p → DiskSoFar trees p 0 disk disk
+  disk_start disk sound fit stands = record {
+    stands = stands;
+    crash = crash_start trees p disk (trees 0) sound (λ image gone. standing_represents (trees 0) p image fit (stands.durable image gone ∙ stands.layout_is)) refl;
+    quiet = λ all. ReadsOnly-refl disk sound;
+    counts = made_none disk;
+  }
+
+  module _ (n : ℕ) (first now : DiskState) (so_far : DiskSoFar trees p n first now) where
+    -- reads, for a line that is not carried out
+    pub disk_reading : (next : DiskState) → IsSound now → ReadsOnly now next → DiskSoFar trees p n first next
+    disk_reading next sound reads = record {
+      stands = stands_reading now next (trees n) p reads so_far.stands;
+      crash = LeavesOnly-trans first now next (RepresentsOneOf trees n p) so_far.crash
+          (LeavesOnly-weaken now next now.crash_images (RepresentsOneOf trees n p) (MayLeaveOnly-end first now (RepresentsOneOf trees n p) sound so_far.crash) reads.leaves);
+      quiet = λ all. ReadsOnly-trans first now next (so_far.quiet all) reads;
+      counts = lines_reading p trees n first now next so_far.counts reads;
+    }
+
+    -- a line that leaves the tree, and of which the disk is not asked
+    pub disk_still : trees (n + 1) ≡ trees n → DiskSoFar trees p (n + 1) first now
+    disk_still same = record {
+      stands = subst (λ (t : Tree). Stands now t p) (sym same) so_far.stands;
+      crash = crash_still trees n p first now so_far.crash;
+      quiet = λ all. so_far.quiet (λ k low. all k (omega arith));
+      counts = lines_more p trees n first now now (trees n) (trees (n + 1)) so_far.counts refl refl
+          (subst (λ k. Made (commit_writes k) (commit_syncs k) now now) (sym (none_between p (trees n) (trees (n + 1)) same)) (made_none now));
+    }
+
+    module _ {T : Type 0} (next : DiskState) (t u : Tree) (is_stopped : Bool) (here : trees n ≡ t) (after : trees (n + 1) ≡ u) where
+      -- a command that was carried out
+      pub disk_more : (value : T) → ChangesImage t u p now next is_stopped (Ok value) → DiskSoFar trees p (n + 1) first next
+      disk_more value change = record {
+        stands = subst (λ (v : Tree). Stands next v p) (sym after) change.stands;
+        crash = crash_more trees n p first now next t u so_far.crash change.crash here after;
+        quiet = λ all. ReadsOnly-trans first now next (so_far.quiet (λ k low. all k (omega arith))) (change.still (sym after ∙ all (n + 1) (omega arith) ∙ sym (all n (omega arith)) ∙ here));
+        counts = lines_more p trees n first now next t u so_far.counts here after change.counts.made;
+      }
+
+      -- one in which the disk failed
+      pub changes_fault : IsSound next → ChangesImage {T = T} t u p now next is_stopped (Err apply.Disk) → ChangesByLines statuses.DiskFault n trees p first next
+      changes_fault sound change = record {
+        stands = λ e. absurd (e refl);
+        fault = λ e. subst (λ (v : Tree). Represents next.bytes v p ⊎ Represents next.bytes (trees (n + 1)) p) (sym here)
+            (subst (λ (v : Tree). Represents next.bytes t p ⊎ Represents next.bytes v p) (sym after) change.reads);
+        crashes = crashes_fault n trees first now next p t u so_far.crash change.crash sound here after;
+        quiet = λ e all. absurd (e refl);
+        counts = lines_fault p trees n first now next t u so_far.counts here after change.counts.limit;
+      }
+
+    -- the call ends otherwise than by a fault of the disk
+    pub changes_whole : (status : Status) → (status ≡ statuses.DiskFault → ⊥) → ChangesByLines status n trees p first now
+    changes_whole status other = record {
+      stands = λ e. so_far.stands;
+      fault = λ e. absurd (other e);
+      crashes = crashes_between status n trees first now p other so_far.crash so_far.stands;
+      quiet = λ e all. so_far.quiet all;
+      counts = lines_whole status n trees p first now other so_far.counts;
+    }
+
+  -- a line that was answered
+  pub disk_answered : {D : Type 0} (disk_of : D → DiskState) (n : ℕ) (first : DiskState) (m : Result Command Refusal) (old new : StoreState D) (reply : Reply)
+      → old.is_stopped ≡ false → IsObservable (disk_of old.disk) → old.params ≡ p → AnswersReading disk_of m old new (Ok reply)
+      → trees n ≡ old.tree → trees (n + 1) ≡ (answer_by old.tree m old.params).tree → DiskSoFar trees p n first (disk_of old.disk) → DiskSoFar trees p (n + 1) first (disk_of new.disk)
+  disk_answered disk_of n first (Ok c) old new reply runs observable params applies here after so_far =
+      let u : Tree = (answer_by old.tree (Ok c) old.params).tree in
+      disk_more n first (disk_of old.disk) so_far (disk_of new.disk) old.tree u new.is_stopped here after reply
+      (subst (λ (q : Parameters). ChangesImage old.tree u q (disk_of old.disk) (disk_of new.disk) new.is_stopped (Ok reply)) params (applies.observed observable runs))
+  disk_answered {D} disk_of n first (Err refusal) old new reply runs observable params refused here after so_far =
+      subst (λ (x : StoreState D). DiskSoFar trees p (n + 1) first (disk_of x.disk)) (sym refused.same) (disk_still n first (disk_of old.disk) so_far (after ∙ sym here))
