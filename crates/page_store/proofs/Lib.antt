@@ -1,0 +1,15 @@
+pub mod CarriedLemmas
+pub mod CarryLemmas
+pub mod ChangeLemmas
+pub mod CommitLemmas
+pub mod DifferLemmas
+pub mod FindLemmas
+pub mod LayingLemmas
+pub mod LookupLemmas
+pub mod OverlayLemmas
+pub mod ScanLemmas
+pub mod SettleLemmas
+pub mod SlotLemmas
+pub mod StagedCalls
+pub mod StagedLemmas
+pub mod TreeLayouts

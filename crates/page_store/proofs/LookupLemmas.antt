@@ -1,0 +1,64 @@
+-- Lemmas on what is found of a label.
+use Rattle.std.proofs.Common.{◌≡◌, ℕ, Bool, List, Option, Some, None, Result, Ok, Err, is_some, slice_get, refl, sym, ap, ◌∙◌}
+use Rattle.std.proofs.lemmas.Option.{same_Some}
+use Rattle.std.specs.Map.{lookup}
+use Rattle.std.specs.BTreeMap.{is_at}
+use Rattle.store_model.specs.Labels.{Label, label_bytes, label_cmp}
+use Rattle.store_model.specs.Draws.{Draw}
+use Rattle.store_model.specs.Pages.{Page, IsPage}
+use Rattle.store_model.specs.Images.{page_bytes, slot_bytes}
+use Rattle.store_model.specs.PageMaps.{PageMap, page_at}
+use Rattle.store_base.specs.declared.store_fault.Fault.{Fault}
+use Rattle.store_base.specs.SlotsState.{SlotsState, IsGet}
+use Rattle.store_base.proofs.SlotsCalls.{AreSlotCalls-none, AreSlotCalls-then, AreSlotCalls-value, IsObservable-later}
+use Rattle.page_store.specs.Staging.{Changes, with_changes}
+use Rattle.page_store.specs.Lookups.{Locates, Reads, ReadsChanged, Finds}
+use Rattle.page_store.proofs.ChangeLemmas.{page_or, page_at-with_changes}
+
+-- the page in the slot that was found
+pub page_read : (d : Draw) (old mid new : SlotsState) (l : Label) (at : ℕ) (buffer : List ℕ) (page : Option Page) → Locates d old mid l (Ok (Some at)) → IsGet {T = Unit {0}} mid new at buffer (Ok tt)
+    → ((p : Page) → IsPage p → page_bytes p ≡ buffer → page ≡ Some p) → Reads d old new l (Ok page)
+unfolding slot_bytes
+page_read d old mid new l at buffer page located got only = record {
+  calls = AreSlotCalls-then old mid new (Some at) (Ok page) located.calls (AreSlotCalls-value mid new tt page got.calls);
+  reads = λ observable. (got.observed (IsObservable-later old mid (Ok (Some at)) located.calls observable)).slots ∙ located.reads observable;
+  found = λ m observable holds.
+      let there = (located.found m observable holds).slot in
+      let shows = (got.observed (IsObservable-later old mid (Ok (Some at)) located.calls observable)).got in
+      let bytes : slot_bytes (Some there.page) ≡ buffer = same_Some (slot_bytes (Some there.page)) buffer (sym there.in_slot ∙ ap (λ (ss : List (List ℕ)). slice_get ss at) (sym (located.reads observable)) ∙ shows) in
+      only there.page (holds.pages (label_bytes l) there.page there.in_map).valid bytes ∙ sym there.in_map;
+}
+
+-- where something is staged under the label
+staged_is : (m : PageMap) (changes : Changes) (l : Label) (page : Option Page) → Some page ≡ lookup (is_at (label_cmp l)) changes → page ≡ page_at (with_changes m changes) l
+staged_is m changes l page staged = ap (λ (o : Option (Option Page)). page_or o (page_at m l)) staged ∙ sym (page_at-with_changes m changes l)
+
+pub staged_read : (d : Draw) (slots : SlotsState) (changes : Changes) (l : Label) (page : Option Page) → Some page ≡ lookup (is_at (label_cmp l)) changes → ReadsChanged d slots slots changes l (Ok page)
+staged_read d slots changes l page staged = record { calls = AreSlotCalls-none slots page; reads = λ observable. refl; found = λ m observable holds. staged_is m changes l page staged }
+
+pub staged_found : (d : Draw) (slots : SlotsState) (changes : Changes) (l : Label) (page : Option Page) (is_there : Bool) → Some page ≡ lookup (is_at (label_cmp l)) changes → is_there ≡ is_some page → Finds d slots slots changes l (Ok is_there)
+staged_found d slots changes l page is_there staged is = record { calls = AreSlotCalls-none slots is_there; reads = λ observable. refl; found = λ m observable holds. is ∙ ap is_some (staged_is m changes l page staged) }
+
+-- where nothing is
+settled_is : (m : PageMap) (changes : Changes) (l : Label) → None ≡ lookup (is_at (label_cmp l)) changes → page_at m l ≡ page_at (with_changes m changes) l
+settled_is m changes l none = ap (λ (o : Option (Option Page)). page_or o (page_at m l)) none ∙ sym (page_at-with_changes m changes l)
+
+pub settled_read : (d : Draw) (old new : SlotsState) (changes : Changes) (l : Label) (result : Result (Option Page) Fault) → None ≡ lookup (is_at (label_cmp l)) changes → Reads d old new l result → ReadsChanged d old new changes l result
+settled_read d old new changes l (Ok page) none read = record { calls = read.calls; reads = read.reads; found = λ m observable holds. read.found m observable holds ∙ settled_is m changes l none }
+settled_read d old new changes l (Err fault) none read = record { calls = read.calls; reads = read.reads; found = λ m observable holds. tt }
+
+-- whether there is a page in the slot that was found, if one was
+pub settled_found : (d : Draw) (old new : SlotsState) (changes : Changes) (l : Label) (found : Option ℕ) (is_there : Bool) → None ≡ lookup (is_at (label_cmp l)) changes → Locates d old new l (Ok found) → is_there ≡ is_some found
+    → Finds d old new changes l (Ok is_there)
+settled_found d old new changes l None is_there none located is = record {
+  calls = AreSlotCalls-value old new None is_there located.calls;
+  reads = located.reads;
+  found = λ m observable holds. is ∙ ap is_some (sym ((located.found m observable holds).absent.0 refl) ∙ settled_is m changes l none);
+}
+settled_found d old new changes l (Some at) is_there none located is = record {
+  calls = AreSlotCalls-value old new (Some at) is_there located.calls;
+  reads = located.reads;
+  found = λ m observable holds.
+      let there = (located.found m observable holds).slot in
+      is ∙ ap is_some (sym there.in_map ∙ settled_is m changes l none);
+}

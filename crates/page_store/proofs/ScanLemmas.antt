@@ -1,0 +1,170 @@
+-- The loop that compares the slots that were written with those of the disk.
+use Rattle.std.proofs.Common.{◌≡◌, ◌≢◌, ℕ, ◌+◌, ◌<◌, ◌≤◌, List, [], ◌∷◌, ◌++◌, length, take, drop, Bool, false, cond, Option, Some, None, Ok, refl, sym, ap, subst, ◌∙◌, inl, inr, arith, length-append}
+use Rattle.std.specs.declared.cmp.Ordering.TheVariants.{Less}
+use Rattle.std.specs.List.{AllByRecursion}
+use Rattle.std.specs.List.Sorted.{IsStrictlySortedBy}
+use Rattle.std.specs.Map.{keys_of}
+use Rattle.std.specs.BTreeMap.{is_at}
+use Rattle.std.specs.Ordering.{nat_cmp}
+use Rattle.std.proofs.lemmas.Bool.{cases_lt}
+use Rattle.std.proofs.lemmas.Cmp.{ranked}
+use Rattle.std.proofs.lemmas.Map.Keys.{sorted_head, sorted_tail}
+use Rattle.std.proofs.lemmas.Option.{none-some}
+use Rattle.store_base.specs.declared.fault.DiskFault.{DiskFault}
+use Rattle.store_model.specs.Parameters.{table_at}
+use Rattle.disk_model.specs.DiskState.{DiskState, IsObservable, IsSound}
+use Rattle.disk_model.specs.DiskCalls.{IsRead}
+use Rattle.gate_journal.specs.Changes.{AreChanges}
+use Rattle.gate_journal.specs.Phases.{table_slot}
+use Rattle.gate_journal.specs.Places.{AreCalls, ReadsOnly}
+use Rattle.gate_journal.proofs.Calls.{AreCalls-none, AreCalls-one, AreCalls-then, observable_after}
+use Rattle.gate_journal.proofs.Reading.{ReadsOnly-refl, ReadsOnly-trans, ReadsOnly-read}
+use Rattle.page_store.specs.declared.changed.ChangedSlots.{ChangedSlots}
+use Rattle.page_store.specs.Differences.{changes_of, AreDifferences}
+use Rattle.page_store.specs.OverlayState.{touched_at, bytes_or, slot_over}
+use Rattle.page_store.specs.Preparing.{FindsChanges}
+use Rattle.page_store.proofs.OverlayLemmas.{at_itself, at_other}
+use Rattle.page_store.proofs.DifferLemmas.{last_or_below, rising_none, rising_later, rising_more, differences_none, differences_later, differences_more}
+
+-- the loop has come so far: these slots were found, of those below a bound, and the others are at or above it
+pub record IsScanning (slots : ℕ) (written : List (ℕ × List ℕ)) (old now : DiskState) (items rest : List (ℕ × List ℕ)) : Type 0 where
+  pub calls : AreCalls {T = Unit {0}} {E = DiskFault} old now (Ok tt)
+  pub reads : IsObservable old → ReadsOnly old now
+  pub sorted : IsStrictlySortedBy nat_cmp (keys_of rest)
+  pub bound : ℕ
+  pub within : bound ≤ slots
+  pub few : length items ≤ bound
+  pub rise : AreChanges bound (changes_of items)
+  pub ahead : (i : ℕ) → bound ≤ i → touched_at rest i ≡ touched_at written i
+  pub past : (i : ℕ) (slot : List ℕ) → touched_at rest i ≡ Some slot → bound ≤ i
+  pub differ : IsObservable old → AreDifferences (table_slot slots old.bytes) (slot_over slots written old.bytes) bound (changes_of items)
+
+pub scanning_begins : (slots : ℕ) (written : List (ℕ × List ℕ)) (disk : DiskState) → (IsObservable disk → IsSound disk) → IsStrictlySortedBy nat_cmp (keys_of written) → IsScanning slots written disk disk [] written
+scanning_begins slots written disk sound sorted = record {
+  calls = AreCalls-none disk tt;
+  reads = λ observable. ReadsOnly-refl disk (sound observable);
+  sorted = sorted;
+  bound = 0;
+  within = omega arith;
+  few = omega arith;
+  rise = rising_none;
+  ahead = λ i low. refl;
+  past = λ i slot is. omega arith;
+  differ = λ observable. differences_none (table_slot slots disk.bytes) (slot_over slots written disk.bytes);
+}
+
+-- no slot was written up to one that is before all others
+none_before : (at : ℕ) (rest : List (ℕ × List ℕ)) (i : ℕ) → AllByRecursion (λ k. nat_cmp at k ≡ Less) (keys_of rest) → i ≤ at → touched_at rest i ≡ None
+none_before at [] i later low = refl
+none_before at (e ∷ rest) i later low =
+    let above : at < e.0 = ranked at e.0 Less (sym later.0) in
+    let apart : is_at (nat_cmp i) e.0 ≡ false = at_other i e.0 (is_at (nat_cmp i) e.0) refl (λ same. absurd (omega (arith, above, same, low))) in
+    ap (λ (b : Bool). cond b (Some e.1) (touched_at rest i)) apart ∙ none_before at rest i later.1 low
+
+module _ (slots : ℕ) (written : List (ℕ × List ℕ)) (within : (i : ℕ) (slot : List ℕ) → touched_at written i ≡ Some slot → i < slots) (filled : (i : ℕ) (slot : List ℕ) → touched_at written i ≡ Some slot → length slot ≡ 4096) (old now new : DiskState)
+    (items rest left : List (ℕ × List ℕ)) (at : ℕ) (slot : List ℕ) (next : rest ≡ (at, slot) ∷ left) (so_far : IsScanning slots written old now items rest) where
+  here : IsScanning slots written old now items ((at, slot) ∷ left)
+  here = subst (λ (es : List (ℕ × List ℕ)). IsScanning slots written old now items es) next so_far
+
+  -- what was written to the next slot
+  low : here.bound ≤ at
+  low = here.past at slot (ap (λ (b : Bool). cond b (Some slot) (touched_at left at)) (at_itself at))
+
+  written_at : touched_at written at ≡ Some slot
+  written_at = sym (here.ahead at low) ∙ ap (λ (b : Bool). cond b (Some slot) (touched_at left at)) (at_itself at)
+
+  pub next_below : at < slots
+  next_below = within at slot written_at
+
+  next_long : length slot ≡ 4096
+  next_long = filled at slot written_at
+
+  later : AllByRecursion (λ k. nat_cmp at k ≡ Less) (keys_of left)
+  later = sorted_head nat_cmp at (keys_of left) here.sorted
+
+  sorted_left : IsStrictlySortedBy nat_cmp (keys_of left)
+  sorted_left = sorted_tail nat_cmp at (keys_of left) here.sorted
+
+  -- at another slot what was written is that of those that are left
+  at_left : (i : ℕ) → (at ≡ i → ⊥) → touched_at ((at, slot) ∷ left) i ≡ touched_at left i
+  at_left i other = ap (λ (b : Bool). cond b (Some slot) (touched_at left i)) (at_other i at (is_at (nat_cmp i) at) refl other)
+
+  ahead_left : (i : ℕ) → at + 1 ≤ i → touched_at left i ≡ touched_at written i
+  ahead_left i above = sym (at_left i (λ same. absurd (omega (arith, above, same)))) ∙ here.ahead i (let start = low in omega (arith, start, above))
+
+  past_left : (i : ℕ) (other : List ℕ) → touched_at left i ≡ Some other → at + 1 ≤ i
+  past_left i other is = elim (cases_lt at i) [
+    | inl above ↦ omega (arith, above)
+    | inr behind ↦ absurd (none-some other (sym (none_before at left i later behind) ∙ is))
+  ]
+
+  -- slots that were not written have the bytes of the disk
+  passed : (image : List ℕ) (i : ℕ) → here.bound ≤ i → i < at → table_slot slots image i ≡ slot_over slots written image i
+  passed image i start below =
+      let none : touched_at written i ≡ None = sym (here.ahead i start) ∙ at_left i (λ same. absurd (omega (arith, below, same))) ∙ none_before at left i later (omega (arith, below)) in
+      sym (ap (λ (o : Option (List ℕ)). bytes_or o (table_slot slots image i)) none)
+
+  has_bytes : (image : List ℕ) → slot ≡ slot_over slots written image at
+  has_bytes image = sym (ap (λ (o : Option (List ℕ)). bytes_or o (table_slot slots image at)) written_at)
+
+  module _ (buffer : List ℕ) (read : IsRead {T = Unit {0}} {E = DiskFault} now new (table_at slots at) buffer (Ok tt)) (long : length buffer ≡ 4096) where
+    calls_read : AreCalls {T = Unit {0}} {E = DiskFault} old new (Ok tt)
+    calls_read = AreCalls-then old now new tt (Ok tt) here.calls (AreCalls-one now new _ read.call)
+
+    reads_read : IsObservable old → ReadsOnly old new
+    reads_read observable = ReadsOnly-trans old now new (here.reads observable) (ReadsOnly-read now new _ _ _ (observable_after old now _ here.calls observable) read)
+
+    shows : IsObservable old → buffer ≡ table_slot slots old.bytes at
+    shows observable =
+        (read.observed (observable_after old now _ here.calls observable)).read ∙ ap (λ (n : ℕ). take n (drop (table_at slots at) now.bytes)) long
+        ∙ ap (λ (l : List ℕ). take 4096 (drop (table_at slots at) l)) (here.reads observable).bytes
+
+    -- a slot with the same bytes
+    pub scanning_passes : buffer ≡ slot → IsScanning slots written old new items left
+    scanning_passes same = record {
+      calls = calls_read;
+      reads = reads_read;
+      sorted = sorted_left;
+      bound = at + 1;
+      within = let below = next_below in omega (arith, below);
+      few = let start = low in omega (arith, here.few, start);
+      rise = rising_later here.bound (at + 1) (changes_of items) (let start = low in omega (arith, start)) here.rise;
+      ahead = ahead_left;
+      past = past_left;
+      differ = λ observable.
+          differences_later (table_slot slots old.bytes) (slot_over slots written old.bytes) here.bound (at + 1) (changes_of items) (let start = low in omega (arith, start))
+          (λ i start below. elim (last_or_below at i below) [
+            | inl less ↦ passed old.bytes i start less
+            | inr is ↦ subst (λ (k : ℕ). table_slot slots old.bytes k ≡ slot_over slots written old.bytes k) (sym is) (sym (shows observable) ∙ same ∙ has_bytes old.bytes)
+          ]) (here.differ observable);
+    }
+
+    -- and one with others
+    pub scanning_finds : buffer ≢ slot → IsScanning slots written old new (items ++ (at, slot) ∷ []) left
+    scanning_finds other = record {
+      calls = calls_read;
+      reads = reads_read;
+      sorted = sorted_left;
+      bound = at + 1;
+      within = let below = next_below in omega (arith, below);
+      few = let start = low in omega (arith, here.few, start, length-append items ((at, slot) ∷ []));
+      rise = rising_more at items slot (rising_later here.bound at (changes_of items) low here.rise) next_long;
+      ahead = ahead_left;
+      past = past_left;
+      differ = λ observable.
+          differences_more at items slot (table_slot slots old.bytes) (slot_over slots written old.bytes)
+          (differences_later (table_slot slots old.bytes) (slot_over slots written old.bytes) here.bound at (changes_of items) low (passed old.bytes) (here.differ observable))
+          (has_bytes old.bytes) (λ same. other (shows observable ∙ same ∙ sym (has_bytes old.bytes)));
+    }
+
+-- all were compared
+pub found_all : (slots : ℕ) (written : List (ℕ × List ℕ)) (old now : DiskState) (found : ChangedSlots) → IsScanning slots written old now found.slots.items [] → FindsChanges slots written old now (Ok found)
+found_all slots written old now found scanned = record {
+  kept = record { size = scanned.calls.size; observable = scanned.calls.observable; faults = scanned.calls.rise; writes = scanned.calls.writes; syncs = scanned.calls.syncs };
+  faults = scanned.calls.faults;
+  reads = scanned.reads;
+  rise = rising_later scanned.bound slots (changes_of found.slots.items) scanned.within scanned.rise;
+  differ = λ observable.
+      differences_later (table_slot slots old.bytes) (slot_over slots written old.bytes) scanned.bound slots (changes_of found.slots.items) scanned.within
+      (λ i start below. ap (λ (o : Option (List ℕ)). bytes_or o (table_slot slots old.bytes i)) (scanned.ahead i start)) (scanned.differ observable);
+}

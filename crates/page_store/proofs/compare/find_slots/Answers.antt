@@ -1,0 +1,13 @@
+use Rattle.std.proofs.Common.{ℕ, subst}
+use Rattle.page_store.specs.Preparing.{FindsChanges}
+use Rattle.page_store.proofs.FindLemmas.{slots_found}
+use Rattle.page_store.proofs.compare.find_slots.Goals as goal
+
+pub returns-clause-call : goal.returns-clause-call
+returns-clause-call g c =
+    let state = g.D.Disk.state in
+    let before = c.args.overlay.now in
+    let after = c.carry_out.new.slots in
+    slots_found (g.W.Draw.drawn c.args.draw.now) before.params after.params before.touched.entries after.touched.entries c.args.changes.now.entries (state before.disk) (state after.disk) (state c.find_changes.new.disk) c.in_ok-carry_out.field-0 c.requires
+    c.in_ok-carry_out.ensures.call c.in_ok-carry_out.ensures.follows c.find_changes.result
+    (subst (λ (n : ℕ). FindsChanges n after.touched.entries (state after.disk) (state c.find_changes.new.disk) c.find_changes.result) c.slots.ensures.value c.find_changes.ensures.call)

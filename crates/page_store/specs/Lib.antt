@@ -1,0 +1,12 @@
+pub mod Carrying
+pub mod Codes
+pub mod Differences
+pub mod Faults
+pub mod Lookups
+pub mod OverlayState
+pub mod Overlays
+pub mod PageImages
+pub mod Preparing
+pub mod Settling
+pub mod Staging
+pub mod StagedState

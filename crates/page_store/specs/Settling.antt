@@ -1,0 +1,60 @@
+-- What a settle does.
+use Rattle.std.specs.Prelude.{◌≡◌, ◌⊎◌, ℕ, ◌<◌, Bool, true, false, Result, Ok, Err, OnOk, OnErr, IsErrOf}
+use Rattle.std.specs.FinMap as maps
+use Rattle.store_model.specs.Parameters.{Parameters}
+use Rattle.store_model.specs.Draws.{Draw}
+use Rattle.store_model.specs.PageMaps.{PageMap}
+use Rattle.disk_model.specs.DiskState.{DiskState, IsObservable}
+use Rattle.disk_model.specs.DiskCalls.{Rose, LeavesOnly}
+use Rattle.gate_journal.specs.Places.{ReadsOnly}
+use Rattle.gate_journal.specs.Disks.{KeepsDisk}
+use Rattle.gate_journal.specs.Costs.{CountsCommit}
+use Rattle.page_store.specs.declared.fault.SettleFault.{SettleFault}
+use Rattle.page_store.specs.declared.fault.SettleFault.TheVariants as causes
+use Rattle.page_store.specs.Faults.{settle_faults_after}
+use Rattle.page_store.specs.PageImages.{StandsAt, RepresentsPages, slots_between}
+use Rattle.page_store.specs.StagedState.{StagedState}
+
+-- more pages than slots, and how many of both
+pub record IsTooMany (d : Draw) (m : PageMap) (need slots : ℕ) : Type 0 where
+  pub need_is : need ≡ maps.len m
+  pub slots_are : slots ≡ d.slots
+  pub more : slots < need
+
+-- `Full` tells the numbers, and comes where the pages are more than the slots; no other answer does
+abbrev pub AnswersFull : {T : Type 0} → Draw → PageMap → Result T SettleFault → Type 0
+AnswersFull d m (Ok value) = d.slots < maps.len m → ⊥
+AnswersFull d m (Err (causes.Full need slots)) = IsTooMany d m need slots
+AnswersFull d m (Err causes.Disk) = d.slots < maps.len m → ⊥
+AnswersFull d m (Err causes.NoMemory) = d.slots < maps.len m → ⊥
+
+-- What a settle does to an observable disk that stands at the one map, where the pages are those of the other.
+pub record SettlesDisk {T : Type 0} (d : Draw) (p : Parameters) (table map : PageMap) (old new : DiskState) (is_spent : Bool) (result : Result T SettleFault) : Type 0 where
+  pub full : AnswersFull d map result
+  pub stands : OnOk result (StandsAt d p map new)
+  -- a crash at any moment of the call leaves an image of the one map or of the other, and the disk reads one
+  pub crash : LeavesOnly old new (λ image. RepresentsPages d p table image ⊎ RepresentsPages d p map image)
+  pub reads : RepresentsPages d p table new.bytes ⊎ RepresentsPages d p map new.bytes
+  -- where it is refused before the first write the disk was only read
+  pub no_memory : IsErrOf result causes.NoMemory → ReadsOnly old new
+  pub too_many : (need slots : ℕ) → IsErrOf result (causes.Full need slots) → ReadsOnly old new
+  -- the slots that differ are committed, and no others
+  pub counts : CountsCommit (slots_between d table map) old new result
+  -- the value is spent by a fault that came behind a write or a sync alone, and any other fault leaves the disk as it was
+  pub spends : is_spent ≡ true → IsErrOf result causes.Disk × (Rose old.writes new.writes ⊎ Rose old.syncs new.syncs)
+  pub goes_on : is_spent ≡ false → IsErrOf result causes.Disk → ReadsOnly old new
+
+-- The pages of a value that is not spent are settled.
+pub record Settles {D W T : Type 0} (state : D → DiskState) (drawn : W → Draw) (old new : StagedState D W) (result : Result T SettleFault) : Type 0 where
+  pub params : new.params ≡ old.params
+  pub draw : new.draw ≡ old.draw
+  pub lookups : new.lookups ≡ old.lookups
+  pub kept : KeepsDisk (state old.disk) (state new.disk)
+  pub faults : (state new.disk).faults ≡ settle_faults_after (state old.disk).faults result
+  -- only a fault of the disk spends it
+  pub runs : (result ≡ Err causes.Disk → ⊥) → new.is_spent ≡ false
+  -- the pages stay, and after Ok the table has them
+  pub map : IsObservable (state old.disk) → new.is_spent ≡ false → new.map ≡ old.map
+  pub table : IsObservable (state old.disk) → OnOk result (new.table ≡ old.map)
+  pub table_stays : IsObservable (state old.disk) → new.is_spent ≡ false → OnErr result (new.table ≡ old.table)
+  pub observed : IsObservable (state old.disk) → SettlesDisk (drawn old.draw) old.params old.table old.map (state old.disk) (state new.disk) new.is_spent result

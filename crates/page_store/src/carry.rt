@@ -1,0 +1,95 @@
+//! How changes are carried out on the slots of a table.
+
+ghost use Rattle.std.specs.Prelude.{◌≡◌};
+ghost use Rattle.std.specs.BTreeMap.{IsOrdered, values};
+ghost use Rattle.store_model.specs.Labels.{label_cmp};
+ghost use Rattle.page_store.specs.Carrying.{TakesPage, LaysPage, TakesPages, LaysPages, CarriesOut};
+
+use crate::search::locate;
+use node_pages::Page;
+use ordered_table::{insert, overwrite};
+use seeded_draw::Draw;
+use shift_remove::remove;
+use std::collections::BTreeMap;
+use store_base::{Fault, Label, Slots};
+
+/// Takes the page of the label away from the slots, if they hold one. A fault of the slots ends the call; nothing is
+/// promised of the slots after it.
+fn take_page<S: Slots, W: Draw>(slots: &mut S, draw: &W, label: &Label) -> Result<(), Fault>
+    requires { (S.ReadSlots.state slots.old).count ≡ (W.drawn draw.now).slots }
+    ensures call { TakesPage (W.drawn draw.now) (S.ReadSlots.state slots.old) (S.ReadSlots.state slots.new) label.now result }
+    ensures follows { S.ReadSlots.follows slots.old slots.new }
+{
+    match locate(slots, draw, label)? {
+        Some(at) => remove(slots, draw, at),
+        None => Ok(()),
+    }
+}
+
+/// Lays a page into the slots, in the place of the one of its label; where they hold none of it, there has to be a free
+/// slot. A fault of the slots ends the call; nothing is promised of the slots after it.
+fn lay_page<S: Slots, W: Draw>(slots: &mut S, draw: &W, page: &Page) -> Result<(), Fault>
+    requires { (S.ReadSlots.state slots.old).count ≡ (W.drawn draw.now).slots }
+    ensures call { LaysPage (W.drawn draw.now) (S.ReadSlots.state slots.old) (S.ReadSlots.state slots.new) page.now result }
+    ensures follows { S.ReadSlots.follows slots.old slots.new }
+{
+    match locate(slots, draw, &page.label())? {
+        Some(at) => overwrite(slots, draw, at, page),
+        None => insert(slots, draw, page),
+    }
+}
+
+/// Takes the pages of the labels away that the changes leave without one. A fault of the slots ends the call; nothing is
+/// promised of the slots after it.
+fn take_pages<S: Slots, W: Draw>(
+    slots: &mut S,
+    draw: &W,
+    changes: &BTreeMap<Label, Option<Page>>,
+) -> Result<(), Fault>
+    requires { (S.ReadSlots.state slots.old).count ≡ (W.drawn draw.now).slots }
+    ensures call { TakesPages (W.drawn draw.now) (S.ReadSlots.state slots.old) (S.ReadSlots.state slots.new) changes.now.entries result }
+    ensures ordered { IsOrdered label_cmp changes.now }
+    ensures follows { S.ReadSlots.follows slots.old slots.new }
+{
+    for (label, change) in changes {
+        if change.is_none() {
+            take_page(slots, draw, label)?;
+        }
+    }
+    Ok(())
+}
+
+/// Lays the pages of the changes into the slots; with all of them there have to be no more pages than slots. A fault of
+/// the slots ends the call; nothing is promised of the slots after it.
+fn lay_pages<S: Slots, W: Draw>(
+    slots: &mut S,
+    draw: &W,
+    changes: &BTreeMap<Label, Option<Page>>,
+) -> Result<(), Fault>
+    requires { (S.ReadSlots.state slots.old).count ≡ (W.drawn draw.now).slots }
+    ensures call { LaysPages (W.drawn draw.now) (S.ReadSlots.state slots.old) (S.ReadSlots.state slots.new) (values changes.now) result }
+    ensures follows { S.ReadSlots.follows slots.old slots.new }
+{
+    for change in changes.values() {
+        if let Some(page) = change {
+            lay_page(slots, draw, page)?;
+        }
+    }
+    Ok(())
+}
+
+/// Carries the changes out: takes away the pages that go, and then lays in those that come, so that the slots never hold
+/// more pages than before the call or after it. A fault of the slots ends the call; nothing is promised of the slots after
+/// it.
+pub fn carry_out<S: Slots, W: Draw>(
+    slots: &mut S,
+    draw: &W,
+    changes: &BTreeMap<Label, Option<Page>>,
+) -> Result<(), Fault>
+    requires { (S.ReadSlots.state slots.old).count ≡ (W.drawn draw.now).slots }
+    ensures call { CarriesOut (W.drawn draw.now) (S.ReadSlots.state slots.old) (S.ReadSlots.state slots.new) changes.now.entries result }
+    ensures follows { S.ReadSlots.follows slots.old slots.new }
+{
+    take_pages(slots, draw, changes)?;
+    lay_pages(slots, draw, changes)
+}

@@ -1,0 +1,28 @@
+//! Slots of a table that a settle commits.
+
+ghost use Rattle.std.specs.Prelude.{◌≡◌, ◌<◌, length};
+ghost use Rattle.page_store.specs.Differences.{changes_of};
+
+use gate_journal::SlotChanges;
+use store_base::Slot;
+
+/// Slots of a table, each with its new bytes.
+#[derive(Drop)]
+pub struct ChangedSlots {
+    pub(crate) slots: Vec<(u32, Slot)>,
+    pub(crate) ghost few: { length slots.items < 4294967296 },
+}
+
+impl SlotChanges for ChangedSlots {
+    ghost changes = { λ c. changes_of c.slots.items };
+
+    fn count(&self) -> u32 {
+        self.slots.len() as u32
+    }
+
+    fn change(&self, k: u32, into: &mut Slot) -> u32 {
+        let (at, bytes) = &self.slots[k as usize];
+        *into = *bytes;
+        *at
+    }
+}

@@ -1,0 +1,63 @@
+//! How the slots are found that a settle commits.
+
+ghost use Rattle.std.specs.Prelude.{◌≡◌, ◌<◌, ◌≤◌, ℕ, List, length, Some};
+ghost use Rattle.store_model.specs.Parameters.{image_len, block_len, slots_limit};
+ghost use Rattle.gate_journal.specs.ViewState.{KeepsView};
+ghost use Rattle.page_store.specs.Overlays.{disk_of, params_of, touched_of};
+ghost use Rattle.page_store.specs.OverlayState.{touched_at};
+ghost use Rattle.page_store.specs.Preparing.{FindsChanges, FindsSlots};
+
+use crate::carry::carry_out;
+use crate::changed::ChangedSlots;
+use crate::overlay::Overlay;
+use disk_model::Disk;
+use node_pages::Page;
+use seeded_draw::Draw;
+use std::alloc::Global;
+use std::collections::BTreeMap;
+use store_base::{BLOCK, Fault, Label, Slot, table_at};
+
+/// The slots that were written and have other bytes in the table of the disk, which has so many slots. The disk is only
+/// read.
+fn find_changes<D: Disk>(
+    alloc: Global,
+    disk: &mut D,
+    slots: u32,
+    written: &BTreeMap<u32, Slot>,
+) -> Result<ChangedSlots, Fault>
+    requires in_range { slots ≤ slots_limit }
+    requires size { (D.state disk.old).size ≡ image_len slots }
+    requires within { (i : ℕ) (slot : List ℕ) → touched_at written.now.entries i ≡ Some slot → i < slots }
+    requires filled { (i : ℕ) (slot : List ℕ) → touched_at written.now.entries i ≡ Some slot → length slot ≡ block_len }
+    ensures call { FindsChanges slots written.now.entries (D.state disk.old) (D.state disk.new) result }
+{
+    let mut changed = Vec::new(alloc);
+    let mut was = [0; BLOCK];
+    for (at, slot) in written {
+        disk.read_at(table_at(slots, *at), &mut was)?;
+        if was != *slot {
+            changed.push((*at, *slot))?;
+        }
+    }
+    Ok(ChangedSlots { slots: changed })
+}
+
+/// The slots in which the table differs once the changes are carried out. The disk is only read; which slots the overlay
+/// has written after the call is not said.
+pub fn find_slots<D: Disk, W: Draw>(
+    overlay: &mut Overlay<D>,
+    draw: &W,
+    changes: &BTreeMap<Label, Option<Page>>,
+) -> Result<ChangedSlots, Fault>
+    requires { (params_of overlay.old).slots ≡ (W.drawn draw.now).slots }
+    ensures call { FindsSlots (W.drawn draw.now) (params_of overlay.old) (touched_of overlay.old) changes.now.entries (D.state (disk_of overlay.old)) (D.state (disk_of overlay.new)) result }
+    ensures follows { KeepsView (params_of overlay.old) (params_of overlay.new) (D.state (disk_of overlay.old)) (D.state (disk_of overlay.new)) }
+{
+    carry_out(overlay, draw, changes)?;
+    find_changes(
+        overlay.alloc,
+        &mut overlay.disk,
+        overlay.params.slots(),
+        &overlay.touched,
+    )
+}

@@ -1,0 +1,18 @@
+//! The pages of the store in the table of an image, changed in memory and settled at once.
+//!
+//! A `Staged` keeps what was changed since the last settle, each label with its page or with none. Until a settle nothing
+//! is written. A settle carries the changes out on an overlay of the slots that they touch, and commits the slots whose
+//! bytes differ, so that the table is again the placement of the pages; a crash leaves the old pages or the new ones.
+#![tactic(auto)]
+
+mod carry;
+mod changed;
+mod compare;
+mod fault;
+mod overlay;
+mod search;
+mod staged;
+
+pub use fault::SettleFault;
+pub use overlay::Overlay;
+pub use staged::Staged;

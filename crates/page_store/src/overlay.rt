@@ -1,0 +1,87 @@
+//! The slots of a table on a disk, with some of them changed in memory.
+
+ghost use Rattle.std.specs.Prelude.{◌≡◌, ◌<◌, ℕ, List, length, Some, []};
+ghost use Rattle.store_model.specs.Parameters.{image_len, block_len};
+ghost use Rattle.disk_model.specs.DiskState.{IsObservable};
+ghost use Rattle.page_store.specs.OverlayState.{touched_at, overlaid, overlaid_count, overlaid_whole};
+ghost use Rattle.gate_journal.specs.ViewState.{KeepsView, KeepsView-refl, KeepsView-trans};
+
+use disk_model::Disk;
+use std::alloc::Global;
+use std::collections::BTreeMap;
+use store_base::{Fault, Params, ReadSlots, Slot, Slots, table_at};
+
+/// The slots of the table of a disk, of which those that were written are kept in memory. The disk is only read.
+pub struct Overlay<D: Disk> {
+    pub(crate) alloc: Global,
+    pub(crate) disk: D,
+    pub(crate) params: Params,
+    pub(crate) touched: BTreeMap<u32, Slot>,
+    pub(crate) ghost sized: { (D.state disk).size ≡ image_len params.slots },
+    pub(crate) ghost within: { (i : ℕ) (slot : List ℕ) → touched_at touched.entries i ≡ Some slot → i < params.slots },
+    pub(crate) ghost filled: { (i : ℕ) (slot : List ℕ) → touched_at touched.entries i ≡ Some slot → length slot ≡ block_len },
+}
+
+impl<D: Disk> Overlay<D> {
+    ghost use Rattle.page_store.specs.Overlays.{disk_of, params_of, touched_of};
+
+    /// The slots as the disk has them. The disk has the length of these parameters.
+    pub fn new(alloc: Global, disk: D, params: &Params) -> Overlay<D>
+        requires { (D.state disk).size ≡ image_len params.now.slots }
+        ensures disk { disk_of result ≡ disk }
+        ensures params { params_of result ≡ params.now }
+        ensures untouched { touched_of result ≡ [] }
+    {
+        Overlay {
+            alloc,
+            disk,
+            params: *params,
+            touched: BTreeMap::new(alloc),
+        }
+    }
+
+    /// Hands the disk back.
+    pub fn into_disk(self) -> D
+        ensures { result ≡ disk_of self }
+    {
+        let Overlay {
+            alloc: _,
+            disk,
+            params: _,
+            touched: _,
+        } = self;
+        disk
+    }
+}
+
+impl<D: Disk> ReadSlots for Overlay<D> {
+    ghost use Rattle.page_store.specs.Overlays.{disk_of, params_of, touched_of};
+
+    ghost state = { λ o. overlaid (params_of o).slots (touched_of o) (D.state (disk_of o)) };
+
+    ghost follows = { λ old new. KeepsView (params_of old) (params_of new) (D.state (disk_of old)) (D.state (disk_of new)) };
+
+    ghost counted = { λ o observable. overlaid_count (params_of o).slots (touched_of o) (D.state (disk_of o)) };
+
+    ghost whole = { λ o observable. overlaid_whole (params_of o).slots (touched_of o) (D.state (disk_of o)) (D.sound (disk_of o) observable) o.sized o.filled };
+
+    ghost follows_refl = { λ o. KeepsView-refl (params_of o) (D.state (disk_of o)) (D.sound (disk_of o)) };
+
+    ghost follows_trans = { λ old mid new. KeepsView-trans (params_of old) (params_of mid) (params_of new) (D.state (disk_of old)) (D.state (disk_of mid)) (D.state (disk_of new)) };
+
+    fn get(&mut self, at: u32, into: &mut Slot) -> Result<(), Fault> {
+        if let Some(slot) = self.touched.get(&at) {
+            *into = *slot;
+            return Ok(());
+        }
+        let slots = self.params.slots();
+        Ok(self.disk.read_at(table_at(slots, at), into)?)
+    }
+}
+
+impl<D: Disk> Slots for Overlay<D> {
+    fn set(&mut self, at: u32, slot: &Slot) -> Result<(), Fault> {
+        self.touched.insert(at, *slot)?;
+        Ok(())
+    }
+}

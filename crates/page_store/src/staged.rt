@@ -1,0 +1,218 @@
+//! The staged pages.
+
+ghost use Rattle.std.specs.Prelude.{◌≡◌, ◌≤◌, ◌<◌, ℕ, Bool, true, false, IfOk, OnOk};
+ghost use Rattle.std.specs.FinMap as maps;
+ghost use Rattle.store_model.specs.Parameters.{image_len};
+ghost use Rattle.disk_model.specs.DiskState.{IsObservable};
+ghost use Rattle.sha2.specs.Sha256.{sha256};
+ghost use Rattle.gate_journal.specs.Places.{AreCalls, ReadsOnly};
+ghost use Rattle.node_pages.specs.PagesState.{IsPageGet, IsPagePut, IsPageDrop};
+ghost use Rattle.page_store.specs.PageImages.{pages_in_table, StandsAt};
+ghost use Rattle.page_store.specs.Settling.{Settles};
+
+use crate::compare::find_slots;
+use crate::fault::SettleFault;
+use crate::overlay::Overlay;
+use crate::search::{has_page, read_changed};
+use disk_model::Disk;
+use gate_journal::Journal;
+use node_pages::{Page, Pages};
+use seeded_draw::Draw;
+use std::alloc::Global;
+use std::collections::BTreeMap;
+use std::marker::Model;
+use store_base::{DiskFault, Fault, Label, Params};
+
+/// The pages in the table of an image, with changes that are not settled yet. Contracts see it as one record: the map of
+/// the pages now, that of the pages in the table, the disk, and whether the value is spent.
+///
+/// An observable disk under a value that is not spent reads the layout of the table's pages, and nothing is pending.
+pub struct Staged<D: Disk, W: Draw> {
+    overlay: Overlay<D>,
+    draw: W,
+    changes: BTreeMap<Label, Option<Page>>,
+    /// How many pages there are now, and how many of them the table has.
+    used: u32,
+    settled: u32,
+    lookups: u64,
+    is_spent: bool,
+}
+
+impl<D: Disk, W: Draw> Model for Staged<D, W> {
+    ghost use Rattle.page_store.specs.StagedState.{StagedState, staged_state, IsStaged};
+    ghost use Rattle.page_store.specs.Codes.{staged_code};
+
+    ghost Value = { StagedState D W };
+
+    ghost coded = { staged_code D.code W.code };
+
+    ghost view = { λ s. staged_state D.state s.overlay.params s.draw s.overlay.disk s.changes.entries s.lookups s.is_spent };
+
+    ghost invariant = { λ s. IsStaged (W.drawn s.draw) s.overlay.params (D.state s.overlay.disk) s.overlay.touched.entries s.changes.entries s.used s.settled s.is_spent };
+}
+
+impl<D: Disk, W: Draw> Staged<D, W> {
+    /// The pages in the table of a disk, so many of them, and no change. It takes no memory.
+    ///
+    /// The disk has the length of an image of these parameters, and the draw their slots; an observable disk reads the
+    /// layout of so many pages under the parameters, and nothing is pending.
+    pub fn new(alloc: Global, disk: D, params: &Params, draw: W, pages: u32) -> Staged<D, W>
+        requires size { (D.state disk).size ≡ image_len params.now.slots }
+        requires drawn { (W.drawn draw).slots ≡ params.now.slots }
+        requires stands { IsObservable (D.state disk) → StandsAt (W.drawn draw) params.now (pages_in_table params.now.slots (D.state disk).bytes) (D.state disk) }
+        requires count { IsObservable (D.state disk) → pages ≡ maps.len (pages_in_table params.now.slots (D.state disk).bytes) }
+        ensures params { result.params ≡ params.now }
+        ensures drawn { result.draw ≡ draw }
+        ensures disk { result.disk ≡ disk }
+        ensures table { result.table ≡ pages_in_table params.now.slots (D.state disk).bytes }
+        ensures map { result.map ≡ result.table }
+        ensures runs { result.is_spent ≡ false }
+        ensures lookups { result.lookups ≡ 0 }
+    {
+        Staged {
+            overlay: Overlay::new(alloc, disk, params),
+            draw,
+            changes: BTreeMap::new(alloc),
+            used: pages,
+            settled: pages,
+            lookups: 0,
+            is_spent: false,
+        }
+    }
+
+    /// How many pages there are now. It takes no memory.
+    pub fn used(&self) -> u32
+        ensures { IsObservable (D.state self.now.disk) → self.now.is_spent ≡ false → result ≡ maps.len self.now.map }
+    {
+        self.used
+    }
+
+    /// Whether it is spent: a fault of the disk came behind a write or a sync of a settle. It takes no memory.
+    pub fn is_spent(&self) -> bool
+        ensures { result ≡ self.now.is_spent }
+    {
+        self.is_spent
+    }
+
+    /// The disk. It takes no memory.
+    pub fn disk(&self) -> &D
+        ensures { result.now ≡ self.now.disk }
+    {
+        &self.overlay.disk
+    }
+
+    /// Gives the disk back. It takes no memory.
+    pub fn into_disk(self) -> D
+    where
+        W: Drop,
+        ensures { result ≡ self.disk }
+    {
+        let Staged {
+            overlay,
+            draw: _,
+            changes: _,
+            used: _,
+            settled: _,
+            lookups: _,
+            is_spent: _,
+        } = self;
+        overlay.into_disk()
+    }
+
+    /// Takes all changes back: the pages are those of the table. It takes no memory.
+    pub fn discard(&mut self)
+        ensures { self.new ≡ record self.old { map = self.old.table } }
+    {
+        self.changes.clear();
+        self.used = self.settled;
+    }
+
+    /// SHA-256 (FIPS 180-4) of all bytes that the disk reads, the changes not among them. It takes no memory. After
+    /// `DiskFault` the pages are as they were.
+    pub fn digest(&mut self) -> Result<[u8; 32], DiskFault>
+        ensures calls { AreCalls (D.state self.old.disk) (D.state self.new.disk) result }
+        ensures reads { IsObservable (D.state self.old.disk) → ReadsOnly (D.state self.old.disk) (D.state self.new.disk) }
+        ensures digest { IsObservable (D.state self.old.disk) → IfOk result (λ digest. digest ≡ sha256 (D.state self.old.disk).bytes) }
+        ensures map { IsObservable (D.state self.old.disk) → self.new.map ≡ self.old.map }
+        ensures runs { self.new.is_spent ≡ self.old.is_spent }
+    {
+        Journal::digest(&mut self.overlay.disk)
+    }
+
+    /// Settles the pages: the changed slots of the table are written together, and are durable at the return.
+    ///
+    /// Each image that a crash at any moment of the call may leave holds the pages that the table had or those that there
+    /// are now. A settle that changes d slots makes 5d + 2 writes and 5 syncs, and one that changes none makes none.
+    ///
+    /// `Full` comes exactly where there are more pages than slots. After `Full` and `NoMemory` nothing was written. `Disk`:
+    /// the disk failed; where that came at a write or a sync, or behind one, the value is spent, and the disk has the pages
+    /// that the table had or those that there were. After each of them a value that is not spent has the map and the table
+    /// that it had. A value that is spent is settled no more.
+    pub fn settle(&mut self) -> Result<(), SettleFault>
+        requires { self.old.is_spent ≡ false }
+        ensures call { Settles D.state W.drawn self.old self.new result }
+    {
+        let params = self.overlay.params;
+        let slots = params.slots();
+        if self.used > slots {
+            return Err(SettleFault::Full {
+                need: self.used,
+                slots,
+            });
+        }
+        let found = find_slots(&mut self.overlay, &self.draw, &self.changes);
+        // Whatever was found, the slots are the disk's again.
+        self.overlay.touched.clear();
+        let changed = found?;
+        match Journal::commit(&mut self.overlay.disk, &params, &changed) {
+            Ok(()) => {
+                self.changes.clear();
+                self.settled = self.used;
+                Ok(())
+            }
+            // It came at a write or behind one, so the disk may have the old pages or the new ones.
+            Err(_) => {
+                self.is_spent = true;
+                Err(SettleFault::Disk)
+            }
+        }
+    }
+}
+
+impl<D: Disk, W: Draw> Pages for Staged<D, W> {
+    ghost use Rattle.page_store.specs.StagedState.{pages_state, Follows, Follows-refl, Follows-trans};
+
+    ghost state = { λ s. pages_state D.state s };
+
+    ghost follows = { λ old new. Follows D.state old new };
+
+    ghost valid = { λ s told. told.valid };
+
+    ghost follows_refl = { λ s. Follows-refl D.state s (D.sound s.disk) };
+
+    ghost follows_trans = { λ a b c. Follows-trans D.state a b c };
+
+    fn get(&mut self, label: &Label) -> Result<Option<Page>, Fault> {
+        self.lookups = self.lookups.saturating_add(1);
+        read_changed(&mut self.overlay, &self.draw, &self.changes, label)
+    }
+
+    fn put(&mut self, page: Page) -> Result<(), Fault> {
+        let label = page.label();
+        let is_there = has_page(&mut self.overlay, &self.draw, &self.changes, &label)?;
+        self.changes.insert(label, Some(page))?;
+        if !is_there {
+            self.used = self.used.saturating_add(1);
+        }
+        Ok(())
+    }
+
+    fn drop_page(&mut self, label: &Label) -> Result<(), Fault> {
+        let is_there = has_page(&mut self.overlay, &self.draw, &self.changes, label)?;
+        self.changes.insert(*label, None)?;
+        if is_there {
+            self.used = self.used.saturating_sub(1);
+        }
+        Ok(())
+    }
+}
