@@ -1,0 +1,9 @@
+//! The tests, a module for each kind, and `support`, which they share.
+
+mod crashes;
+mod images;
+mod outside;
+mod scripts;
+mod scrubs;
+mod support;
+mod words;
