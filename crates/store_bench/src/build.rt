@@ -4,17 +4,17 @@ ghost use Rattle.std.specs.Prelude.{◌≡◌, ◌<◌, map, length, IsTrue, IfO
 ghost use Rattle.std.specs.List.Sorted.{IsStrictlySortedBy};
 ghost use Rattle.store_model.specs.Paths.{key_cmp};
 
-use crate::{Ratio, name_of, no_memory};
-use layout_scratch::build;
+use crate::name_of;
+use layer_bench::{Ratio, Stopwatch, no_memory};
+use layout_scratch::{Layout, build};
 use node_pages::PairList;
 use std::alloc::Global;
 use std::cmp::Ordering;
 use std::io;
-use std::time::Instant;
 use store_base::{DrawKind, Key, NoMemory, Params, Value};
 
 /// The most cells on a page of level 0.
-const PAGE_ROOM: u32 = 10;
+const PAGE_ROOM: u64 = 10;
 
 /// The most pairs that a layout may have.
 const MOST_PAIRS: u32 = 268_435_456;
@@ -31,11 +31,11 @@ fn next_key(state: u64) -> (Key, u64) {
     (Key::new(bytes), state)
 }
 
-/// So many pairs, in no order.
-fn make_pairs(alloc: Global, count: u32) -> Result<PairList, NoMemory> {
+/// Pairs of directories in the root, in no order, that fill so many pages.
+pub fn make_pairs(alloc: Global, pages: u32) -> Result<PairList, NoMemory> {
     let mut pairs = PairList::new(alloc);
     let mut state = 7;
-    for _ in 0..count {
+    for _ in 0..u64::from(pages) * PAGE_ROOM {
         let (key, next) = next_key(state);
         pairs.push((key, Value::new(&[1])))?;
         state = next;
@@ -66,41 +66,47 @@ fn rise(keys: &[Key]) -> bool
     true
 }
 
-/// Lays the pairs out under a draw, in a table of just so many slots as they have pages, and prints the time.
-fn measure_draw(rt: &HostRuntime, pages: u32, kind: DrawKind, pairs: &PairList) -> io::Result<()> {
+/// Lays the pairs out, at most 268,435,456 of them with distinct keys, and prints how long that takes.
+pub fn lay_out(rt: &HostRuntime, params: &Params, pairs: &PairList) -> io::Result<Layout>
+    ensures { IfOk result (λ layout. length layout ≡ params.now.slots) }
+{
     let alloc = rt.alloc();
-    let Ok(params) = Params::new(pages, 1, kind, [0; 32]) else {
-        return Err(io::ErrorKind::InvalidInput.into());
-    };
     let Ok(mut keys) = keys_of(alloc, pairs) else {
         return Err(no_memory(NoMemory));
     };
-    let start = Instant::now(rt)?;
+    let mut watch = Stopwatch::start(rt)?;
     keys.sort().map_err(|_| no_memory(NoMemory))?;
-    let sorting = start.elapsed(rt)?;
+    let sorting = watch.lap(rt)?;
     if !rise(&keys) || pairs.len() > MOST_PAIRS {
         return Err(io::ErrorKind::InvalidData.into());
     }
-    let start = Instant::now(rt)?;
-    let layout = build(alloc, &params, pairs).map_err(|_| no_memory(NoMemory))?;
-    let building = start.elapsed(rt)?;
-    println!(rt;
-        "{} pages are laid out under {}",
-        layout.used(),
-        name_of(kind)
-    )?;
+    watch.lap(rt)?;
+    let Ok(layout) = build(alloc, params, pairs) else {
+        return Err(no_memory(NoMemory));
+    };
+    let building = watch.lap(rt)?;
     eprintln!(rt;
         "  build {} us, sort of the same keys {} us: {}",
         building.as_micros(),
         sorting.as_micros(),
         Ratio::new(building, sorting)
-    )
+    )?;
+    Ok(layout)
 }
 
-/// Lays out the pairs of so many full pages, at most 16,384 of them, under both draws.
+/// So many slots of height 1 under a draw, with a seed of zeros.
+pub fn params_of(slots: u32, kind: DrawKind) -> io::Result<Params> {
+    Params::new(slots, 1, kind, [0; 32]).map_err(|_| io::ErrorKind::InvalidInput.into())
+}
+
+/// Lays out the pairs of so many full pages, at most 16,384 of them, in just as many slots, under both draws.
 pub fn measure(rt: &HostRuntime, pages: u32) -> io::Result<()> {
     let pages = pages.clamp(1, 16_384);
-    let pairs = make_pairs(rt.alloc(), pages * PAGE_ROOM).map_err(no_memory)?;
-    measure_draw(rt, pages, DrawKind::Ruler, &pairs)?;
-    measure_draw(rt, pages, DrawKind::Sha256, &pairs)
+    let pairs = make_pairs(rt.alloc(), pages).map_err(no_memory)?;
+    for kind in [DrawKind::Ruler, DrawKind::Sha256] {
+        let layout = lay_out(rt, &params_of(pages, kind)?, &pairs)?;
+        let used = layout.used();
+        println!(rt; "{used} pages are laid out under {}", name_of(kind))?;
+    }
+    Ok(())
 }

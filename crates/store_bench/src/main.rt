@@ -1,48 +1,26 @@
-//! The benchmark: how long layouts from nothing take, as a ratio to sorting the same keys; how long a run takes, as a ratio
-//! to its writes and syncs made bare; and how long the calls on an ordered table take, as ratios to their reads and writes
-//! of slots made bare.
+//! The benchmark: how long the store's work takes, as ratios to work that has to be done in any case, made bare.
 //!
-//! `store_bench build PAGES`, `store_bench run LINES` and `store_bench table SLOTS` print what was done to standard output,
-//! and the times, which differ from one time to the next, to standard error.
+//! | Words | What is timed | The floor |
+//! |---|---|---|
+//! | `build PAGES` | layouts from nothing | sorting the same keys |
+//! | `files COUNT` | files in a list in memory: written, read, listed, moved, pruned | the same keys in std's ordered map |
+//! | `lists COUNT` | the calls on a skip list over pages in memory | the same keys in std's ordered map |
+//! | `run LINES` | a run | its writes and syncs |
+//! | `table SLOTS` | the calls on an ordered table | their reads and writes of slots |
+//!
+//! What was done is printed to standard output, and the times, which differ from one time to the next, to standard error.
+//! `image SLOTS` writes an image to standard output, of which each slot has a page.
 #![tactic(auto)]
 
 mod build;
+mod image;
 mod run;
 mod table;
 
-use std::fmt::{Display, Formatter};
+use layer_bench::{files, lists};
 use std::process::ExitCode;
-use std::time::Duration;
-use std::{env, fmt, io};
-use store_base::{DrawKind, NoMemory};
-
-/// One time as a multiple of another, in hundredths, rounded down.
-#[derive(Clone, Copy, PartialEq, Eq, PartialOrd, Ord)]
-pub struct Ratio {
-    hundredths: u64,
-}
-
-impl Ratio {
-    /// The ratio of a time to another one, each to the nanosecond and at most 1,000 seconds.
-    pub fn new(time: Duration, floor: Duration) -> Ratio {
-        let whole = time.as_nanos().min(1_000_000_000_000) as u64;
-        let part = floor.as_nanos().clamp(1, 1_000_000_000_000) as u64;
-        Ratio {
-            hundredths: whole * 100 / part,
-        }
-    }
-}
-
-impl Display for Ratio {
-    fn fmt<W: fmt::Write>(&self, f: &mut Formatter<W>) -> fmt::Result {
-        write!(
-            f,
-            "{}.{:02} x",
-            self.hundredths / 100,
-            self.hundredths % 100
-        )
-    }
-}
+use std::{env, io};
+use store_base::DrawKind;
 
 /// The word for a draw.
 fn name_of(kind: DrawKind) -> &'static str {
@@ -50,11 +28,6 @@ fn name_of(kind: DrawKind) -> &'static str {
         DrawKind::Ruler => "ruler",
         DrawKind::Sha256 => "sha256",
     }
-}
-
-/// Want of memory as an error of the program.
-fn no_memory(_: NoMemory) -> io::Error {
-    io::ErrorKind::OutOfMemory.into()
 }
 
 /// Carries out the words.
@@ -68,6 +41,9 @@ fn bench(rt: &HostRuntime) -> io::Result<bool> {
     };
     match word.as_str() {
         "build" => build::measure(rt, number)?,
+        "files" => files::measure(rt, number)?,
+        "image" => image::write(rt, number)?,
+        "lists" => lists::measure(rt, number)?,
         "run" => run::measure(rt, number)?,
         "table" => table::measure(rt, number)?,
         _ => return Ok(false),

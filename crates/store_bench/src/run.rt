@@ -1,7 +1,7 @@
 //! How long a run takes that makes many directories.
 
-use crate::{Ratio, no_memory};
 use disk_model::{Disk, MemDisk};
+use layer_bench::{Ratio, no_memory};
 use script_lines::{MemSink, MemSource};
 use std::alloc::Global;
 use std::io;

@@ -4,7 +4,8 @@ ghost use Rattle.std.specs.Prelude.{◌≡◌, ◌<◌, ◌≤◌, IfOk, IfSome}
 ghost use Rattle.seeded_draw.specs.AnyDrawn.{any_draw};
 ghost use Rattle.ordered_table.specs.MemSlots.{mem_state};
 
-use crate::{Ratio, name_of, no_memory};
+use crate::name_of;
+use layer_bench::{Ratio, no_memory};
 use node_pages::{Cell, Page};
 use ordered_table::{MemSlots, Steps, find, insert, next_slot};
 use seeded_draw::{AnyDraw, Draw};
