@@ -1,7 +1,7 @@
 -- Calls that read only.
 use Rattle.std.proofs.Common.{◌≡◌, ℕ, ◌+◌, ◌-◌, ◌<◌, ◌≤◌, List, length, take, drop, slice_index, sym, ap, ◌∙◌, subst, arith, Result, Ok, inl, inr, get_or-take, get_or-drop}
 use Rattle.std.proofs.lemmas.Bool.{cases_lt}
-use Rattle.std.proofs.lemmas.List.{length-replicate, get_or-replicate}
+use Rattle.std.proofs.lemmas.List.{ext_get_or, length-replicate, get_or-replicate}
 use Rattle.store_model.specs.Lists.{zeros}
 use Rattle.disk_model.specs.DiskState.{DiskState, IsObservable, IsDurable, IsSound}
 use Rattle.disk_model.specs.DiskCalls.{IsRead, overwrite}
@@ -43,6 +43,13 @@ pub zero_buffer : (image buffer : List ℕ) (at : ℕ) → buffer ≡ take (leng
 zero_buffer image buffer at is zero place low high =
     let few : place < length buffer = omega arith in
     ap (λ (l : List ℕ). slice_index l place) is ∙ get_or-take (length buffer) (drop at image) place 0 few ∙ get_or-drop at image place 0 ∙ zero (at + place) (omega arith) (omega arith)
+
+-- bytes of which each is zero are zeros
+pub zero_zeros : (bytes : List ℕ) → IsZeroAt 0 (length bytes) bytes → bytes ≡ zeros (length bytes)
+zero_zeros bytes zero = ext_get_or 0 bytes (zeros (length bytes)) (sym (length-replicate {A = ℕ} (length bytes) 0)) λ i low. zero i (omega arith) (omega arith) ∙ sym (get_or-replicate (length bytes) i 0 0 low)
+
+pub zeros_zero : (bytes : List ℕ) → bytes ≡ zeros (length bytes) → IsZeroAt 0 (length bytes) bytes
+zeros_zero bytes is place low high = ap (λ (l : List ℕ). slice_index l place) is ∙ get_or-replicate (length bytes) place 0 0 (omega arith)
 
 -- zeros that were written
 pub zero_written : (old bytes : List ℕ) (at n : ℕ) → bytes ≡ zeros n → at + n ≤ length old → IsZeroAt at n (overwrite old at bytes)

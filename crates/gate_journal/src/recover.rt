@@ -13,11 +13,13 @@ use crate::commit::write_flag;
 use disk_model::Disk;
 use store_base::{BLOCK, DiskFault, gate_at, mark_at, shadow_at, table_at};
 
-/// Whether each byte is zero.
+/// Whether each byte is zero, of at most those of a block.
 fn is_zero(bytes: &[u8]) -> bool
+    requires { length bytes.now ≤ block_len }
     ensures { IsTrue result ↔ IsZeroAt 0 (length bytes.now) bytes.now }
 {
-    bytes.iter().all(|byte| *byte == 0)
+    // Compared as a whole, which takes many bytes at once.
+    bytes == &[0; BLOCK][..bytes.len()]
 }
 
 /// Whether the block at this offset is zero.
@@ -44,9 +46,10 @@ fn is_byte_set<D: Disk>(disk: &mut D, at: u64) -> Result<bool, DiskFault>
     Ok(byte[0] != 0)
 }
 
-/// Makes as many bytes as the buffer has zero, where they are not.
+/// Makes as many bytes as the buffer has zero, where they are not: at most those of a block.
 fn clear_range<D: Disk>(disk: &mut D, at: u64, buffer: &mut [u8]) -> Result<(), DiskFault>
-    requires { at + length buffer.old ≤ (D.state disk.old).size }
+    requires few { length buffer.old ≤ block_len }
+    requires within { at + length buffer.old ≤ (D.state disk.old).size }
     ensures call { IsCall (D.state disk.old) (D.state disk.new) result }
     ensures reaches { IsObservable (D.state disk.old) → Reaches (IsApart at (length buffer.old)) (IsZeroAt at (length buffer.old)) (D.state disk.old) (D.state disk.new) result }
     ensures makes { IsObservable (D.state disk.old) → Makes (clear_writes at (length buffer.old) (D.state disk.old).bytes) 0 (D.state disk.old) (D.state disk.new) result }

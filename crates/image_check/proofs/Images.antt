@@ -27,7 +27,8 @@ made_at f first zero i l = absurd (omega arith)
 made_at f first (suc count) zero l = ap (λ n. Some (f n)) (let e : first ≡ first + 0 = omega arith in e)
 made_at f first (suc count) (suc i) l = made_at f (suc first) count i (omega arith) ∙ ap (λ n. Some (f n)) (let e : suc first + i ≡ first + suc i = omega arith in e)
 
-slot_at : (slots : ℕ) (image : List ℕ) (i : ℕ) → i < slots → slice_get (slots_in slots image) i ≡ Some (recovered_slot slots image i)
+-- each of them by its number
+pub slot_at : (slots : ℕ) (image : List ℕ) (i : ℕ) → i < slots → slice_get (slots_in slots image) i ≡ Some (recovered_slot slots image i)
 slot_at slots image i l = made_at (recovered_slot slots image) 0 slots i l ∙ ap (λ n. Some (recovered_slot slots image n)) (let e : 0 + i ≡ i = omega arith in e)
 
 -- the table has as many slots as the parameters say

@@ -1,9 +1,9 @@
 -- How many writes scrub the first slots.
-use Rattle.std.proofs.Common.{◌≡◌, ℕ, ◌+◌, ◌-◌, ◌<◌, ◌≤◌, List, refl, ap, ◌∙◌, arith}
+use Rattle.std.proofs.Common.{◌≡◌, ℕ, zero, suc, ◌+◌, ◌-◌, ◌<◌, ◌≤◌, List, Bool, if◌then◌else◌, refl, ap, ◌∙◌, arith}
 use Rattle.std.specs.List.{sum_by}
 use Rattle.store_model.specs.Lists.{numbers_from}
 use Rattle.gate_journal.proofs.Counting.{sum_split, sum_one, sum_same}
-use Rattle.scrub_free.specs.FreeSlots.{block_writes, scrub_writes}
+use Rattle.scrub_free.specs.FreeSlots.{StandClean, block_writes, scrub_writes}
 
 pub scrub_writes-none : (slot : ℕ → List ℕ) → scrub_writes slot 0 ≡ 0
 unfolding scrub_writes numbers_from
@@ -30,3 +30,13 @@ pub scrub_writes-same : (slot other : ℕ → List ℕ) (n : ℕ) → ((i : ℕ)
 unfolding scrub_writes
 scrub_writes-same slot other n same =
     sum_same (λ i. block_writes (slot i)) (λ i. block_writes (other i)) 0 n (λ i low high. ap (λ (bytes : List ℕ). block_writes bytes) (same i (omega arith)))
+
+-- clean slots take none
+pub scrub_writes-clean : (slot : ℕ → List ℕ) (n : ℕ) → StandClean slot n → scrub_writes slot n ≡ 0
+scrub_writes-clean slot zero clean = scrub_writes-none slot
+scrub_writes-clean slot (suc n) clean =
+    let more : suc n ≡ n + 1 = omega arith in
+    let here : block_writes (slot n) ≡ 0 = ap (λ (b : Bool). if b then 1 else 0) (clean n (omega arith)) in
+    let before : scrub_writes slot n ≡ 0 = scrub_writes-clean slot n (λ i low. clean i (omega arith)) in
+    let all : scrub_writes slot (n + 1) ≡ 0 = omega (arith, scrub_writes-more slot n, here, before) in
+    ap (scrub_writes slot) more ∙ all

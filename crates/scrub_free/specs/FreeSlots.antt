@@ -1,5 +1,5 @@
 -- What scrubbing writes of the slots of a table. A slot is free where its byte 0 is 0.
-use Rattle.std.specs.Prelude.{◌≡◌, ℕ, ◌+◌, ◌==◌, ◌&&◌, not, ◌<◌, ◌≤◌, List, slice_index, Bool, if◌then◌else◌}
+use Rattle.std.specs.Prelude.{◌≡◌, ℕ, ◌+◌, ◌==◌, ◌&&◌, not, ◌<◌, ◌≤◌, List, slice_index, Bool, false, if◌then◌else◌}
 use Rattle.std.specs.List.{sum_by}
 use Rattle.store_model.specs.Lists.{same_bytes, zeros, numbers_below}
 use Rattle.store_model.specs.Parameters.{block_len, table_at}
@@ -10,6 +10,10 @@ use Rattle.gate_journal.specs.Phases.{table_slot}
 -- a free slot that is not zero
 unfoldable pub is_unclean : List ℕ → Bool
 is_unclean bytes = (slice_index bytes 0 == 0) && not (same_bytes bytes (zeros block_len))
+
+-- the first n of these slots are clean
+abbrev pub StandClean : (ℕ → List ℕ) → ℕ → Type 0
+StandClean slot n = (i : ℕ) → i < n → is_unclean (slot i) ≡ false
 
 -- the writes that scrub a slot
 abbrev pub block_writes : List ℕ → ℕ

@@ -1,5 +1,5 @@
 -- What the scrubbed view of slots means. Its laws stand here since those of a trait are proved by them.
-use Rattle.std.specs.Prelude.{◌≡◌, ℕ, zero, suc, List, [], ◌∷◌, map, length, Bool, ◌==◌, slice_index, if◌then◌else◌}
+use Rattle.std.specs.Prelude.{◌≡◌, ◌<◌, ℕ, zero, suc, List, [], ◌∷◌, map, length, Some, false, Bool, ◌==◌, slice_get, slice_index, if◌then◌else◌}
 use Rattle.std.proofs.Common.{refl, sym, ap, ◌∙◌, inl, inr}
 use Rattle.std.proofs.lemmas.Bool.{cases_Bool}
 use Rattle.std.proofs.lemmas.List.{length-map, length-replicate}
@@ -7,6 +7,11 @@ use Rattle.std.proofs.lemmas.Option.{none-some, same_Some}
 use Rattle.store_model.specs.Lists.{zeros}
 use Rattle.store_model.specs.Images.{scrubbed_block}
 use Rattle.store_base.specs.SlotsState.{SlotsState, IsCounted, AreWhole}
+use Rattle.scrub_free.specs.FreeSlots.{is_unclean}
+
+-- each of the first n of these slots is clean
+abbrev pub AreClean : List (List ℕ) → ℕ → Type 0
+AreClean slots n = (i : ℕ) (slot : List ℕ) → i < n → slice_get slots i ≡ Some slot → is_unclean slot ≡ false
 
 -- the slots as scrubbing would leave them, with all else as it is
 abbrev pub scrubbed_slots : SlotsState → SlotsState

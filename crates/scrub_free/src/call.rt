@@ -1,7 +1,10 @@
 //! The call that scrubs an image.
 
-ghost use Rattle.std.specs.Prelude.{◌≡◌, Ok, Err, MatchResult};
+ghost use Rattle.std.specs.Prelude.{◌≡◌, ◌≤◌, Ok, Err, MatchResult};
 ghost use Rattle.store_model.specs.Parameters.{image_len};
+ghost use Rattle.store_model.specs.Images.{recovered_slot};
+ghost use Rattle.disk_model.specs.DiskState.{IsObservable};
+ghost use Rattle.scrub_free.specs.FreeSlots.{StandClean};
 ghost use Rattle.scrub_free.specs.ScrubCalls.{ChecksScrubbed, Scrubs};
 
 use crate::image::scrub_image;
@@ -12,14 +15,22 @@ use image_check::{Verdict, check_slots, read_params};
 use std::alloc::Global;
 use store_base::{DiskFault, Fault, Params};
 
-/// The verdict on the slots that scrubbing would leave. The disk is only read, and handed back.
-fn check_scrubbed<D: Disk>(alloc: Global, disk: D, params: &Params) -> (D, Result<Verdict, Fault>)
+/// The verdict on the slots that scrubbing would leave. The disk is only read, and handed back; with it comes of how many
+/// slots, from the first on, the check found that recovery leaves them clean.
+fn check_scrubbed<D: Disk>(
+    alloc: Global,
+    disk: D,
+    params: &Params,
+) -> (D, u32, Result<Verdict, Fault>)
     requires { (D.state disk).size ≡ image_len params.now.slots }
-    ensures { ChecksScrubbed params.now (D.state disk) (D.state result.0) result.1 }
+    ensures call { ChecksScrubbed params.now (D.state disk) (D.state result.0) result.2 }
+    ensures within { result.1 ≤ params.now.slots }
+    ensures clean { IsObservable (D.state result.0) → StandClean (recovered_slot params.now.slots (D.state result.0).bytes) result.1 }
 {
     let mut slots = ScrubbedView::new(View::new(disk, params));
     let checked = check_slots(alloc, &mut slots, params);
-    (slots.into_slots().into_disk(), checked)
+    let (view, clean) = slots.into_slots();
+    (view.into_disk(), clean, checked)
 }
 
 /// The verdict, unless the scrub failed.
@@ -48,7 +59,7 @@ pub fn scrub<D: Disk>(alloc: Global, mut disk: D) -> (D, Result<Verdict, Fault>)
         Ok(None) => return (disk, Ok(Verdict::NotImage)),
         Err(fault) => return (disk, Err(fault.into())),
     };
-    let (mut disk, checked) = check_scrubbed(alloc, disk, &params);
+    let (mut disk, clean, checked) = check_scrubbed(alloc, disk, &params);
     let verdict = match checked {
         Ok(verdict) => verdict,
         Err(fault) => return (disk, Err(fault)),
@@ -56,6 +67,6 @@ pub fn scrub<D: Disk>(alloc: Global, mut disk: D) -> (D, Result<Verdict, Fault>)
     let Verdict::Clean { .. } = verdict else {
         return (disk, Ok(verdict));
     };
-    let scrubbed = scrub_image(&mut disk, &params);
+    let scrubbed = scrub_image(&mut disk, &params, clean);
     (disk, answer_of(scrubbed, verdict))
 }

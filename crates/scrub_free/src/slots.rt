@@ -7,14 +7,14 @@ ghost use Rattle.disk_model.specs.DiskState.{DiskState, IsObservable, IsDurable}
 ghost use Rattle.disk_model.specs.DiskCalls.{IsCall};
 ghost use Rattle.gate_journal.specs.Places.{AreCalls, Reaches, Makes};
 ghost use Rattle.gate_journal.specs.Phases.{table_slot};
-ghost use Rattle.scrub_free.specs.FreeSlots.{OutsideFreeSlot, OutsideFree, AreScrubbed, is_unclean, block_writes, scrub_writes};
+ghost use Rattle.scrub_free.specs.FreeSlots.{OutsideFreeSlot, OutsideFree, AreScrubbed, StandClean, is_unclean, block_writes, scrub_writes};
 
 use disk_model::Disk;
 use store_base::{BLOCK, DiskFault, Slot, table_at};
 
 /// Whether a slot is free and not zero.
 #[tactic(auto, unfolding(crate::specs::FreeSlots::is_unclean))]
-fn is_unclean(slot: &Slot) -> bool
+pub fn is_unclean(slot: &Slot) -> bool
     ensures { result ≡ is_unclean slot.now }
 {
     slot[0] == 0 && *slot != [0; BLOCK]
@@ -39,16 +39,18 @@ fn scrub_slot<D: Disk>(disk: &mut D, slots: u32, slot: u32) -> Result<(), DiskFa
 }
 
 /// Makes bytes 1 to 4,095 of each slot of the table zero whose byte 0 is 0 and in which they are not, and makes that
-/// durable.
-pub fn scrub_slots<D: Disk>(disk: &mut D, slots: u32) -> Result<(), DiskFault>
+/// durable. The first slots, as many as are known to be clean, are not read.
+pub fn scrub_slots<D: Disk>(disk: &mut D, slots: u32, clean: u32) -> Result<(), DiskFault>
     requires in_range { slots ≤ slots_limit }
+    requires within { clean ≤ slots }
+    requires clean { IsObservable (D.state disk.old) → StandClean (table_slot slots (D.state disk.old).bytes) clean }
     requires size { (D.state disk.old).size ≡ image_len slots }
     ensures call { IsCall (D.state disk.old) (D.state disk.new) result }
     ensures reaches { IsObservable (D.state disk.old) → Reaches (OutsideFree slots (D.state disk.old).bytes) (AreScrubbed slots slots (D.state disk.old).bytes) (D.state disk.old) (D.state disk.new) result }
     ensures durable { IsObservable (D.state disk.old) → OnOk result (IsDurable (D.state disk.new)) }
     ensures makes { IsObservable (D.state disk.old) → Makes (scrub_writes (table_slot slots (D.state disk.old).bytes) slots) 1 (D.state disk.old) (D.state disk.new) result }
 {
-    for slot in 0..slots {
+    for slot in clean..slots {
         scrub_slot(disk, slots, slot)?;
     }
     disk.sync()

@@ -1,25 +1,35 @@
 //! Slots as scrubbing would leave them, read without writing.
 
-ghost use Rattle.std.specs.Prelude.{◌≡◌};
+ghost use Rattle.std.specs.Prelude.{◌≡◌, ◌≤◌};
 ghost use Rattle.store_model.specs.Images.{scrubbed_block};
-ghost use Rattle.scrub_free.specs.ScrubbedSlots.{scrubbed_slots, scrubbed_counted, scrubbed_whole};
+ghost use Rattle.store_base.specs.SlotsState.{IsObservable};
+ghost use Rattle.scrub_free.specs.FreeSlots.{is_unclean};
+ghost use Rattle.scrub_free.specs.ScrubbedSlots.{AreClean, scrubbed_slots, scrubbed_counted, scrubbed_whole};
 
+use crate::slots::is_unclean;
 use store_base::{BLOCK, Fault, ReadSlots, Slot};
 
-/// Makes a slot zero whose byte 0 is 0.
-#[tactic(auto, unfolding(store_model::specs::Images::scrubbed_block))]
-fn scrub_bytes(slot: &mut Slot)
-    ensures { slot.new ≡ scrubbed_block slot.old }
+/// Makes a slot zero where it is free, and says whether it was free and not zero.
+fn scrub_bytes(slot: &mut Slot) -> bool
+    ensures scrubbed { slot.new ≡ scrubbed_block slot.old }
+    ensures found { result ≡ is_unclean slot.old }
 {
-    if slot[0] == 0 {
-        *slot = [0; BLOCK];
+    if !is_unclean(slot) {
+        return false;
     }
+    *slot = [0; BLOCK];
+    true
 }
 
 /// Slots of which those read as zero whose byte 0 is 0. Its calls are those of the slots below.
+///
+/// It notes how many slots from the first on were read in order and found clean: in use, or zero throughout.
 #[derive(Drop)]
 pub struct ScrubbedView<S: ReadSlots> {
     slots: S,
+    clean: u32,
+    ghost within: { clean ≤ (S.state slots).count },
+    ghost noted: { IsObservable (S.state slots) → AreClean (S.state slots).slots clean },
 }
 
 impl<S: ReadSlots> ScrubbedView<S> {
@@ -27,15 +37,17 @@ impl<S: ReadSlots> ScrubbedView<S> {
     pub fn new(slots: S) -> ScrubbedView<S>
         ensures { result.slots ≡ slots }
     {
-        ScrubbedView { slots }
+        ScrubbedView { slots, clean: 0 }
     }
 
-    /// Hands the slots below back.
-    pub fn into_slots(self) -> S
-        ensures { result ≡ self.slots }
+    /// Hands the slots below back, and how many of them from the first on are known to be clean.
+    pub fn into_slots(self) -> (S, u32)
+        ensures slots { result.0 ≡ self.slots }
+        ensures within { result.1 ≤ (S.state self.slots).count }
+        ensures clean { IsObservable (S.state self.slots) → AreClean (S.state self.slots).slots result.1 }
     {
-        let ScrubbedView { slots } = self;
-        slots
+        let ScrubbedView { slots, clean } = self;
+        (slots, clean)
     }
 }
 
@@ -54,7 +66,9 @@ impl<S: ReadSlots> ReadSlots for ScrubbedView<S> {
 
     fn get(&mut self, at: u32, into: &mut Slot) -> Result<(), Fault> {
         self.slots.get(at, into)?;
-        scrub_bytes(into);
+        if !scrub_bytes(into) && at == self.clean {
+            self.clean = self.clean.saturating_add(1);
+        }
         Ok(())
     }
 }

@@ -33,7 +33,7 @@ returns-clause-reaches g c observable =
     Reaches-then (IsApart c.args.at n) (IsZeroAt c.args.at n) _ _ _ c.write_at.result sound (Keeps-read (IsApart c.args.at n) _ _ _ observable c.args.at c.read_at.new.into c.read_at.ensures)
     (Reaches-write (IsApart c.args.at n) (IsZeroAt c.args.at n) _ _ c.write_at.result observable_mid c.args.at c.fill.new.self
     (λ place apart. subst (λ (m : ℕ). IsApart c.args.at m place) (sym written) apart) c.write_at.ensures
-    (zero_written (g.D.Disk.state c.read_at.new.self).bytes c.fill.new.self c.args.at n (c.fill.ensures.after (λ y is. search rules) ∙ ap (λ (m : ℕ). zeros m) long) (omega (arith, sound.size, c.read_at.ensures.call.size, c.requires))))
+    (zero_written (g.D.Disk.state c.read_at.new.self).bytes c.fill.new.self c.args.at n (c.fill.ensures.after (λ y is. search rules) ∙ ap (λ (m : ℕ). zeros m) long) (omega (arith, sound.size, c.read_at.ensures.call.size, c.requires.within))))
 
 -- the bytes that were read
 area_read : (image buffer : List ℕ) (at n : ℕ) → length buffer ≡ n → buffer ≡ take (length buffer) (drop at image) → buffer ≡ bytes_at image at n

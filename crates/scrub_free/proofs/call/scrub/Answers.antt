@@ -12,7 +12,7 @@ returns-in_default g c =
     let reads : ReadsDisk {T = Parameters} (g.D.Disk.state c.args.disk) (g.D.Disk.state c.read_params.new.disk) (Ok c.in-Ok-Some.params) =
     record { size = read.size; observable = read.observable; faults = read.faults; rise = read.rise; writes = read.writes; syncs = read.syncs; reads = read.reads } in
     let has = subst (λ found. IfSome found (HasParameters (g.D.Disk.state c.args.disk))) c.in-Ok-Some.field-0-is read.found in
-    not_scrubbed _ _ _ _ c.in-Ok.verdict has reads c.in_default.not-Clean (subst (ChecksScrubbed _ _ _) c.in-Ok.is c.check_scrubbed-disk.ensures)
+    not_scrubbed _ _ _ _ c.in-Ok.verdict has reads c.in_default.not-Clean (subst (ChecksScrubbed _ _ _) c.in-Ok.is c.check_scrubbed-disk.ensures.call)
 
 pub returns : goal.returns
 returns g c =
@@ -20,6 +20,6 @@ returns g c =
     let reads : ReadsDisk {T = Parameters} (g.D.Disk.state c.args.disk) (g.D.Disk.state c.read_params.new.disk) (Ok c.in-Ok-Some.params) =
     record { size = read.size; observable = read.observable; faults = read.faults; rise = read.rise; writes = read.writes; syncs = read.syncs; reads = read.reads } in
     let has = subst (λ found. IfSome found (HasParameters (g.D.Disk.state c.args.disk))) c.in-Ok-Some.field-0-is read.found in
-    scrubbed_clean _ _ _ _ c.in-Ok.verdict has reads (subst (ChecksScrubbed _ _ _) c.in-Ok.is c.check_scrubbed-disk.ensures)
+    scrubbed_clean _ _ _ _ c.in-Ok.verdict has reads (subst (ChecksScrubbed _ _ _) c.in-Ok.is c.check_scrubbed-disk.ensures.call)
     c.in-Clean.pages c.in-Clean.dirs c.in-Clean.files c.in-Clean.bytes c.in-Clean.is (g.D.Disk.state c.scrub_image-scrubbed.new.disk) c.scrub_image-scrubbed.result c.answer_of.result
     c.scrub_image-scrubbed.ensures.calls c.scrub_image-scrubbed.ensures.scrubs c.scrub_image-scrubbed.ensures.counts c.answer_of.ensures

@@ -4,7 +4,8 @@ use Rattle.gate_journal.proofs.Places.{Keeps-refl}
 use Rattle.gate_journal.proofs.Calls.{observable_after, Reaches-fault, Made-none, Made-as, Makes-then, Makes-as, Makes-short, Makes-sync}
 use Rattle.gate_journal.proofs.Loops.{comes_to}
 use Rattle.scrub_free.specs.FreeSlots.{OutsideFree, AreScrubbed, block_writes, scrub_writes}
-use Rattle.scrub_free.proofs.Counting.{scrub_writes-none, scrub_writes-part}
+use Rattle.scrub_free.proofs.Blocks.{clean_block}
+use Rattle.scrub_free.proofs.Counting.{scrub_writes-clean, scrub_writes-part}
 use Rattle.scrub_free.proofs.Stages.{writes_so_far, slot_keeps, slot_step}
 use Rattle.scrub_free.proofs.slots.scrub_slots.Goals as goal
 
@@ -16,8 +17,8 @@ loop-slot-init g c = record {
       let old = g.D.Disk.state c.args.disk.now in
       record {
         keeps = Keeps-refl (OutsideFree slots old.bytes) old (g.met.D.Disk.sound c.args.disk.now observable);
-        done = record { scrubbed = λ i low. absurd (omega arith); others = λ i low below. refl };
-        made = Made-as old old 0 0 (scrub_writes (table_slot slots old.bytes) 0) 0 (sym (scrub_writes-none (table_slot slots old.bytes))) refl (Made-none old);
+        done = record { scrubbed = λ i low. sym (clean_block (table_slot slots old.bytes i) (c.requires.clean observable i low)); others = λ i low below. refl };
+        made = Made-as old old 0 0 (scrub_writes (table_slot slots old.bytes) c.args.clean) 0 (sym (scrub_writes-clean (table_slot slots old.bytes) c.args.clean (c.requires.clean observable))) refl (Made-none old);
       };
 }
 
@@ -61,7 +62,7 @@ returns-clause-reaches g c observable =
     let slots = c.args.slots in
     let old = g.D.Disk.state c.args.disk.now in
     let observable_mid = observable_after _ _ _ c.loop-slot.invariant.calls observable in
-    let end : c.loop-slot.slot ≡ slots = omega (arith, c.loop-slot-test.false) in
+    let end : c.loop-slot.slot ≡ slots = omega (arith, c.loop-slot-test.false, c.loop-slot.auto.slot-end, c.requires.within) in
     let comes = rw end at (c.loop-slot.invariant.comes observable) in
     comes_to (OutsideFree slots old.bytes) (AreScrubbed slots slots old.bytes) (scrub_writes (table_slot slots old.bytes) slots) old _ _ c.sync.result observable_mid (g.met.D.Disk.sound c.loop-slot.disk observable_mid) comes c.sync.ensures
 
@@ -72,7 +73,7 @@ returns-clause-makes g c observable =
     let mid = g.D.Disk.state c.loop-slot.disk in
     let new = g.D.Disk.state c.sync.new.self in
     let observable_mid = observable_after _ _ _ c.loop-slot.invariant.calls observable in
-    let end : c.loop-slot.slot ≡ slots = omega (arith, c.loop-slot-test.false) in
+    let end : c.loop-slot.slot ≡ slots = omega (arith, c.loop-slot-test.false, c.loop-slot.auto.slot-end, c.requires.within) in
     let so_far = scrub_writes (table_slot slots old.bytes) c.loop-slot.slot in
     Makes-as old new c.sync.result (so_far + 0) (0 + 1) (scrub_writes (table_slot slots old.bytes) slots) 1 (omega (arith, ap (scrub_writes (table_slot slots old.bytes)) end)) (omega arith)
     (Makes-then old mid new c.sync.result so_far 0 0 1 (c.loop-slot.invariant.comes observable).made (Makes-sync mid new c.sync.result observable_mid c.sync.ensures))
