@@ -1,28 +1,35 @@
 //! Search.
 
 ghost use Rattle.std.specs.Prelude.{◌≡◌, None, Some};
-ghost use Rattle.store_model.specs.Labels.{label_cmp};
+ghost use Rattle.std.specs.Ordering.{nat_cmp};
+ghost use Rattle.std.specs.Cmp.Lexicographic.{slice_cmp};
+ghost use Rattle.store_model.specs.Labels.{label_bytes};
 ghost use Rattle.store_model.specs.Pages.{Page, IsPage};
 ghost use Rattle.store_model.specs.Images.{slot_bytes};
 ghost use Rattle.ordered_table.specs.Tables.{Finds};
 
 use crate::round::next_slot;
 use crate::steps::Steps;
-use node_pages::label_in;
 use seeded_draw::Draw;
 use std::cmp::Ordering;
 use std::sync::ledger::Ledger;
 use store_base::{BLOCK, Fault, Label, ReadSlots, Slot};
 
-/// How the label of the page in a slot stands to this label; `None` for a free slot. The cells are not looked at.
-pub(crate) fn order_of(slot: &Slot, label: &Label) -> Option<Ordering>
+/// Where the bytes of the label begin in the slot of a page, and where they end.
+const LABEL_AT: usize = 1;
+
+const LABEL_END: usize = 131;
+
+/// How the label of the page in a slot stands to the one of these bytes; `None` for a free slot. No label is decoded, and
+/// the cells are not looked at.
+pub(crate) fn order_of(slot: &Slot, wanted: &[u8]) -> Option<Ordering>
     ensures free { slot.now ≡ slot_bytes None → result ≡ None }
-    ensures page { (page : Page) → IsPage page → slot.now ≡ slot_bytes (Some page) → result ≡ Some (label_cmp page.label label.now) }
+    ensures page { (page : Page) → IsPage page → slot.now ≡ slot_bytes (Some page) → result ≡ Some (slice_cmp nat_cmp (label_bytes page.label) wanted.now) }
 {
-    match label_in(slot) {
-        Some(other) => Some(other.cmp(label)),
-        None => None,
+    if slot[0] != 1 {
+        return None;
     }
+    Some(slot[LABEL_AT..LABEL_END].cmp(wanted))
 }
 
 /// The slot that holds the page of the label, or `None` exactly where the slots hold no such page.
@@ -44,11 +51,12 @@ pub fn find<S: ReadSlots, W: Draw, L: Ledger>(
 {
     let count = draw.slots();
     let mut at = draw.start(label);
+    let wanted = label.to_bytes();
     let mut there = [0; BLOCK];
     for _look in 0..count {
         steps.tick();
         slots.get(at, &mut there)?;
-        let Some(order) = order_of(&there, label) else {
+        let Some(order) = order_of(&there, &wanted) else {
             return Ok(None);
         };
         match order {

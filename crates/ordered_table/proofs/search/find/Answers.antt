@@ -1,8 +1,19 @@
-use Rattle.std.proofs.Common.{◌≡◌, ℕ, ◌+◌, ◌%◌, Some, ap, subst, ◌∙◌, arith}
+use Rattle.std.proofs.Common.{◌≡◌, ℕ, ◌+◌, ◌%◌, List, Option, Some, ap, subst, ◌∙◌, arith}
 use Rattle.std.proofs.lemmas.Result.{err_from_is_err_and}
+use Rattle.std.specs.declared.cmp.Ordering.{Ordering}
 use Rattle.std.specs.declared.cmp.Ordering.TheVariants.{Less, Equal, Greater}
+use Rattle.std.specs.Ordering.{nat_cmp}
+use Rattle.std.specs.Cmp.Lexicographic.{slice_cmp}
+use Rattle.store_model.specs.Labels.{Label, label_bytes, label_cmp}
+use Rattle.store_model.specs.Pages.{Page, IsPage}
+use Rattle.store_model.specs.Images.{slot_bytes}
 use Rattle.ordered_table.proofs.Searching.{looks_at, searching_goes_on, finds_fails, finds_found, finds_ended, finds_none}
 use Rattle.ordered_table.proofs.search.find.Goals as goal
+
+-- how a page's label stands to one, from how it stands to its bytes
+by_bytes : (slot bytes : List ℕ) (l : Label) (order : Option Ordering) → ((page : Page) → IsPage page → slot ≡ slot_bytes (Some page) → order ≡ Some (slice_cmp nat_cmp (label_bytes page.label) bytes)) → bytes ≡ label_bytes l
+    → (page : Page) → IsPage page → slot ≡ slot_bytes (Some page) → order ≡ Some (label_cmp page.label l)
+by_bytes slot bytes l order page_is same page is held = page_is page is held ∙ ap (λ (xs : List ℕ). Some (slice_cmp nat_cmp (label_bytes page.label) xs)) same
 
 pub returns-in_err-get-clause-call : goal.returns-in_err-get-clause-call
 returns-in_err-get-clause-call g c =
@@ -15,21 +26,21 @@ pub returns-in_default-clause-call : goal.returns-in_default-clause-call
 returns-in_default-clause-call g c =
     let d = g.W.Draw.drawn c.args.draw.now in
     let law = g.met.W.Draw.lawful c.args.draw.now in
-    let s = looks_at d _ _ _ _ _ _ _ c.order_of.result law c.requires (omega (arith, c.loop-look-test.true, c.slots-count.ensures)) c.loop-look.invariant.0 c.in_ok-get.ensures.call c.order_of.ensures.free c.order_of.ensures.page in
+    let s = looks_at d _ _ _ _ _ _ _ c.order_of.result law c.requires (omega (arith, c.loop-look-test.true, c.slots-count.ensures)) c.loop-look.invariant.0 c.in_ok-get.ensures.call c.order_of.ensures.free (by_bytes _ _ _ _ c.order_of.ensures.page c.to_bytes-wanted.ensures.value) in
     finds_ended d _ _ _ _ _ _ _ _ _ _ _ s c.start-at.ensures.valid (λ e. c.in_default.not-Some Less e) (λ e. c.in_default.not-Some Equal e) c.loop-look.invariant.2 c.tick.ensures
 
 pub returns-in-Equal-clause-call : goal.returns-in-Equal-clause-call
 returns-in-Equal-clause-call g c =
     let d = g.W.Draw.drawn c.args.draw.now in
     let law = g.met.W.Draw.lawful c.args.draw.now in
-    let s = looks_at d _ _ _ _ _ _ _ c.order_of.result law c.requires (omega (arith, c.loop-look-test.true, c.slots-count.ensures)) c.loop-look.invariant.0 c.in_ok-get.ensures.call c.order_of.ensures.free c.order_of.ensures.page in
+    let s = looks_at d _ _ _ _ _ _ _ c.order_of.result law c.requires (omega (arith, c.loop-look-test.true, c.slots-count.ensures)) c.loop-look.invariant.0 c.in_ok-get.ensures.call c.order_of.ensures.free (by_bytes _ _ _ _ c.order_of.ensures.page c.to_bytes-wanted.ensures.value) in
     finds_found d _ _ _ _ _ _ _ _ _ _ _ s (c.in-Some.is ∙ ap Some c.in-Equal.is) c.loop-look.invariant.2 c.tick.ensures
 
 pub returns-in-Greater-clause-call : goal.returns-in-Greater-clause-call
 returns-in-Greater-clause-call g c =
     let d = g.W.Draw.drawn c.args.draw.now in
     let law = g.met.W.Draw.lawful c.args.draw.now in
-    let s = looks_at d _ _ _ _ _ _ _ c.order_of.result law c.requires (omega (arith, c.loop-look-test.true, c.slots-count.ensures)) c.loop-look.invariant.0 c.in_ok-get.ensures.call c.order_of.ensures.free c.order_of.ensures.page in
+    let s = looks_at d _ _ _ _ _ _ _ c.order_of.result law c.requires (omega (arith, c.loop-look-test.true, c.slots-count.ensures)) c.loop-look.invariant.0 c.in_ok-get.ensures.call c.order_of.ensures.free (by_bytes _ _ _ _ c.order_of.ensures.page c.to_bytes-wanted.ensures.value) in
     let greater : c.order_of.result ≡ Some Greater = c.in-Some.is ∙ ap Some c.in-Greater.is in
     finds_ended d _ _ _ _ _ _ _ _ _ _ _ s c.start-at.ensures.valid (λ e. cc) (λ e. cc) c.loop-look.invariant.2 c.tick.ensures
 
@@ -37,7 +48,7 @@ pub loop-look-preserved : goal.loop-look-preserved
 loop-look-preserved g c =
     let d = g.W.Draw.drawn c.args.draw.now in
     let law = g.met.W.Draw.lawful c.args.draw.now in
-    let s = looks_at d _ _ _ _ _ _ _ c.order_of.result law c.requires (omega (arith, c.loop-look-test.true, c.slots-count.ensures)) c.loop-look.invariant.0 c.in_ok-get.ensures.call c.order_of.ensures.free c.order_of.ensures.page in (
+    let s = looks_at d _ _ _ _ _ _ _ c.order_of.result law c.requires (omega (arith, c.loop-look-test.true, c.slots-count.ensures)) c.loop-look.invariant.0 c.in_ok-get.ensures.call c.order_of.ensures.free (by_bytes _ _ _ _ c.order_of.ensures.page c.to_bytes-wanted.ensures.value) in (
       searching_goes_on d _ _ _ _ _ _ _ _ _ s (c.in-Some.is ∙ ap Some c.in-Less.is) (subst (λ (n : ℕ). c.next_slot-at.result ≡ (c.loop-look.at + 1) % n) c.slots-count.ensures c.next_slot-at.ensures.value),
       g.met.S.ReadSlots.follows_trans c.args.slots.now c.loop-look.slots c.get.new.self c.loop-look.invariant.1 c.in_ok-get.ensures.follows,
       omega (arith, c.loop-look.invariant.2, c.tick.ensures),
