@@ -43,6 +43,10 @@ differing-same old new n m less same =
     let none : sum_by (differs old new) (numbers_from (0 + n) (m - n)) ≡ 0 = none_count (differs old new) (0 + n) (m - n) (λ i low high. same_counts old new i (same i (omega arith) (omega (arith, less)))) in
     ap (differing old new) rest ∙ sum_split (differs old new) 0 n (m - n) ∙ ap (λ (k : ℕ). differing old new n + k) none ∙ omega arith
 
+-- a table differs from itself in no slot
+pub differing-itself : (table : ℕ → List ℕ) (n : ℕ) → differing table table n ≡ 0
+differing-itself table n = differing-same table table 0 n (omega arith) (λ i low high. refl) ∙ differing-none table table
+
 -- past one with other bytes
 differing-other : (old new : ℕ → List ℕ) (n : ℕ) → old n ≢ new n → differing old new (n + 1) ≡ differing old new n + 1
 differing-other old new n other =

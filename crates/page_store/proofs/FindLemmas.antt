@@ -20,6 +20,7 @@ use Rattle.page_store.specs.Carrying.{CarriesOut}
 use Rattle.page_store.specs.Differences.{changes_of, AreDifferences}
 use Rattle.page_store.specs.OverlayState.{slot_over, overlaid}
 use Rattle.page_store.specs.PageImages.{table_slots, placed_slot}
+use Rattle.page_store.specs.Caches.{Kept}
 use Rattle.page_store.specs.Preparing.{FindsChanges, FindsSlots}
 use Rattle.page_store.specs.Staging.{Changes, with_changes}
 use Rattle.page_store.proofs.DifferLemmas.{differences_as}
@@ -43,8 +44,8 @@ module _ (d : Draw) (p q : Parameters) (touched later : List (ℕ × List ℕ)) 
   slots_kept = ap (λ (r : Parameters). r.slots) kept.params
 
   -- the slots that were written have been compared with those of the disk
-  pub slots_found : (result : Result ChangedSlots Fault) → FindsChanges q.slots later mid new result → FindsSlots d p touched changes old new result
-  slots_found (Ok found) finds = record {
+  pub slots_found : (cache : Kept) (result : Result ChangedSlots Fault) → FindsChanges q.slots later mid new cache result → FindsSlots d p touched changes old new result
+  slots_found cache (Ok found) finds = record {
     faults = finds.faults ∙ carried.calls.faults;
     rise = subst (λ (n : ℕ). AreChanges n (changes_of found.slots.items)) slots_kept finds.rise;
     differ = λ m observable held untouched valid few.
@@ -55,7 +56,7 @@ module _ (d : Draw) (p q : Parameters) (touched later : List (ℕ × List ℕ)) 
         (differences_as (table_slot q.slots mid.bytes) (slot_over q.slots later mid.bytes) (placed_slot d m) (placed_slot d (with_changes m changes)) q.slots (changes_of found.slots.items) finds.rise (placed d q.slots (table_slot q.slots mid.bytes) m held_mid)
         (placed d q.slots (slot_over q.slots later mid.bytes) (with_changes m changes) held_after) (finds.differ (kept.observable ∙ observable)));
   }
-  slots_found (Err fault) finds = record {
+  slots_found cache (Err fault) finds = record {
     faults = finds.faults ∙ ap (λ (n : ℕ). disk_faults_after {T = ChangedSlots} n (Err fault)) carried.calls.faults;
     rise = tt;
     differ = λ m observable held untouched valid few. tt;

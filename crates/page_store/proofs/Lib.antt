@@ -1,3 +1,4 @@
+pub mod CacheLemmas
 pub mod CarriedLemmas
 pub mod CarryLemmas
 pub mod ChangeLemmas

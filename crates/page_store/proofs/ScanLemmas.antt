@@ -1,5 +1,5 @@
 -- The loop that compares the slots that were written with those of the disk.
-use Rattle.std.proofs.Common.{◌≡◌, ◌≢◌, ℕ, ◌+◌, ◌<◌, ◌≤◌, List, [], ◌∷◌, ◌++◌, length, take, drop, Bool, false, cond, Option, Some, None, Ok, refl, sym, ap, subst, ◌∙◌, inl, inr, arith, length-append}
+use Rattle.std.proofs.Common.{◌≡◌, ◌≢◌, ℕ, ◌+◌, ◌<◌, ◌≤◌, List, [], ◌∷◌, ◌++◌, length, Bool, false, cond, Option, Some, None, Ok, Err, refl, sym, ap, subst, ◌∙◌, inl, inr, arith, length-append}
 use Rattle.std.specs.declared.cmp.Ordering.TheVariants.{Less}
 use Rattle.std.specs.List.{AllByRecursion}
 use Rattle.std.specs.List.Sorted.{IsStrictlySortedBy}
@@ -11,15 +11,15 @@ use Rattle.std.proofs.lemmas.Cmp.{ranked}
 use Rattle.std.proofs.lemmas.Map.Keys.{sorted_head, sorted_tail}
 use Rattle.std.proofs.lemmas.Option.{none-some}
 use Rattle.store_base.specs.declared.fault.DiskFault.{DiskFault}
-use Rattle.store_model.specs.Parameters.{table_at}
+use Rattle.store_base.specs.declared.store_fault.Fault.TheVariants as causes
 use Rattle.disk_model.specs.DiskState.{DiskState, IsObservable, IsSound}
-use Rattle.disk_model.specs.DiskCalls.{IsRead}
 use Rattle.gate_journal.specs.Changes.{AreChanges}
 use Rattle.gate_journal.specs.Phases.{table_slot}
 use Rattle.gate_journal.specs.Places.{AreCalls, ReadsOnly}
-use Rattle.gate_journal.proofs.Calls.{AreCalls-none, AreCalls-one, AreCalls-then, observable_after}
-use Rattle.gate_journal.proofs.Reading.{ReadsOnly-refl, ReadsOnly-trans, ReadsOnly-read}
+use Rattle.gate_journal.proofs.Calls.{AreCalls-none, AreCalls-then, observable_after}
+use Rattle.gate_journal.proofs.Reading.{ReadsOnly-refl, ReadsOnly-trans}
 use Rattle.page_store.specs.declared.changed.ChangedSlots.{ChangedSlots}
+use Rattle.page_store.specs.Caches.{Kept, IsCacheOf, ReadsSlot}
 use Rattle.page_store.specs.Differences.{changes_of, AreDifferences}
 use Rattle.page_store.specs.OverlayState.{touched_at, bytes_or, slot_over}
 use Rattle.page_store.specs.Preparing.{FindsChanges}
@@ -107,17 +107,16 @@ module _ (slots : ℕ) (written : List (ℕ × List ℕ)) (within : (i : ℕ) (s
   has_bytes : (image : List ℕ) → slot ≡ slot_over slots written image at
   has_bytes image = sym (ap (λ (o : Option (List ℕ)). bytes_or o (table_slot slots image at)) written_at)
 
-  module _ (buffer : List ℕ) (read : IsRead {T = Unit {0}} {E = DiskFault} now new (table_at slots at) buffer (Ok tt)) (long : length buffer ≡ 4096) where
+  module _ (buffer : List ℕ) (kept : Kept) (read : ReadsSlot slots at now new kept buffer {T = Unit {0}} (Ok tt)) where
     calls_read : AreCalls {T = Unit {0}} {E = DiskFault} old new (Ok tt)
-    calls_read = AreCalls-then old now new tt (Ok tt) here.calls (AreCalls-one now new _ read.call)
+    calls_read = AreCalls-then old now new tt (Ok tt) here.calls read.calls
 
     reads_read : IsObservable old → ReadsOnly old new
-    reads_read observable = ReadsOnly-trans old now new (here.reads observable) (ReadsOnly-read now new _ _ _ (observable_after old now _ here.calls observable) read)
+    reads_read observable = ReadsOnly-trans old now new (here.reads observable) (read.reads (observable_after old now _ here.calls observable))
 
     shows : IsObservable old → buffer ≡ table_slot slots old.bytes at
     shows observable =
-        (read.observed (observable_after old now _ here.calls observable)).read ∙ ap (λ (n : ℕ). take n (drop (table_at slots at) now.bytes)) long
-        ∙ ap (λ (l : List ℕ). take 4096 (drop (table_at slots at) l)) (here.reads observable).bytes
+        read.slot (observable_after old now _ here.calls observable) ∙ ap (λ (image : List ℕ). table_slot slots image at) (here.reads observable).bytes
 
     -- a slot with the same bytes
     pub scanning_passes : buffer ≡ slot → IsScanning slots written old new items left
@@ -158,9 +157,10 @@ module _ (slots : ℕ) (written : List (ℕ × List ℕ)) (within : (i : ℕ) (s
     }
 
 -- all were compared
-pub found_all : (slots : ℕ) (written : List (ℕ × List ℕ)) (old now : DiskState) (found : ChangedSlots) → IsScanning slots written old now found.slots.items [] → FindsChanges slots written old now (Ok found)
-found_all slots written old now found scanned = record {
+pub found_all : (slots : ℕ) (written : List (ℕ × List ℕ)) (old now : DiskState) (kept : Kept) (found : ChangedSlots) → IsCacheOf slots now kept → IsScanning slots written old now found.slots.items [] → FindsChanges slots written old now kept (Ok found)
+found_all slots written old now kept found cached scanned = record {
   kept = record { size = scanned.calls.size; observable = scanned.calls.observable; faults = scanned.calls.rise; writes = scanned.calls.writes; syncs = scanned.calls.syncs };
+  cached = cached;
   faults = scanned.calls.faults;
   reads = scanned.reads;
   rise = rising_later scanned.bound slots (changes_of found.slots.items) scanned.within scanned.rise;
@@ -168,3 +168,17 @@ found_all slots written old now found scanned = record {
       differences_later (table_slot slots old.bytes) (slot_over slots written old.bytes) scanned.bound slots (changes_of found.slots.items) scanned.within
       (λ i start below. ap (λ (o : Option (List ℕ)). bytes_or o (table_slot slots old.bytes i)) (scanned.ahead i start)) (scanned.differ observable);
 }
+
+-- there was no memory for a slot that differs
+pub none_found : (slots : ℕ) (written : List (ℕ × List ℕ)) (old now new : DiskState) (items rest : List (ℕ × List ℕ)) (at : ℕ) (kept : Kept) (buffer : List ℕ) → IsScanning slots written old now items rest → ReadsSlot slots at now new kept buffer {T = Unit {0}} (Ok tt)
+    → FindsChanges slots written old new kept (Err causes.NoMemory)
+none_found slots written old now new items rest at kept buffer scanned read =
+    let calls : AreCalls {T = Unit {0}} {E = DiskFault} old new (Ok tt) = AreCalls-then old now new tt (Ok tt) scanned.calls read.calls in
+    record {
+      kept = record { size = calls.size; observable = calls.observable; faults = calls.rise; writes = calls.writes; syncs = calls.syncs };
+      cached = read.cached;
+      faults = calls.faults;
+      reads = λ observable. ReadsOnly-trans old now new (scanned.reads observable) (read.reads (observable_after old now _ scanned.calls observable));
+      rise = tt;
+      differ = λ observable. tt;
+    }

@@ -15,7 +15,7 @@ use Rattle.gate_journal.specs.Changes as journal
 use Rattle.gate_journal.specs.Costs.{CountsCommit}
 use Rattle.gate_journal.specs.Disks.{KeepsDisk}
 use Rattle.gate_journal.specs.Phases.{HasEmptyJournal}
-use Rattle.gate_journal.specs.Places.{AreCalls, Makes}
+use Rattle.gate_journal.specs.Places.{AreCalls, Makes, ReadsOnly}
 use Rattle.gate_journal.specs.ViewState.{KeepsView}
 use Rattle.gate_journal.proofs.Phases.{recovered_empty}
 use Rattle.page_store.specs.declared.changed.ChangedSlots.{ChangedSlots}
@@ -27,9 +27,10 @@ use Rattle.page_store.specs.OverlayState.{overlaid}
 use Rattle.page_store.specs.PageImages.{table_slots, pages_in_table, placed_slot, IsLayoutOf, StandsAt, RepresentsPages, slots_between}
 use Rattle.page_store.specs.Preparing.{FindsSlots}
 use Rattle.page_store.specs.Settling.{AnswersFull, SettlesDisk, Settles}
-use Rattle.page_store.specs.StagedState.{staged_state, IsCounted, IsStaged}
+use Rattle.page_store.specs.StagedState.{StagedState, staged_state, IsCounted, IsStaged}
 use Rattle.page_store.specs.Staging.{Changes, with_changes}
 use Rattle.page_store.proofs.CommitLemmas.{becomes, either, counts_commit}
+use Rattle.page_store.proofs.DifferLemmas.{differing-itself}
 use Rattle.page_store.proofs.SlotLemmas.{pages_in_held}
 use Rattle.page_store.proofs.StagedLemmas.{read_later, staged_later}
 
@@ -41,8 +42,23 @@ represents_at d p m image long layout = record {
 }
 
 -- a value that is not spent, over a disk that was only read since
-module _ {D W : Type 0} (state : D → DiskState) (drawn : W → Draw) (p q : Parameters) (draw : W) (disk mid : D) (touched : List (ℕ × List ℕ)) (changes : Changes) (used settled lookups : ℕ) (is_spent : Bool) (sound : (x : D) → IsObservable (state x) → IsSound (state x)) (sized : (state disk).size ≡ image_len p.slots)
-    (staged : IsStaged (drawn draw) p (state disk) touched changes used settled is_spent) (runs : is_spent ≡ false) (kept : KeepsView p q (state disk) (state mid)) where
+pub record IsReadSince {D W : Type 0} (state : D → DiskState) (drawn : W → Draw) (p q : Parameters) (draw : W) (disk mid : D) (touched : List (ℕ × List ℕ)) (changes : Changes) (used settled lookups : ℕ) (is_spent : Bool) (was : StagedState D W) : Type 0 where
+  pub sound : (x : D) → IsObservable (state x) → IsSound (state x)
+  pub sized : (state disk).size ≡ image_len p.slots
+  pub staged : IsStaged (drawn draw) p (state disk) touched changes used settled is_spent
+  pub view_is : staged_state state p draw disk changes lookups is_spent ≡ was
+  pub unspent : was.is_spent ≡ false
+  pub kept : KeepsView p q (state disk) (state mid)
+
+pub read_since : {D W : Type 0} (state : D → DiskState) (drawn : W → Draw) {p q : Parameters} (draw : W) (disk mid : D) {touched : List (ℕ × List ℕ)} {changes : Changes} {used settled lookups : ℕ} {is_spent : Bool} {was : StagedState D W}
+    → ((x : D) → IsObservable (state x) → IsSound (state x)) → (state disk).size ≡ image_len p.slots → IsStaged (drawn draw) p (state disk) touched changes used settled is_spent
+    → staged_state state p draw disk changes lookups is_spent ≡ was → was.is_spent ≡ false → KeepsView p q (state disk) (state mid) → IsReadSince state drawn p q draw disk mid touched changes used settled lookups is_spent was
+read_since state drawn draw disk mid sound sized staged view_is unspent kept = record { sound = sound; sized = sized; staged = staged; view_is = view_is; unspent = unspent; kept = kept }
+
+module _ {D W : Type 0} {state : D → DiskState} {drawn : W → Draw} {p q : Parameters} {draw : W} {disk mid : D} {touched : List (ℕ × List ℕ)} {changes : Changes} {used settled lookups : ℕ} {is_spent : Bool} {was : StagedState D W} (at : IsReadSince state drawn p q draw disk mid touched changes used settled lookups is_spent was) where
+  pub runs : is_spent ≡ false
+  runs = ap (λ (x : StagedState D W). x.is_spent) at.view_is ∙ at.unspent
+
   abbrev table : PageMap
   table = pages_in_table p.slots (state disk).bytes
 
@@ -53,34 +69,35 @@ module _ {D W : Type 0} (state : D → DiskState) (drawn : W → Draw) (p q : Pa
   Either image = RepresentsPages (drawn draw) p table image ⊎ RepresentsPages (drawn draw) p pages image
 
   counted : IsObservable (state disk) → IsCounted (drawn draw) p (state disk) touched changes used settled
-  counted observable = staged.counted observable runs
+  counted observable = at.staged.counted observable runs
 
   represents : IsObservable (state disk) → RepresentsPages (drawn draw) p table (state disk).bytes
-  represents observable = represents_at (drawn draw) p table (state disk).bytes ((sound disk observable).size ∙ sized) (counted observable).stands.layout
+  represents observable = represents_at (drawn draw) p table (state disk).bytes ((at.sound disk observable).size ∙ at.sized) (counted observable).stands.layout
 
   crash_read : IsObservable (state disk) → LeavesOnly (state disk) (state mid) Either
   crash_read observable =
       LeavesOnly-weaken (state disk) (state mid) (state disk).crash_images Either (λ image left. inl (subst (RepresentsPages (drawn draw) p table) (sym ((counted observable).stands.durable image left)) (represents observable)))
-      (kept.reads observable).leaves
+      (at.kept.reads observable).leaves
 
   same_table : IsObservable (state disk) → pages_in_table q.slots (state mid).bytes ≡ table
-  same_table observable = ap₂ (λ (r : Parameters) (bytes : List ℕ). pages_in_table r.slots bytes) kept.params (kept.reads observable).bytes
+  same_table observable = ap₂ (λ (r : Parameters) (bytes : List ℕ). pages_in_table r.slots bytes) at.kept.params (at.kept.reads observable).bytes
 
   -- the changes stay staged
   pub read_staged : (later : List (ℕ × List ℕ)) → later ≡ [] → IsStaged (drawn draw) q (state mid) later changes used settled is_spent
   read_staged later none =
-      staged_later (drawn draw) p q (state disk) (state mid) touched later changes used settled is_spent staged
-      (read_later p q (state disk) (state mid) touched later kept (λ observable.
-      ap (λ (t : List (ℕ × List ℕ)). (overlaid q.slots t (state mid)).slots) none ∙ ap₂ (λ (r : Parameters) (bytes : List ℕ). table_slots r.slots bytes) kept.params (kept.reads observable).bytes ∙ sym (counted observable).untouched))
+      staged_later (drawn draw) p q (state disk) (state mid) touched later changes used settled is_spent at.staged
+      (read_later p q (state disk) (state mid) touched later at.kept (λ observable.
+      ap (λ (t : List (ℕ × List ℕ)). (overlaid q.slots t (state mid)).slots) none ∙ ap₂ (λ (r : Parameters) (bytes : List ℕ). table_slots r.slots bytes) at.kept.params (at.kept.reads observable).bytes ∙ sym (counted observable).untouched))
 
   read_disk : (fault : SettleFault) → IsObservable (state disk) → AnswersFull {T = Unit {0}} (drawn draw) pages (Err fault) → SettlesDisk {T = Unit {0}} (drawn draw) p table pages (state disk) (state mid) false (Err fault)
   read_disk fault observable full =
-      let reads = kept.reads observable in
+      let reads = at.kept.reads observable in
       record {
         full = full;
         stands = tt;
         crash = crash_read observable;
         reads = inl (subst (RepresentsPages (drawn draw) p table) (sym reads.bytes) (represents observable));
+        still = λ e. reads;
         no_memory = λ e. reads;
         too_many = λ need slots e. reads;
         counts = record { made = tt; limit = record { write_limit = omega (arith, reads.write_count); sync_limit = omega (arith, reads.sync_count) } };
@@ -90,31 +107,32 @@ module _ {D W : Type 0} (state : D → DiskState) (drawn : W → Draw) (p q : Pa
 
   -- a settle that is refused, or fails before the first write
   pub refused : (fault : SettleFault) → (state mid).faults ≡ settle_faults_after {T = Unit {0}} (state disk).faults (Err fault) → (IsObservable (state disk) → AnswersFull {T = Unit {0}} (drawn draw) pages (Err fault))
-      → Settles {T = Unit {0}} state drawn (staged_state state p draw disk changes lookups is_spent) (staged_state state q draw mid changes lookups is_spent) (Err fault)
-  refused fault faults full = record {
-    params = kept.params;
-    draw = refl;
-    lookups = refl;
-    kept = record { size = kept.size; observable = kept.observable; faults = kept.rise; writes = kept.writes; syncs = kept.syncs };
-    faults = faults;
-    runs = λ other. runs;
-    map = λ observable still. ap (λ (m : PageMap). with_changes m changes) (same_table observable);
-    table = λ observable. tt;
-    table_stays = λ observable still. same_table observable;
-    observed = λ observable.
-        subst (λ (b : Bool). SettlesDisk {T = Unit {0}} (drawn draw) p table pages (state disk) (state mid) b (Err fault)) (sym runs)
-        (read_disk fault observable (full observable));
-  }
+      → Settles {T = Unit {0}} state drawn was (staged_state state q draw mid changes lookups is_spent) (Err fault)
+  refused fault faults full =
+      subst (λ (x : StagedState D W). Settles {T = Unit {0}} state drawn x (staged_state state q draw mid changes lookups is_spent) (Err fault)) at.view_is (record {
+        params = at.kept.params;
+        draw = refl;
+        lookups = refl;
+        kept = record { size = at.kept.size; observable = at.kept.observable; faults = at.kept.rise; writes = at.kept.writes; syncs = at.kept.syncs };
+        faults = faults;
+        runs = λ other. runs;
+        map = λ observable still. ap (λ (m : PageMap). with_changes m changes) (same_table observable);
+        table = λ observable. tt;
+        table_stays = λ observable still. same_table observable;
+        observed = λ observable.
+            subst (λ (b : Bool). SettlesDisk {T = Unit {0}} (drawn draw) p table pages (state disk) (state mid) b (Err fault)) (sym runs)
+            (read_disk fault observable (full observable));
+      })
 
   seen : IsObservable (state disk) → IsObservable (state mid)
-  seen observable = kept.observable ∙ observable
+  seen observable = at.kept.observable ∙ observable
 
   unseen : IsObservable (state mid) → IsObservable (state disk)
-  unseen observable = sym kept.observable ∙ observable
+  unseen observable = sym at.kept.observable ∙ observable
 
   stands_mid : IsObservable (state disk) → StandsAt (drawn draw) p table (state mid)
   stands_mid observable =
-      let reads = kept.reads observable in
+      let reads = at.kept.reads observable in
       let stands = (counted observable).stands in
       record {
         layout = subst (IsLayoutOf (drawn draw) p table) (sym reads.bytes) stands.layout;
@@ -129,44 +147,47 @@ module _ {D W : Type 0} (state : D → DiskState) (drawn : W → Draw) (p q : Pa
   empty_mid observable = (stands_mid (unseen observable)).layout.empty
 
   fits : used ≤ p.slots → IsObservable (state disk) → maps.len pages ≤ (drawn draw).slots
-  fits fewer observable = omega (arith, fewer, (counted observable).used_is, staged.drawn)
+  fits fewer observable = omega (arith, fewer, (counted observable).used_is, at.staged.drawn)
 
   few : used ≤ p.slots → IsObservable (state disk) → (drawn draw).slots < maps.len pages → ⊥
   few fewer observable more = let fewer_pages = fits fewer observable in absurd (omega (arith, fewer_pages, more))
 
   -- the slots that differ were not found
   pub not_found : (fault : Fault) → used ≤ p.slots → (state mid).faults ≡ disk_faults_after {T = ChangedSlots} (state disk).faults (Err fault)
-      → Settles {T = Unit {0}} state drawn (staged_state state p draw disk changes lookups is_spent) (staged_state state q draw mid changes lookups is_spent) (Err (settle_fault_of fault))
+      → Settles {T = Unit {0}} state drawn was (staged_state state q draw mid changes lookups is_spent) (Err (settle_fault_of fault))
   not_found below.Disk fewer faults = refused causes.Disk faults (few fewer)
   not_found below.NoMemory fewer faults = refused causes.NoMemory faults (few fewer)
 
   -- the slots that differ were found, and are committed
-  module _ (fewer : used ≤ p.slots) (law : IsLawful (drawn draw)) (changed : ChangedSlots) (finds : FindsSlots (drawn draw) p touched changes (state disk) (state mid) (Ok changed)) (after : D) where
+  module _ (fewer : used ≤ p.slots) (law : IsLawful (drawn draw)) (changed : ChangedSlots) {found : Result ChangedSlots Fault} (is : found ≡ Ok changed) (found_by : FindsSlots (drawn draw) p touched changes (state disk) (state mid) found) (after : D) where
+    finds : FindsSlots (drawn draw) p touched changes (state disk) (state mid) (Ok changed)
+    finds = subst (FindsSlots (drawn draw) p touched changes (state disk) (state mid)) is found_by
+
     abbrev commit : journal.Changes
     commit = changes_of changed.slots.items
 
     differ : IsObservable (state disk) → AreDifferences (placed_slot (drawn draw) table) (placed_slot (drawn draw) pages) (drawn draw).slots commit
     differ observable =
-        let at = counted observable in
-        finds.differ table observable at.stands.layout.holds at.untouched at.valid (fits fewer observable)
+        let now = counted observable in
+        finds.differ table observable now.stands.layout.holds now.untouched now.valid (fits fewer observable)
 
     becomes_pages : IsObservable (state disk) → IsLayoutOf (drawn draw) p pages (journal.with_slots p.slots commit (state mid).bytes)
     becomes_pages observable =
-        becomes (drawn draw) p table pages (state mid) staged.drawn (sound mid (seen observable)) (kept.size ∙ sized) (stands_mid observable) (counted observable).valid (fits fewer observable) commit finds.rise (differ observable)
+        becomes (drawn draw) p table pages (state mid) at.staged.drawn (at.sound mid (seen observable)) (at.kept.size ∙ at.sized) (stands_mid observable) (counted observable).valid (fits fewer observable) commit finds.rise (differ observable)
 
     to_either : IsObservable (state disk) → (image : List ℕ) → journal.RecoversToEither p.slots (state mid).bytes (journal.with_slots p.slots commit (state mid).bytes) image → Either image
     to_either observable =
-        either (drawn draw) p table pages (state mid) staged.drawn (sound mid (seen observable)) (kept.size ∙ sized) (stands_mid observable) (counted observable).valid (fits fewer observable) commit finds.rise (differ observable)
+        either (drawn draw) p table pages (state mid) at.staged.drawn (at.sound mid (seen observable)) (at.kept.size ∙ at.sized) (stands_mid observable) (counted observable).valid (fits fewer observable) commit finds.rise (differ observable)
 
     module _ {T E : Type 0} (result : Result T E) (calls : AreCalls (state mid) (state after) result) (commits : IsObservable (state mid) → journal.Commits p.slots commit (state mid) (state after) result) (none : commit.count ≡ 0 → after ≡ mid)
         (makes : IsObservable (state mid) → 0 < commit.count → Makes (5 * commit.count + 2) 5 (state mid) (state after) result) where
       keeps : KeepsDisk (state disk) (state after)
       keeps = record {
-        size = calls.size ∙ kept.size;
-        observable = calls.observable ∙ kept.observable;
-        faults = omega (arith, kept.rise, calls.rise);
-        writes = omega (arith, kept.writes, calls.writes);
-        syncs = omega (arith, kept.syncs, calls.syncs);
+        size = calls.size ∙ at.kept.size;
+        observable = calls.observable ∙ at.kept.observable;
+        faults = omega (arith, at.kept.rise, calls.rise);
+        writes = omega (arith, at.kept.writes, calls.writes);
+        syncs = omega (arith, at.kept.syncs, calls.syncs);
       }
 
       crash : IsObservable (state disk) → LeavesOnly (state disk) (state after) Either
@@ -178,14 +199,20 @@ module _ {D W : Type 0} (state : D → DiskState) (drawn : W → Draw) (p q : Pa
       reads observable = to_either observable (state after).bytes (commits (seen observable)).reads
 
       counts : IsObservable (state disk) → CountsCommit (slots_between (drawn draw) table pages) (state disk) (state after) result
-      counts observable = counts_commit (slots_between (drawn draw) table pages) commit.count (state disk) (state mid) (state after) result (kept.reads observable) (differ observable).count_is (λ e. ap state (none e)) (makes (seen observable))
+      counts observable = counts_commit (slots_between (drawn draw) table pages) commit.count (state disk) (state mid) (state after) result (at.kept.reads observable) (differ observable).count_is (λ e. ap state (none e)) (makes (seen observable))
+
+      -- where no page changed no slot differs, and nothing was committed
+      still : IsObservable (state disk) → pages ≡ table → ReadsOnly (state disk) (state after)
+      still observable same =
+          let count_is : commit.count ≡ 0 = (differ observable).count_is ∙ ap (slots_between (drawn draw) table) same ∙ differing-itself (placed_slot (drawn draw) table) (drawn draw).slots in
+          subst (λ (x : D). ReadsOnly (state disk) (state x)) (sym (none count_is)) (at.kept.reads observable)
 
     -- the disk failed
     pub failed : {E : Type 0} (fault : E) → AreCalls {T = Unit {0}} (state mid) (state after) (Err fault) → (IsObservable (state mid) → journal.Commits {T = Unit {0}} p.slots commit (state mid) (state after) (Err fault)) → (commit.count ≡ 0 → after ≡ mid)
         → (IsObservable (state mid) → 0 < commit.count → Makes {T = Unit {0}} (5 * commit.count + 2) 5 (state mid) (state after) (Err fault)) → (IsObservable (state mid) → Rose (state mid).writes (state after).writes)
-        → Settles {T = Unit {0}} state drawn (staged_state state p draw disk changes lookups is_spent) (staged_state state q draw after changes lookups true) (Err causes.Disk)
-    failed {E} fault calls commits none makes wrote = record {
-      params = kept.params;
+        → Settles {T = Unit {0}} state drawn was (staged_state state q draw after changes lookups true) (Err causes.Disk)
+    failed {E} fault calls commits none makes wrote = subst (λ (x : StagedState D W). Settles {T = Unit {0}} state drawn x (staged_state state q draw after changes lookups true) (Err causes.Disk)) at.view_is (record {
+      params = at.kept.params;
       draw = refl;
       lookups = refl;
       kept = keeps {T = Unit {0}} {E = E} (Err fault) calls commits none makes;
@@ -199,16 +226,17 @@ module _ {D W : Type 0} (state : D → DiskState) (drawn : W → Draw) (p q : Pa
         stands = tt;
         crash = crash {T = Unit {0}} {E = E} (Err fault) calls commits none makes observable;
         reads = reads {T = Unit {0}} {E = E} (Err fault) calls commits none makes observable;
+        still = still {T = Unit {0}} {E = E} (Err fault) calls commits none makes observable;
         no_memory = λ e. absurd (cc);
         too_many = λ need slots e. absurd (cc);
         counts = record { made = tt; limit = (counts {T = Unit {0}} {E = E} (Err fault) calls commits none makes observable).limit };
-        spends = λ e. (refl, inl (subst (λ (n : ℕ). Rose n (state after).writes) (kept.reads observable).write_count (wrote (seen observable))));
+        spends = λ e. (refl, inl (subst (λ (n : ℕ). Rose n (state after).writes) (at.kept.reads observable).write_count (wrote (seen observable))));
         goes_on = λ e f. absurd (cc);
       };
-    }
+    })
 
     pub failed_staged : (later : List (ℕ × List ℕ)) → IsStaged (drawn draw) q (state after) later changes used settled true
-    failed_staged later = record { drawn = staged.drawn ∙ ap (λ (r : Parameters). r.slots) (sym kept.params); counted = λ observable still. absurd (cc) }
+    failed_staged later = record { drawn = at.staged.drawn ∙ ap (λ (r : Parameters). r.slots) (sym at.kept.params); counted = λ observable still. absurd (cc) }
 
     -- all was done
     module _ {E : Type 0} (value : Unit {0}) (calls : AreCalls {E = E} (state mid) (state after) (Ok value)) (commits : IsObservable (state mid) → journal.Commits {E = E} p.slots commit (state mid) (state after) (Ok value)) where
@@ -222,14 +250,14 @@ module _ {D W : Type 0} (state : D → DiskState) (drawn : W → Draw) (p q : Pa
 
       pub done_staged : (later : List (ℕ × List ℕ)) (no_change : Changes) → later ≡ [] → no_change ≡ [] → IsStaged (drawn draw) q (state after) later no_change used used is_spent
       done_staged later no_change untouched empty = record {
-        drawn = staged.drawn ∙ ap (λ (r : Parameters). r.slots) (sym kept.params);
+        drawn = at.staged.drawn ∙ ap (λ (r : Parameters). r.slots) (sym at.kept.params);
         counted = λ observable still.
-            let before : IsObservable (state disk) = sym (calls.observable ∙ kept.observable) ∙ observable in
+            let before : IsObservable (state disk) = sym (calls.observable ∙ at.kept.observable) ∙ observable in
             let table_is = new_table before in
             let used_is = (counted before).used_is ∙ ap maps.len (sym table_is) in
             subst (λ (es : Changes). IsCounted (drawn draw) q (state after) later es used used) (sym empty)
             (subst (λ (t : List (ℕ × List ℕ)). IsCounted (drawn draw) q (state after) t [] used used) (sym untouched)
-            (subst (λ (r : Parameters). IsCounted (drawn draw) r (state after) [] [] used used) (sym kept.params) (record {
+            (subst (λ (r : Parameters). IsCounted (drawn draw) r (state after) [] [] used used) (sym at.kept.params) (record {
               stands = subst (λ (m : PageMap). StandsAt (drawn draw) p m (state after)) (sym table_is) (stands_after before);
               valid = subst IsPageMap (sym table_is) (counted before).valid;
               used_is = used_is;
@@ -239,11 +267,11 @@ module _ {D W : Type 0} (state : D → DiskState) (drawn : W → Draw) (p q : Pa
       }
 
       pub done : (no_change : Changes) → no_change ≡ [] → (commit.count ≡ 0 → after ≡ mid) → (IsObservable (state mid) → 0 < commit.count → Makes {E = E} (5 * commit.count + 2) 5 (state mid) (state after) (Ok value))
-          → Settles state drawn (staged_state state p draw disk changes lookups is_spent) (staged_state state q draw after no_change lookups is_spent) (Ok value)
+          → Settles state drawn was (staged_state state q draw after no_change lookups is_spent) (Ok value)
       done no_change empty none makes =
-          let table_is = λ (observable : IsObservable (state disk)). ap (λ (r : Parameters). pages_in_table r.slots (state after).bytes) kept.params ∙ new_table observable in
-          record {
-            params = kept.params;
+          let table_is = λ (observable : IsObservable (state disk)). ap (λ (r : Parameters). pages_in_table r.slots (state after).bytes) at.kept.params ∙ new_table observable in
+          subst (λ (x : StagedState D W). Settles state drawn x (staged_state state q draw after no_change lookups is_spent) (Ok value)) at.view_is (record {
+            params = at.kept.params;
             draw = refl;
             lookups = refl;
             kept = keeps {E = E} (Ok value) calls commits none makes;
@@ -259,10 +287,11 @@ module _ {D W : Type 0} (state : D → DiskState) (drawn : W → Draw) (p q : Pa
                   stands = stands_after observable;
                   crash = crash {E = E} (Ok value) calls commits none makes observable;
                   reads = reads {E = E} (Ok value) calls commits none makes observable;
+                  still = still {E = E} (Ok value) calls commits none makes observable;
                   no_memory = λ e. absurd (cc);
                   too_many = λ need slots e. absurd (cc);
                   counts = record { made = counted_all.made; limit = counted_all.limit };
                   spends = λ e. absurd (cc);
                   goes_on = λ e f. absurd (cc);
                 });
-          }
+          })

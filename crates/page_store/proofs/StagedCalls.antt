@@ -1,23 +1,49 @@
 -- The calls that look pages up and stage changes.
-use Rattle.std.proofs.Common.{◌≡◌, ℕ, ◌+◌, ◌-◌, ◌≤◌, Bool, cond, List, Option, Some, None, Result, Ok, Err, refl, sym, ap, subst, ◌∙◌}
+use Rattle.std.proofs.Common.{◌≡◌, ℕ, ◌+◌, ◌-◌, ◌<◌, ◌≤◌, min, Bool, true, false, cond, List, Option, Some, None, IsSome, is_some, Result, Ok, Err, refl, sym, ap, ap₂, subst, ◌∙◌, arith}
 use Rattle.std.specs.FinMap as maps
+use Rattle.std.specs.BTreeMap.{insert_entry}
 use Rattle.std.specs.FinMap.{len-insert, len-remove}
 use Rattle.std.specs.Cmp.Lexicographic.{nat_list_cmp_total}
 use Rattle.store_model.specs.Parameters.{Parameters}
-use Rattle.store_model.specs.Labels.{Label, label_bytes}
+use Rattle.store_model.specs.Labels.{Label, label_bytes, label_cmp}
 use Rattle.store_model.specs.Draws.{Draw}
 use Rattle.store_model.specs.Pages.{Page}
-use Rattle.store_model.specs.PageMaps.{PageMap, with_page, without_page}
+use Rattle.store_model.specs.PageMaps.{PageMap, IsPageMap}
 use Rattle.store_base.specs.declared.store_fault.Fault.{Fault}
 use Rattle.store_base.specs.Faults.{disk_faults_after}
 use Rattle.disk_model.specs.DiskState.{DiskState, IsObservable}
-use Rattle.node_pages.specs.PagesState.{IsPageGet, IsPagePut, IsPageDrop}
+use Rattle.node_pages.specs.PagesState.{IsPageGet, most_pages}
 use Rattle.page_store.specs.OverlayState.{overlaid}
 use Rattle.page_store.specs.PageImages.{pages_in_table}
-use Rattle.page_store.specs.Staging.{Changes, with_change, with_changes}
-use Rattle.page_store.specs.Lookups.{ReadsChanged}
+use Rattle.page_store.specs.Staging.{Changes, with_change, with_changes, used_after}
+use Rattle.page_store.specs.Lookups.{ReadsChanged, Finds}
 use Rattle.page_store.specs.StagedState.{staged_state, IsStaged, IsTold, pages_state}
-use Rattle.page_store.proofs.StagedLemmas.{IsReadLater, staged_later, same_table, held_over}
+use Rattle.page_store.specs.Stagings.{Stages}
+use Rattle.page_store.proofs.StagedLemmas.{IsReadLater, staged_later, staged_change, changed_map, same_table, held_over}
+
+-- ---- the count of pages
+
+-- with a change of one label
+len_after : (m : PageMap) (l : Label) (change : Option Page) (used : ℕ) (is_there : Bool) → used ≡ maps.len m → is_there ≡ maps.contains_key m (label_bytes l) → used_after used is_there (is_some change) ≡ maps.len (with_change m l change)
+len_after m l (Some page) used is_there is there = added used is_there ∙ ap₂ (λ (n : ℕ) (b : Bool). cond b n (n + 1)) is there ∙ sym (len-insert nat_list_cmp_total m (label_bytes l) page)
+  where
+    added : (n : ℕ) (was : Bool) → used_after n was true ≡ cond was n (n + 1)
+    added n true = refl
+    added n false = refl
+len_after m l None used is_there is there = taken used is_there ∙ ap₂ (λ (n : ℕ) (b : Bool). cond b (n - 1) n) is there ∙ sym (len-remove nat_list_cmp_total m (label_bytes l))
+  where
+    taken : (n : ℕ) (was : Bool) → used_after n was false ≡ cond was (n - 1) n
+    taken n true = refl
+    taken n false = refl
+
+-- it stays in range
+in_u32 : (change : Option Page) (used : ℕ) (was : Bool) → used ≤ most_pages → (IsSome change → used < most_pages) → min most_pages (used_after used was (is_some change)) ≡ used_after used was (is_some change)
+in_u32 (Some page) used true within few = omega arith
+in_u32 (Some page) used false within few = let below : used < 4294967295 = few refl in omega (arith, below)
+in_u32 None used true within few = omega arith
+in_u32 None used false within few = omega arith
+
+-- ---- the calls
 
 module _ {D W : Type 0} (state : D → DiskState) (draw : W) (d : Draw) (p q : Parameters) (disk after : D) (touched later : List (ℕ × List ℕ)) (changes : Changes) (used settled lookups : ℕ) (is_spent : Bool)
     (staged : IsStaged d p (state disk) touched changes used settled is_spent) (read : IsReadLater p q (state disk) (state after) touched later) where
@@ -53,20 +79,10 @@ module _ {D W : Type 0} (state : D → DiskState) (draw : W) (d : Draw) (p q : P
   }
 
   -- a change was not staged
-  pub put_failed : (page : Page) (fault : Fault) (next : Changes) → next ≡ changes → (state after).faults ≡ disk_faults_after {T = Unit {0}} (state disk).faults (Err fault)
-      → IsPagePut {T = Unit {0}} (pages_state state (staged_state state p draw disk changes lookups is_spent)) (pages_state state (staged_state state q draw after next lookups is_spent)) page (Err fault)
-  put_failed page fault next same faults =
-      subst (λ (es : Changes). IsPagePut {T = Unit {0}} (pages_state state (staged_state state p draw disk changes lookups is_spent)) (pages_state state (staged_state state q draw after es lookups is_spent)) page (Err fault)) (sym same) (record {
-        faults = faults;
-        lookups = refl;
-        hidden = told_before changes lookups;
-        observed = λ told. record { observable = told_later changes lookups used just_read told; changed = tt; unchanged = same_map told.disk };
-      })
-
-  pub drop_failed : (l : Label) (fault : Fault) (next : Changes) → next ≡ changes → (state after).faults ≡ disk_faults_after {T = Unit {0}} (state disk).faults (Err fault)
-      → IsPageDrop {T = Unit {0}} (pages_state state (staged_state state p draw disk changes lookups is_spent)) (pages_state state (staged_state state q draw after next lookups is_spent)) l (Err fault)
-  drop_failed l fault next same faults =
-      subst (λ (es : Changes). IsPageDrop {T = Unit {0}} (pages_state state (staged_state state p draw disk changes lookups is_spent)) (pages_state state (staged_state state q draw after es lookups is_spent)) l (Err fault)) (sym same) (record {
+  pub stage_failed : (l : Label) (change : Option Page) (fault : Fault) (next : Changes) → next ≡ changes → (state after).faults ≡ disk_faults_after {T = Unit {0}} (state disk).faults (Err fault)
+      → Stages {T = Unit {0}} (pages_state state (staged_state state p draw disk changes lookups is_spent)) (pages_state state (staged_state state q draw after next lookups is_spent)) l change (Err fault)
+  stage_failed l change fault next same faults =
+      subst (λ (es : Changes). Stages {T = Unit {0}} (pages_state state (staged_state state p draw disk changes lookups is_spent)) (pages_state state (staged_state state q draw after es lookups is_spent)) l change (Err fault)) (sym same) (record {
         faults = faults;
         lookups = refl;
         hidden = told_before changes lookups;
@@ -74,31 +90,29 @@ module _ {D W : Type 0} (state : D → DiskState) (draw : W) (d : Draw) (p q : P
       })
 
   -- a change was staged
-  module _ (next : Changes) (used_after : ℕ) (now : IsStaged d q (state after) later next used_after settled is_spent) (faults : (state after).faults ≡ (state disk).faults) where
-    pub put_done : (page : Page) → (IsObservable (state disk) → with_changes (pages_in_table q.slots (state after).bytes) next ≡ with_page (with_changes (pages_in_table p.slots (state disk).bytes) changes) page)
-        → IsPagePut {T = Unit {0}} (pages_state state (staged_state state p draw disk changes lookups is_spent)) (pages_state state (staged_state state q draw after next lookups is_spent)) page (Ok tt)
-    put_done page map = record {
-      faults = faults;
+  module _ (l : Label) (change : Option Page) (is_there : Bool) (next : Changes) (used_now : ℕ) (found : Finds d (overlaid p.slots touched (state disk)) (overlaid q.slots later (state after)) changes l (Ok is_there)) (put : next ≡ insert_entry label_cmp changes l change)
+      (keeps : (m : PageMap) → IsPageMap m → IsPageMap (with_change m l change)) (in_range : used ≤ most_pages)
+      (few : IsSome change → IsTold state (staged_state state p draw disk changes lookups is_spent) → maps.len (with_changes (pages_in_table p.slots (state disk).bytes) changes) < most_pages)
+      (counted : used_now ≡ min most_pages (used_after used is_there (is_some change))) where
+    counts : IsObservable (state disk) → is_spent ≡ false → used ≡ maps.len (with_changes (pages_in_table p.slots (state disk).bytes) changes) → is_there ≡ maps.contains_key (with_changes (pages_in_table p.slots (state disk).bytes) changes) (label_bytes l)
+        → used_now ≡ maps.len (with_change (with_changes (pages_in_table p.slots (state disk).bytes) changes) l change)
+    counts observable runs is there =
+        let told : IsTold state (staged_state state p draw disk changes lookups is_spent) = record { disk = observable; runs = runs; valid = (staged.counted observable runs).valid } in
+        counted
+        ∙ in_u32 change used is_there in_range (λ some. subst (λ (n : ℕ). n < most_pages) (sym is) (few some told))
+        ∙ len_after (with_changes (pages_in_table p.slots (state disk).bytes) changes) l change used is_there is there
+
+    pub stage_staged : IsStaged d q (state after) later next used_now settled is_spent
+    stage_staged = staged_change d p q (state disk) (state after) touched later changes used settled is_spent staged read l change is_there next used_now found put keeps counts
+
+    pub stage_done : Stages {T = Unit {0}} (pages_state state (staged_state state p draw disk changes lookups is_spent)) (pages_state state (staged_state state q draw after next lookups is_spent)) l change (Ok tt)
+    stage_done = record {
+      faults = found.calls.faults;
       lookups = refl;
       hidden = told_before next lookups;
-      observed = λ told. record { observable = told_later next lookups used_after now told; changed = map told.disk; unchanged = tt };
+      observed = λ told. record {
+        observable = told_later next lookups used_now stage_staged told;
+        changed = changed_map d p q (state disk) (state after) touched later changes used settled is_spent staged read l change is_there next used_now found put keeps counts told.disk;
+        unchanged = tt;
+      };
     }
-
-    pub drop_done : (l : Label) → (IsObservable (state disk) → with_changes (pages_in_table q.slots (state after).bytes) next ≡ without_page (with_changes (pages_in_table p.slots (state disk).bytes) changes) l)
-        → IsPageDrop {T = Unit {0}} (pages_state state (staged_state state p draw disk changes lookups is_spent)) (pages_state state (staged_state state q draw after next lookups is_spent)) l (Ok tt)
-    drop_done l map = record {
-      faults = faults;
-      lookups = refl;
-      hidden = told_before next lookups;
-      observed = λ told. record { observable = told_later next lookups used_after now told; changed = map told.disk; unchanged = tt };
-    }
-
--- ---- the count of pages
-
-pub put_counted : (m : PageMap) (l : Label) (page : Page) (used used_after : ℕ) (is_there : Bool) → used ≡ maps.len m → is_there ≡ maps.contains_key m (label_bytes l) → used_after ≡ cond is_there used (used + 1) → used_after ≡ maps.len (with_change m l (Some page))
-put_counted m l page used used_after is_there is there after =
-    after ∙ ap (λ (n : ℕ). cond is_there n (n + 1)) is ∙ ap (λ (b : Bool). cond b (maps.len m) (maps.len m + 1)) there ∙ sym (len-insert nat_list_cmp_total m (label_bytes l) page)
-
-pub drop_counted : (m : PageMap) (l : Label) (used used_after : ℕ) (is_there : Bool) → used ≡ maps.len m → is_there ≡ maps.contains_key m (label_bytes l) → used_after ≡ cond is_there (used - 1) used → used_after ≡ maps.len (with_change m l None)
-drop_counted m l used used_after is_there is there after =
-    after ∙ ap (λ (n : ℕ). cond is_there (n - 1) n) is ∙ ap (λ (b : Bool). cond b (maps.len m - 1) (maps.len m)) there ∙ sym (len-remove nat_list_cmp_total m (label_bytes l))

@@ -1,5 +1,7 @@
+pub mod Caches
 pub mod Carrying
 pub mod Codes
+pub mod Committing
 pub mod Differences
 pub mod Faults
 pub mod Lookups
@@ -10,3 +12,4 @@ pub mod Preparing
 pub mod Settling
 pub mod Staging
 pub mod StagedState
+pub mod Stagings

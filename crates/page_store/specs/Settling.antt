@@ -35,7 +35,8 @@ pub record SettlesDisk {T : Type 0} (d : Draw) (p : Parameters) (table map : Pag
   -- a crash at any moment of the call leaves an image of the one map or of the other, and the disk reads one
   pub crash : LeavesOnly old new (λ image. RepresentsPages d p table image ⊎ RepresentsPages d p map image)
   pub reads : RepresentsPages d p table new.bytes ⊎ RepresentsPages d p map new.bytes
-  -- where it is refused before the first write the disk was only read
+  -- where no page changed, and where it is refused before the first write, the disk was only read
+  pub still : map ≡ table → ReadsOnly old new
   pub no_memory : IsErrOf result causes.NoMemory → ReadsOnly old new
   pub too_many : (need slots : ℕ) → IsErrOf result (causes.Full need slots) → ReadsOnly old new
   -- the slots that differ are committed, and no others

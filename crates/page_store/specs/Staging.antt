@@ -1,5 +1,5 @@
 -- Changes of pages that are staged, and the map with them.
-use Rattle.std.specs.Prelude.{List, [], ◌∷◌, Option, Some, None}
+use Rattle.std.specs.Prelude.{ℕ, ◌+◌, ◌-◌, Bool, true, false, List, [], ◌∷◌, Option, Some, None}
 use Rattle.std.specs.FinMap as maps
 use Rattle.store_model.specs.Labels.{Label, label_bytes}
 use Rattle.store_model.specs.Pages.{Page}
@@ -18,3 +18,10 @@ with_change m l None = without_page m l
 abbrev pub with_changes : PageMap → Changes → PageMap
 with_changes m [] = m
 with_changes m (change ∷ changes) = with_change (with_changes m changes) change.0 change.1
+
+-- how many pages there are of so many, once one label has a page or none, and had one or none before
+abbrev pub used_after : ℕ → Bool → Bool → ℕ
+used_after used false true = used + 1
+used_after used true false = used - 1
+used_after used false false = used
+used_after used true true = used

@@ -5,6 +5,7 @@ ghost use Rattle.std.specs.BTreeMap.{IsOrdered, values};
 ghost use Rattle.store_model.specs.Labels.{label_cmp};
 ghost use Rattle.page_store.specs.Carrying.{TakesPage, LaysPage, TakesPages, LaysPages, CarriesOut};
 
+use crate::boxed::Boxed;
 use crate::search::locate;
 use node_pages::Page;
 use ordered_table::{insert, overwrite};
@@ -44,7 +45,7 @@ fn lay_page<S: Slots, W: Draw>(slots: &mut S, draw: &W, page: &Page) -> Result<(
 fn take_pages<S: Slots, W: Draw>(
     slots: &mut S,
     draw: &W,
-    changes: &BTreeMap<Label, Option<Page>>,
+    changes: &BTreeMap<Label, Option<Boxed<Page>>>,
 ) -> Result<(), Fault>
     requires { (S.ReadSlots.state slots.old).count ≡ (W.drawn draw.now).slots }
     ensures call { TakesPages (W.drawn draw.now) (S.ReadSlots.state slots.old) (S.ReadSlots.state slots.new) changes.now.entries result }
@@ -64,7 +65,7 @@ fn take_pages<S: Slots, W: Draw>(
 fn lay_pages<S: Slots, W: Draw>(
     slots: &mut S,
     draw: &W,
-    changes: &BTreeMap<Label, Option<Page>>,
+    changes: &BTreeMap<Label, Option<Boxed<Page>>>,
 ) -> Result<(), Fault>
     requires { (S.ReadSlots.state slots.old).count ≡ (W.drawn draw.now).slots }
     ensures call { LaysPages (W.drawn draw.now) (S.ReadSlots.state slots.old) (S.ReadSlots.state slots.new) (values changes.now) result }
@@ -72,7 +73,7 @@ fn lay_pages<S: Slots, W: Draw>(
 {
     for change in changes.values() {
         if let Some(page) = change {
-            lay_page(slots, draw, page)?;
+            lay_page(slots, draw, page.get())?;
         }
     }
     Ok(())
@@ -84,7 +85,7 @@ fn lay_pages<S: Slots, W: Draw>(
 pub fn carry_out<S: Slots, W: Draw>(
     slots: &mut S,
     draw: &W,
-    changes: &BTreeMap<Label, Option<Page>>,
+    changes: &BTreeMap<Label, Option<Boxed<Page>>>,
 ) -> Result<(), Fault>
     requires { (S.ReadSlots.state slots.old).count ≡ (W.drawn draw.now).slots }
     ensures call { CarriesOut (W.drawn draw.now) (S.ReadSlots.state slots.old) (S.ReadSlots.state slots.new) changes.now.entries result }

@@ -3,10 +3,13 @@
 ghost use Rattle.std.specs.Prelude.{◌≡◌, ◌<◌, ◌≤◌, ℕ, List, length, Some};
 ghost use Rattle.store_model.specs.Parameters.{image_len, block_len, slots_limit};
 ghost use Rattle.gate_journal.specs.ViewState.{KeepsView};
+ghost use Rattle.page_store.specs.Caches.{IsCacheOf};
 ghost use Rattle.page_store.specs.Overlays.{disk_of, params_of, touched_of};
 ghost use Rattle.page_store.specs.OverlayState.{touched_at};
 ghost use Rattle.page_store.specs.Preparing.{FindsChanges, FindsSlots};
 
+use crate::boxed::Boxed;
+use crate::cache::{SlotCache, read_slot};
 use crate::carry::carry_out;
 use crate::changed::ChangedSlots;
 use crate::overlay::Overlay;
@@ -15,26 +18,29 @@ use node_pages::Page;
 use seeded_draw::Draw;
 use std::alloc::Global;
 use std::collections::BTreeMap;
-use store_base::{BLOCK, Fault, Label, Slot, table_at};
+use store_base::{BLOCK, Fault, Label, Slot};
 
 /// The slots that were written and have other bytes in the table of the disk, which has so many slots. The disk is only
-/// read.
+/// read, and what the cache keeps of it is not read again.
 fn find_changes<D: Disk>(
     alloc: Global,
     disk: &mut D,
+    cache: &mut SlotCache,
     slots: u32,
-    written: &BTreeMap<u32, Slot>,
+    written: &BTreeMap<u32, Boxed<Slot>>,
 ) -> Result<ChangedSlots, Fault>
     requires in_range { slots ≤ slots_limit }
     requires size { (D.state disk.old).size ≡ image_len slots }
     requires within { (i : ℕ) (slot : List ℕ) → touched_at written.now.entries i ≡ Some slot → i < slots }
     requires filled { (i : ℕ) (slot : List ℕ) → touched_at written.now.entries i ≡ Some slot → length slot ≡ block_len }
-    ensures call { FindsChanges slots written.now.entries (D.state disk.old) (D.state disk.new) result }
+    requires cached { IsCacheOf slots (D.state disk.old) cache.old }
+    ensures call { FindsChanges slots written.now.entries (D.state disk.old) (D.state disk.new) cache.new result }
 {
     let mut changed = Vec::new(alloc);
     let mut was = [0; BLOCK];
-    for (at, slot) in written {
-        disk.read_at(table_at(slots, *at), &mut was)?;
+    for (at, kept) in written {
+        let slot = kept.get();
+        read_slot(disk, cache, slots, *at, &mut was)?;
         if was != *slot {
             changed.push((*at, *slot))?;
         }
@@ -47,7 +53,7 @@ fn find_changes<D: Disk>(
 pub fn find_slots<D: Disk, W: Draw>(
     overlay: &mut Overlay<D>,
     draw: &W,
-    changes: &BTreeMap<Label, Option<Page>>,
+    changes: &BTreeMap<Label, Option<Boxed<Page>>>,
 ) -> Result<ChangedSlots, Fault>
     requires { (params_of overlay.old).slots ≡ (W.drawn draw.now).slots }
     ensures call { FindsSlots (W.drawn draw.now) (params_of overlay.old) (touched_of overlay.old) changes.now.entries (D.state (disk_of overlay.old)) (D.state (disk_of overlay.new)) result }
@@ -57,6 +63,7 @@ pub fn find_slots<D: Disk, W: Draw>(
     find_changes(
         overlay.alloc,
         &mut overlay.disk,
+        &mut overlay.cache,
         overlay.params.slots(),
         &overlay.touched,
     )

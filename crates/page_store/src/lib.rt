@@ -3,8 +3,13 @@
 //! A `Staged` keeps what was changed since the last settle, each label with its page or with none. Until a settle nothing
 //! is written. A settle carries the changes out on an overlay of the slots that they touch, and commits the slots whose
 //! bytes differ, so that the table is again the placement of the pages; a crash leaves the old pages or the new ones.
+//!
+//! Up to 64 slots that were read last are kept in memory (`SlotCache`), each as the table of the disk has it, and are not
+//! read again.
 #![tactic(auto)]
 
+mod boxed;
+mod cache;
 mod carry;
 mod changed;
 mod compare;
@@ -13,6 +18,6 @@ mod overlay;
 mod search;
 mod staged;
 
+pub use cache::SlotCache;
 pub use fault::SettleFault;
-pub use overlay::Overlay;
 pub use staged::Staged;

@@ -3,31 +3,40 @@
 ghost use Rattle.std.specs.Prelude.{◌≡◌, ◌<◌, ℕ, List, length, Some, []};
 ghost use Rattle.store_model.specs.Parameters.{image_len, block_len};
 ghost use Rattle.disk_model.specs.DiskState.{IsObservable};
+ghost use Rattle.page_store.specs.Caches.{IsCacheOf};
 ghost use Rattle.page_store.specs.OverlayState.{touched_at, overlaid, overlaid_count, overlaid_whole};
 ghost use Rattle.gate_journal.specs.ViewState.{KeepsView, KeepsView-refl, KeepsView-trans};
 
+use crate::boxed::Boxed;
+use crate::cache::{SlotCache, read_slot};
 use disk_model::Disk;
 use std::alloc::Global;
 use std::collections::BTreeMap;
-use store_base::{Fault, Params, ReadSlots, Slot, Slots, table_at};
+use store_base::{Fault, Params, ReadSlots, Slot, Slots};
 
-/// The slots of the table of a disk, of which those that were written are kept in memory. The disk is only read.
+/// The slots of the table of a disk, of which those that were written are kept in memory, and those that were read last.
+/// The disk is only read.
+#[derive(Drop)]
 pub struct Overlay<D: Disk> {
     pub(crate) alloc: Global,
     pub(crate) disk: D,
     pub(crate) params: Params,
-    pub(crate) touched: BTreeMap<u32, Slot>,
+    pub(crate) touched: BTreeMap<u32, Boxed<Slot>>,
+    pub(crate) cache: SlotCache,
     pub(crate) ghost sized: { (D.state disk).size ≡ image_len params.slots },
     pub(crate) ghost within: { (i : ℕ) (slot : List ℕ) → touched_at touched.entries i ≡ Some slot → i < params.slots },
     pub(crate) ghost filled: { (i : ℕ) (slot : List ℕ) → touched_at touched.entries i ≡ Some slot → length slot ≡ block_len },
+    pub(crate) ghost cached: { IsCacheOf params.slots (D.state disk) cache },
 }
 
 impl<D: Disk> Overlay<D> {
     ghost use Rattle.page_store.specs.Overlays.{disk_of, params_of, touched_of};
 
-    /// The slots as the disk has them. The disk has the length of these parameters.
-    pub fn new(alloc: Global, disk: D, params: &Params) -> Overlay<D>
-        requires { (D.state disk).size ≡ image_len params.now.slots }
+    /// The slots as the disk has them. The disk has the length of these parameters, and what the cache keeps are slots of
+    /// its table.
+    pub fn new(alloc: Global, disk: D, params: &Params, cache: SlotCache) -> Overlay<D>
+        requires size { (D.state disk).size ≡ image_len params.now.slots }
+        requires cached { IsCacheOf params.now.slots (D.state disk) cache }
         ensures disk { disk_of result ≡ disk }
         ensures params { params_of result ≡ params.now }
         ensures untouched { touched_of result ≡ [] }
@@ -37,6 +46,7 @@ impl<D: Disk> Overlay<D> {
             disk,
             params: *params,
             touched: BTreeMap::new(alloc),
+            cache,
         }
     }
 
@@ -49,6 +59,7 @@ impl<D: Disk> Overlay<D> {
             disk,
             params: _,
             touched: _,
+            cache: _,
         } = self;
         disk
     }
@@ -71,17 +82,17 @@ impl<D: Disk> ReadSlots for Overlay<D> {
 
     fn get(&mut self, at: u32, into: &mut Slot) -> Result<(), Fault> {
         if let Some(slot) = self.touched.get(&at) {
-            *into = *slot;
+            *into = *slot.get();
             return Ok(());
         }
         let slots = self.params.slots();
-        Ok(self.disk.read_at(table_at(slots, at), into)?)
+        Ok(read_slot(&mut self.disk, &mut self.cache, slots, at, into)?)
     }
 }
 
 impl<D: Disk> Slots for Overlay<D> {
     fn set(&mut self, at: u32, slot: &Slot) -> Result<(), Fault> {
-        self.touched.insert(at, *slot)?;
+        self.touched.insert(at, Boxed::new(self.alloc, *slot)?)?;
         Ok(())
     }
 }

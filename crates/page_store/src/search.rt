@@ -3,6 +3,7 @@
 ghost use Rattle.std.specs.Prelude.{◌≡◌, ◌<◌};
 ghost use Rattle.page_store.specs.Lookups.{Locates, Reads, ReadsChanged, Finds};
 
+use crate::boxed::{Boxed, copied};
 use node_pages::{Page, decode_page};
 use ordered_table::{Steps, find};
 use seeded_draw::Draw;
@@ -64,7 +65,7 @@ fn read_page<S: ReadSlots, W: Draw>(
 pub fn read_changed<S: ReadSlots, W: Draw>(
     slots: &mut S,
     draw: &W,
-    changes: &BTreeMap<Label, Option<Page>>,
+    changes: &BTreeMap<Label, Option<Boxed<Page>>>,
     label: &Label,
 ) -> Result<Option<Page>, Fault>
     requires { (S.state slots.old).count ≡ (W.drawn draw.now).slots }
@@ -72,7 +73,7 @@ pub fn read_changed<S: ReadSlots, W: Draw>(
     ensures follows { S.follows slots.old slots.new }
 {
     if let Some(change) = changes.get(label) {
-        return Ok(*change);
+        return Ok(copied(change));
     }
     read_page(slots, draw, label)
 }
@@ -81,7 +82,7 @@ pub fn read_changed<S: ReadSlots, W: Draw>(
 pub fn has_page<S: ReadSlots, W: Draw>(
     slots: &mut S,
     draw: &W,
-    changes: &BTreeMap<Label, Option<Page>>,
+    changes: &BTreeMap<Label, Option<Boxed<Page>>>,
     label: &Label,
 ) -> Result<bool, Fault>
     requires { (S.state slots.old).count ≡ (W.drawn draw.now).slots }

@@ -1,15 +1,21 @@
 //! The staged pages.
 
-ghost use Rattle.std.specs.Prelude.{◌≡◌, ◌≤◌, ◌<◌, ℕ, Bool, true, false, IfOk, OnOk};
+ghost use Rattle.std.specs.Prelude.{[], ◌≡◌, ◌≤◌, ◌<◌, ℕ, Bool, true, false, min, IsSome, IfOk, OnOk, OnErr};
+ghost use Rattle.std.specs.BTreeMap.{insert_entry};
 ghost use Rattle.std.specs.FinMap as maps;
+ghost use Rattle.store_model.specs.Labels.{label_cmp};
 ghost use Rattle.store_model.specs.Parameters.{image_len};
 ghost use Rattle.disk_model.specs.DiskState.{IsObservable};
 ghost use Rattle.sha2.specs.Sha256.{sha256};
 ghost use Rattle.gate_journal.specs.Places.{AreCalls, ReadsOnly};
-ghost use Rattle.node_pages.specs.PagesState.{IsPageGet, IsPagePut, IsPageDrop};
+ghost use Rattle.store_model.specs.PageMaps.{PageMap, IsPageMap};
+ghost use Rattle.node_pages.specs.PagesState.{IsPageGet, IsPagePut, IsPageDrop, most_pages};
 ghost use Rattle.page_store.specs.PageImages.{pages_in_table, StandsAt};
+ghost use Rattle.page_store.specs.Staging.{with_change, used_after};
 ghost use Rattle.page_store.specs.Settling.{Settles};
 
+use crate::boxed::{Boxed, on_heap};
+use crate::cache::{SlotCache, commit_slots};
 use crate::compare::find_slots;
 use crate::fault::SettleFault;
 use crate::overlay::Overlay;
@@ -21,16 +27,17 @@ use seeded_draw::Draw;
 use std::alloc::Global;
 use std::collections::BTreeMap;
 use std::marker::Model;
-use store_base::{DiskFault, Fault, Label, Params};
+use store_base::{DiskFault, Fault, Label, NoMemory, Params};
 
 /// The pages in the table of an image, with changes that are not settled yet. Contracts see it as one record: the map of
 /// the pages now, that of the pages in the table, the disk, and whether the value is spent.
 ///
 /// An observable disk under a value that is not spent reads the layout of the table's pages, and nothing is pending.
+#[derive(Drop)]
 pub struct Staged<D: Disk, W: Draw> {
     overlay: Overlay<D>,
     draw: W,
-    changes: BTreeMap<Label, Option<Page>>,
+    changes: BTreeMap<Label, Option<Boxed<Page>>>,
     /// How many pages there are now, and how many of them the table has.
     used: u32,
     settled: u32,
@@ -51,16 +58,53 @@ impl<D: Disk, W: Draw> Model for Staged<D, W> {
     ghost invariant = { λ s. IsStaged (W.drawn s.draw) s.overlay.params (D.state s.overlay.disk) s.overlay.touched.entries s.changes.entries s.used s.settled s.is_spent };
 }
 
+/// How many pages there are, of so many, once one label was given a page or lost it. A count that would come to 2^32
+/// stays below.
+fn count_after(used: u32, was_there: bool, is_there: bool) -> u32
+    ensures { result ≡ min most_pages (used_after used was_there is_there) }
+{
+    match (was_there, is_there) {
+        (false, true) => used.saturating_add(1),
+        (true, false) => used.saturating_sub(1),
+        _ => used,
+    }
+}
+
+/// Keeps a change under its label, in the place of the one that was kept. After want of memory the changes are as they were.
+fn keep_change(
+    alloc: Global,
+    changes: &mut BTreeMap<Label, Option<Boxed<Page>>>,
+    label: Label,
+    change: Option<Page>,
+) -> Result<(), NoMemory>
+    ensures ok { OnOk result (changes.new.entries ≡ insert_entry label_cmp changes.old.entries label change) }
+    ensures err { OnErr result (changes.new.entries ≡ changes.old.entries) }
+{
+    changes.insert(label, on_heap(alloc, change)?)?;
+    Ok(())
+}
+
 impl<D: Disk, W: Draw> Staged<D, W> {
+    ghost use Rattle.page_store.specs.StagedState.{IsTold, pages_state, Follows};
+    ghost use Rattle.page_store.specs.Stagings.{Stages};
+
     /// The pages in the table of a disk, so many of them, and no change. It takes no memory.
     ///
     /// The disk has the length of an image of these parameters, and the draw their slots; an observable disk reads the
-    /// layout of so many pages under the parameters, and nothing is pending.
-    pub fn new(alloc: Global, disk: D, params: &Params, draw: W, pages: u32) -> Staged<D, W>
+    /// layout of so many pages under the parameters, and nothing is pending. The cache keeps no slot yet.
+    pub fn new(
+        alloc: Global,
+        disk: D,
+        params: &Params,
+        draw: W,
+        pages: u32,
+        cache: SlotCache,
+    ) -> Staged<D, W>
         requires size { (D.state disk).size ≡ image_len params.now.slots }
         requires drawn { (W.drawn draw).slots ≡ params.now.slots }
         requires stands { IsObservable (D.state disk) → StandsAt (W.drawn draw) params.now (pages_in_table params.now.slots (D.state disk).bytes) (D.state disk) }
         requires count { IsObservable (D.state disk) → pages ≡ maps.len (pages_in_table params.now.slots (D.state disk).bytes) }
+        requires empty { cache ≡ [] }
         ensures params { result.params ≡ params.now }
         ensures drawn { result.draw ≡ draw }
         ensures disk { result.disk ≡ disk }
@@ -70,7 +114,7 @@ impl<D: Disk, W: Draw> Staged<D, W> {
         ensures lookups { result.lookups ≡ 0 }
     {
         Staged {
-            overlay: Overlay::new(alloc, disk, params),
+            overlay: Overlay::new(alloc, disk, params, cache),
             draw,
             changes: BTreeMap::new(alloc),
             used: pages,
@@ -135,8 +179,24 @@ impl<D: Disk, W: Draw> Staged<D, W> {
         ensures digest { IsObservable (D.state self.old.disk) → IfOk result (λ digest. digest ≡ sha256 (D.state self.old.disk).bytes) }
         ensures map { IsObservable (D.state self.old.disk) → self.new.map ≡ self.old.map }
         ensures runs { self.new.is_spent ≡ self.old.is_spent }
+        ensures follows { Follows D.state self.old self.new }
     {
         Journal::digest(&mut self.overlay.disk)
+    }
+
+    /// Stages what is under the label from now on, a page of this label or none. To add a page there have to be fewer than
+    /// 2^32 - 1 of them. After a fault the pages are as they were.
+    fn stage(&mut self, label: Label, change: Option<Page>) -> Result<(), Fault>
+        requires fits { (m : PageMap) → IsPageMap m → IsPageMap (with_change m label change) }
+        requires few { IsSome change → IsTold D.state self.old → maps.len self.old.map < most_pages }
+        ensures call { Stages (pages_state D.state self.old) (pages_state D.state self.new) label change result }
+        ensures follows { Follows D.state self.old self.new }
+    {
+        let is_there = has_page(&mut self.overlay, &self.draw, &self.changes, &label)?;
+        let used = count_after(self.used, is_there, change.is_some());
+        keep_change(self.overlay.alloc, &mut self.changes, label, change)?;
+        self.used = used;
+        Ok(())
     }
 
     /// Settles the pages: the changed slots of the table are written together, and are durable at the return.
@@ -164,7 +224,8 @@ impl<D: Disk, W: Draw> Staged<D, W> {
         // Whatever was found, the slots are the disk's again.
         self.overlay.touched.clear();
         let changed = found?;
-        match Journal::commit(&mut self.overlay.disk, &params, &changed) {
+        let overlay = &mut self.overlay;
+        match commit_slots(&mut overlay.disk, &mut overlay.cache, &params, &changed) {
             Ok(()) => {
                 self.changes.clear();
                 self.settled = self.used;
@@ -198,21 +259,10 @@ impl<D: Disk, W: Draw> Pages for Staged<D, W> {
     }
 
     fn put(&mut self, page: Page) -> Result<(), Fault> {
-        let label = page.label();
-        let is_there = has_page(&mut self.overlay, &self.draw, &self.changes, &label)?;
-        self.changes.insert(label, Some(page))?;
-        if !is_there {
-            self.used = self.used.saturating_add(1);
-        }
-        Ok(())
+        self.stage(page.label(), Some(page))
     }
 
     fn drop_page(&mut self, label: &Label) -> Result<(), Fault> {
-        let is_there = has_page(&mut self.overlay, &self.draw, &self.changes, label)?;
-        self.changes.insert(*label, None)?;
-        if is_there {
-            self.used = self.used.saturating_sub(1);
-        }
-        Ok(())
+        self.stage(*label, None)
     }
 }

@@ -1,4 +1,4 @@
-use Rattle.std.proofs.Common.{◌≡◌, List, Option, sym, subst, ◌∙◌}
+use Rattle.std.proofs.Common.{◌≡◌, List, Option, Some, sym, ap, subst, ◌∙◌}
 use Rattle.std.specs.BTreeMap.{values}
 use Rattle.store_model.specs.Pages.{Page}
 use Rattle.page_store.specs.Carrying.{LayingPages}
@@ -18,7 +18,7 @@ loop-change-preserved g c = (laying_passes _ _ _ _ _ _ c.in-Some.change.now c.in
 
 pub loop-change-preserved-in-Continue-1 : goal.loop-change-preserved-in-Continue-1
 loop-change-preserved-in-Continue-1 g c = (
-  laying_lays _ _ _ _ _ _ c.in-Some.change.now c.in-Some.ensures.steps c.loop-change.invariant.0 (g.S.ReadSlots.state c.lay_page.new.slots) c.in-Some-change.page c.in-Some-change.is c.in_ok-lay_page.ensures.call,
+  laying_lays _ _ _ _ _ _ c.in-Some.change.now c.in-Some.ensures.steps c.loop-change.invariant.0 (g.S.ReadSlots.state c.lay_page.new.slots) c.get.result.now (c.in-Some-change.is ∙ ap Some (sym c.get.ensures)) c.in_ok-lay_page.ensures.call,
   g.met.S.ReadSlots.follows_trans c.args.slots.now c.loop-change.slots c.lay_page.new.slots c.loop-change.invariant.1 c.in_ok-lay_page.ensures.follows,
 )
 

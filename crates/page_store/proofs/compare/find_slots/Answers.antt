@@ -1,4 +1,5 @@
-use Rattle.std.proofs.Common.{ℕ, subst}
+use Rattle.std.proofs.Common.{ℕ, sym, subst}
+use Rattle.page_store.specs.Caches.{IsCacheOf}
 use Rattle.page_store.specs.Preparing.{FindsChanges}
 use Rattle.page_store.proofs.FindLemmas.{slots_found}
 use Rattle.page_store.proofs.compare.find_slots.Goals as goal
@@ -9,5 +10,13 @@ returns-clause-call g c =
     let before = c.args.overlay.now in
     let after = c.carry_out.new.slots in
     slots_found (g.W.Draw.drawn c.args.draw.now) before.params after.params before.touched.entries after.touched.entries c.args.changes.now.entries (state before.disk) (state after.disk) (state c.find_changes.new.disk) c.in_ok-carry_out.field-0 c.requires
-    c.in_ok-carry_out.ensures.call c.in_ok-carry_out.ensures.follows c.find_changes.result
-    (subst (λ (n : ℕ). FindsChanges n after.touched.entries (state after.disk) (state c.find_changes.new.disk) c.find_changes.result) c.slots.ensures.value c.find_changes.ensures.call)
+    c.in_ok-carry_out.ensures.call c.in_ok-carry_out.ensures.follows c.find_changes.new.cache c.find_changes.result
+    (subst (λ (n : ℕ). FindsChanges n after.touched.entries (state after.disk) (state c.find_changes.new.disk) c.find_changes.new.cache c.find_changes.result) c.slots.ensures.value c.find_changes.ensures.call)
+
+pub find_changes-requires-clause-cached : goal.find_changes-requires-clause-cached
+find_changes-requires-clause-cached g c =
+    let after = c.carry_out.new.slots in
+    subst (λ (n : ℕ). IsCacheOf n (g.D.Disk.state after.disk) after.cache) (sym c.slots.ensures.value) after.cached
+
+pub invariant_of-overlay-clause-cached : goal.invariant_of-overlay-clause-cached
+invariant_of-overlay-clause-cached g c = subst (λ (n : ℕ). IsCacheOf n (g.D.Disk.state c.find_changes.new.disk) c.find_changes.new.cache) c.slots.ensures.value c.find_changes.ensures.call.cached
