@@ -1,12 +1,11 @@
 -- Lemmas on the writes and syncs of commits.
-use Rattle.std.proofs.Common.{◌≡◌, ℕ, suc, ◌+◌, ◌*◌, ◌≤◌, Result, Ok, Err, OnOk, sym, ap, ◌∙◌, subst, arith, ⊎_elim}
+use Rattle.std.proofs.Common.{◌≡◌, ℕ, ◌+◌, ◌≤◌, Result, Ok, Err, OnOk, sym, ap, ◌∙◌, subst, arith, ⊎_elim}
 use Rattle.store_model.specs.Parameters.{Parameters}
 use Rattle.store_model.specs.Trees.{Tree}
 use Rattle.disk_model.specs.DiskState.{DiskState}
 use Rattle.gate_journal.specs.Places.{Made, Makes, ReadsOnly}
 use Rattle.store_base.specs.Counts.{raised}
-use Rattle.store_model.specs.Placement.{Table}
-use Rattle.store_core.specs.Changes.{differing, slots_between}
+use Rattle.store_core.specs.Changes.{slots_between}
 use Rattle.image_check.specs.Contents.{table_of}
 use Rattle.gate_journal.specs.Costs.{MadeAtMost, opening_writes, opening_syncs, CountsOpening, CountsCommit}
 use Rattle.gate_journal.specs.Phases.{HasEmptyJournal}
@@ -44,26 +43,6 @@ at_most old new w s v t made writes syncs = record {
   sync_limit = omega (arith, made.sync_count, syncs);
 }
 
--- a commit of no slot
-pub counts_none : {T E : Type 0} (slots : ℕ) (old new : DiskState) (result : Result T E) → slots ≡ 0 → new ≡ old → CountsCommit slots old new result
-counts_none slots old new result none same =
-    subst (λ (disk : DiskState). CountsCommit slots old disk result) (sym same) (subst (λ n. CountsCommit n old old result) (sym none) (still old result))
-  where
-    still : {T E : Type 0} (disk : DiskState) (result : Result T E) → CountsCommit 0 disk disk result
-    still disk (Ok value) = record { made = made_none disk; limit = at_most disk disk 0 0 0 0 (made_none disk) (omega arith) (omega arith) }
-    still disk (Err fault) = record { made = tt; limit = at_most disk disk 0 0 0 0 (made_none disk) (omega arith) (omega arith) }
-
--- a commit of some
-pub counts_some : {T E : Type 0} (slots : ℕ) (old new : DiskState) (result : Result T E) → Makes (5 * suc slots + 2) 5 old new result → CountsCommit (suc slots) old new result
-counts_some slots old new (Ok value) makes = record {
-  made = record { write_count = omega (arith, makes.write_count); sync_count = omega (arith, makes.sync_count) };
-  limit = record { write_limit = omega (arith, makes.write_limit); sync_limit = omega (arith, makes.sync_limit) };
-}
-counts_some slots old new (Err fault) makes = record {
-  made = tt;
-  limit = record { write_limit = omega (arith, makes.write_limit); sync_limit = omega (arith, makes.sync_limit) };
-}
-
 -- calls that read alone, where an answer tells that no slot differs
 pub counts_reading : {T E : Type 0} (slots : ℕ) (old new : DiskState) (result : Result T E) → ReadsOnly old new → OnOk result (slots ≡ 0) → CountsCommit slots old new result
 counts_reading {T} {E} slots old new (Ok value) reads none =
@@ -73,9 +52,16 @@ counts_reading slots old new (Err fault) reads none =
     let made = made_reading old new reads in
     record { made = tt; limit = record { write_limit = omega (arith, made.write_count); sync_limit = omega (arith, made.sync_count) } }
 
--- the slots between two trees, by tables that are theirs
-pub between_tables : (p : Parameters) (t u : Tree) (old new : Table) → old ≡ table_of t p → new ≡ table_of u p → differing old new p.slots ≡ slots_between p t u
-between_tables p t u old new was is = ap (λ (table : Table). differing table new p.slots) was ∙ ap (λ (table : Table). differing (table_of t p) table p.slots) is
+-- and those of a commit behind reads
+pub counts_behind : {T E : Type 0} (slots : ℕ) (old mid new : DiskState) (result : Result T E) → ReadsOnly old mid → CountsCommit slots mid new result → CountsCommit slots old new result
+counts_behind slots old mid new (Ok value) reads counts = record {
+  made = record { write_count = omega (arith, counts.made.write_count, reads.write_count); sync_count = omega (arith, counts.made.sync_count, reads.sync_count) };
+  limit = record { write_limit = omega (arith, counts.limit.write_limit, reads.write_count); sync_limit = omega (arith, counts.limit.sync_limit, reads.sync_count) };
+}
+counts_behind slots old mid new (Err fault) reads counts = record {
+  made = tt;
+  limit = record { write_limit = omega (arith, counts.limit.write_limit, reads.write_count); sync_limit = omega (arith, counts.limit.sync_limit, reads.sync_count) };
+}
 
 -- where the tree stays no slot differs
 pub none_between : (p : Parameters) (t u : Tree) → u ≡ t → slots_between p t u ≡ 0

@@ -1,10 +1,10 @@
-pub mod ChangeLemmas
-pub mod CommitLemmas
+pub mod AnswerSteps
 pub mod CostLemmas
 pub mod DifferLemmas
 pub mod DiskLemmas
-pub mod Laying
 pub mod OpeningLemmas
+pub mod StagedSteps
 pub mod StepLemmas
-pub mod TakingSteps
+pub mod StoreSteps
+pub mod TreePages
 pub mod Unchanged

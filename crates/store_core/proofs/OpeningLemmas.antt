@@ -5,7 +5,6 @@ use Rattle.store_base.specs.declared.store_fault.Fault.{Fault}
 use Rattle.store_base.specs.declared.store_fault.Fault.TheVariants as causes
 use Rattle.store_base.specs.Counts.{raised, faults_after}
 use Rattle.store_model.specs.Parameters.{Parameters}
-use Rattle.store_model.specs.Pairs.{Pair}
 use Rattle.store_model.specs.Trees.{Tree}
 use Rattle.store_model.specs.Images.{Represents, recovered}
 use Rattle.store_model.proofs.TreesLemmasLayouts.{images_tell}
@@ -23,13 +22,12 @@ use Rattle.gate_journal.proofs.Reading.{IsDurable-reads}
 use Rattle.image_check.specs.declared.contents.Contents.{Contents}
 use Rattle.image_check.specs.declared.contents.Finding.{Finding}
 use Rattle.image_check.specs.declared.contents.Finding.TheVariants as findings
-use Rattle.image_check.specs.Contents.{AreContents}
 use Rattle.image_check.specs.ImageCalls.{ReadsDisk, HasImage, FindsImage}
 use Rattle.image_check.specs.Verdicts.{IsImageWith, HasParameters, IsNoImage, IsDamaged}
 use Rattle.store_core.specs.declared.fault.AttachFault.TheVariants as attach
-use Rattle.store_core.specs.LaidTree.{LaidState, IsLaid}
-use Rattle.store_core.specs.Opening.{contents_in, IsSynced, ChecksSynced}
+use Rattle.store_core.specs.Opening.{contents_in, IsSynced, ChecksSynced, IsOpenAt}
 use Rattle.store_core.specs.Standing.{IsFitting, Stands}
+use Rattle.store_core.specs.StoreState.{StoreState}
 use Rattle.store_core.specs.StoreCalls.{IsOpened, IsAttached, KeepsImage, IsRefused}
 use Rattle.store_core.proofs.CostLemmas.{counts_opening}
 use Rattle.store_core.proofs.DiskLemmas.{keeps_then, keeps_calls}
@@ -248,19 +246,14 @@ module _ (old mid new : DiskState) (contents : Contents) (checks : ChecksSynced 
 
 -- ---- the store that is made of a disk
 
--- its pairs and its layout are those of the tree
-pub laid : (t : Tree) (contents : Contents) (items : List Pair) → AreContents t contents.params contents → items ≡ contents.pairs → IsLaid contents.params items contents.layout t
-laid t contents items are same = record {
-  fitting = record { in_range = are.in_range; tree = are.tree; fits = are.fits };
-  pairs_are = same ∙ are.pairs_are;
-  table_is = are.table_is;
-}
+-- its tree fits
+pub fitting_open : (disk : DiskState) (contents : Contents) (t : Tree) → IsOpenAt disk contents t → IsFitting t contents.params
+fitting_open disk contents t at = let are = at.contents_are in record { in_range = are.in_range; tree = are.tree; fits = are.fits }
 
-pub attached : {D : Type 0} (state : D → DiskState) (old : DiskState) (disk : D) (kept : LaidState) (t : Tree) (p : Parameters) → kept ≡ record { params = p; tree = t }
-    → KeepsDisk old (state disk) → (state disk).faults ≡ old.faults → HasParameters old p → IsFitting t p → (IsObservable old → IsOpened t p old (state disk))
-    → IsAttached state old (record { params = kept.params; tree = kept.tree; disk = disk; is_stopped = false })
-attached state old disk kept t p same keeps faults has fitting opened =
-    subst (λ (l : LaidState). IsAttached state old (record { params = l.params; tree = l.tree; disk = disk; is_stopped = false })) (sym same) (record {
+pub attached : {D : Type 0} (state : D → DiskState) (old : DiskState) (disk : D) (store : StoreState D) (t : Tree) (p : Parameters) → store ≡ record { params = p; tree = t; disk = disk; is_stopped = false }
+    → KeepsDisk old (state disk) → (state disk).faults ≡ old.faults → HasParameters old p → IsFitting t p → (IsObservable old → IsOpened t p old (state disk)) → IsAttached state old store
+attached state old disk store t p same keeps faults has fitting opened =
+    subst (IsAttached state old) (sym same) (record {
       kept = keeps;
       faults = faults;
       runs = refl;

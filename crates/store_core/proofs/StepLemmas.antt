@@ -1,98 +1,57 @@
--- Lemmas on the steps of commands: those that change a tree, and those that do not.
-use Rattle.std.proofs.Common.{◌≡◌, ℕ, ◌<◌, Bool, true, false, ◌&&◌, nat_lt, if◌then◌else◌, Option, Some, None, Result, Ok, Err, refl, sym, ap, ◌∙◌, subst, inl, inr, arith}
-use Rattle.std.proofs.lemmas.Bool.{cases_Bool, le-ltb, lt-ltb}
+-- Lemmas on the steps of commands, by the replies that they have where pages are not counted.
+use Rattle.std.proofs.Common.{◌≡◌, ◌<◌, ◌≤◌, Bool, true, false, ◌&&◌, nat_lt, if◌then◌else◌, Option, Some, None, refl, sym, ap, ◌∙◌, arith}
+use Rattle.std.proofs.lemmas.Bool.{le-ltb, lt-ltb}
 use Rattle.store_model.specs.declared.refusal.Refusal.{Refusal}
 use Rattle.store_model.specs.declared.refusal.Refusal.TheVariants as refusals
-use Rattle.store_model.specs.Parameters.{Parameters, IsParameters}
+use Rattle.store_model.specs.Parameters.{Parameters}
 use Rattle.store_model.specs.Trees.{Tree, IsTree}
-use Rattle.store_model.specs.Pairs.{pairs}
 use Rattle.store_model.specs.Pages.{Fits, page_count}
 use Rattle.sha2.specs.Sha256.{sha256}
 use Rattle.store_model.specs.Images.{layout}
 use Rattle.store_model.specs.Commands.{Command, Reply, IsCommand}
 use Rattle.store_model.specs.Commands.Command.{Make, Write, Cut, Rename, Remove, Prune, ListChildren, Read, Space, Digest}
-use Rattle.store_model.specs.Commands.Reply.{Acknowledged, ImageDigest, Refused}
+use Rattle.store_model.specs.Commands.Reply.{Acknowledged, PagesUsed, ImageDigest, Refused}
 use Rattle.store_model.specs.Steps.{Step, step, step_by, conditions, first_refusal, refusal_of, next_tree, reply_of, may_fill}
-use Rattle.store_model.proofs.TreesLemmasFits.{needs_no_more}
-use Rattle.store_model.proofs.TreesLemmasSteps.{IsTree-next_tree}
-use Rattle.std.proofs.lemmas.Result.{IfOk-at_ok}
-use Rattle.store_base.specs.declared.store_fault.Fault.{Fault}
-use Rattle.skip_levels.specs.PairsState.{PairsState, IsObservable}
-use Rattle.tree_pairs.specs.TreeCalls.{uncounted_by, uncounted_step, reply_seen, HoldsTree, IsStepOf, CarriesOut}
-use Rattle.tree_pairs.proofs.CallLemmas.{step_where_it_fits, step_where_refused}
-use Rattle.store_core.specs.Laying.{SpellTree}
-use Rattle.store_core.specs.Outcomes.{is_change}
+use Rattle.store_model.proofs.TreesLemmasFits.{needs_no_more, Fits-step}
+use Rattle.store_model.proofs.TreesLemmasSteps.{IsTree-next_tree, IsTree-step}
+use Rattle.tree_pairs.specs.TreeCalls.{uncounted_by, uncounted_step}
+use Rattle.tree_pairs.proofs.CallLemmas.{step_where_refused}
+use Rattle.store_core.specs.Standing.{IsFitting}
+use Rattle.store_core.specs.Steps.{counted_step}
 
--- a step with this reply and this tree
-same_step : (s : Step) (reply : Reply) (tree : Tree) → s.reply ≡ reply → s.tree ≡ tree → s ≡ record { reply = reply; tree = tree }
-same_step s reply tree e f = λ i. record { reply = e i; tree = f i }
+-- ---- the digest and the space
 
--- ---- commands that do not change the tree
-
-still_by : (t : Tree) (c : Command) (p : Parameters) (o : Option Refusal) → next_tree t c ≡ t → (uncounted_by t c p o).tree ≡ t
-still_by t c p (Some refusal) e = refl
-still_by t c p None e = e
-
--- what answers such a command is its step
-pub answered : {T : Type 0} (see : T → Reply) (t : Tree) (c : Command) (p : Parameters) (new : PairsState) (answer : Result T Refusal) → may_fill c ≡ false → next_tree t c ≡ t → IsStepOf see (uncounted_step t c p) p new answer
-    → step t c p ≡ record { reply = reply_seen see answer; tree = t }
-answered see t c p new answer fills same of =
-    let counted = step_where_it_fits t c p (ap (λ b. b && nat_lt p.slots (page_count (next_tree t c) p)) fills) in
-    counted ∙ same_step (uncounted_step t c p) (reply_seen see answer) t (sym of.reply) (still_by t c p (refusal_of t c) same)
-
--- the answer of a call that carries it out
-pub shown : {T : Type 0} (see : T → Reply) (t : Tree) (c : Command) (p : Parameters) (old new : PairsState) (result : Result (Result T Refusal) Fault) (answer : Result T Refusal) → CarriesOut see c old new result → IsObservable old → HoldsTree old t p → result ≡ Ok answer
-    → may_fill c ≡ false → next_tree t c ≡ t → step t c p ≡ record { reply = reply_seen see answer; tree = t }
-shown see t c p old new result answer carries seen holds is fills same =
-    answered see t c p new answer fills same (IfOk-at_ok (λ a. IsStepOf see (uncounted_step t c p) p new a) is (carries.carried seen t p holds))
-
--- the digest of the image
 pub digest_step : (t : Tree) (p : Parameters) → step t Digest p ≡ record { reply = ImageDigest (sha256 (layout t p)); tree = t }
 unfolding step conditions first_refusal next_tree reply_of may_fill
 digest_step t p = refl
 
--- ---- commands that may change it
+pub space_step : (t : Tree) (p : Parameters) → step t Space p ≡ record { reply = PagesUsed (page_count t p) p.slots; tree = t }
+unfolding step conditions first_refusal next_tree reply_of may_fill
+space_step t p = refl
 
-acknowledged : (t : Tree) (c : Command) (p : Parameters) → is_change c ≡ true → reply_of t c p ≡ Acknowledged
-unfolding reply_of
-acknowledged t (Make q) p e = refl
-acknowledged t (Write q at bytes) p e = refl
-acknowledged t (Cut q len) p e = refl
-acknowledged t (Rename from to) p e = refl
-acknowledged t (Remove q) p e = refl
-acknowledged t (Prune q) p e = refl
-acknowledged t (ListChildren q) p e = cc
-acknowledged t (Read q at len) p e = cc
-acknowledged t Space p e = cc
-acknowledged t Digest p e = cc
+-- ---- trees
 
--- one that was refused
-refused_by : (t : Tree) (c : Command) (p : Parameters) (new : PairsState) (refusal : Refusal) (o : Option Refusal) → is_change c ≡ true → IsStepOf {T = Unit {0}} (λ _. Acknowledged) (uncounted_by t c p o) p new (Err refusal) → o ≡ Some refusal
-refused_by t c p new refusal (Some other) change of = let same : Refused refusal ≡ Refused other = of.reply in cc
-refused_by t c p new refusal None change of = let other : Refused refusal ≡ Acknowledged = of.reply ∙ acknowledged t c p change in cc
+-- the step of a command leads from a tree that fits to one that does
+pub fitting_step : (t : Tree) (c : Command) (p : Parameters) → IsFitting t p → IsCommand c → IsFitting (step t c p).tree p
+fitting_step t c p fitting is = record { in_range = fitting.in_range; tree = IsTree-step t c p fitting.tree is; fits = Fits-step t c p fitting.tree fitting.fits }
 
-pub refused : (t : Tree) (c : Command) (p : Parameters) (new : PairsState) (refusal : Refusal) → is_change c ≡ true → IsStepOf {T = Unit {0}} (λ _. Acknowledged) (uncounted_step t c p) p new (Err refusal) → step t c p ≡ record { reply = Refused refusal; tree = t }
-refused t c p new refusal change of =
-    let is = refused_by t c p new refusal (refusal_of t c) change of in
-    step_where_refused t c p refusal is ∙ ap (uncounted_by t c p) is
+tree_by : (t : Tree) (c : Command) (p : Parameters) (o : Option Refusal) → refusal_of t c ≡ o → IsTree t → IsCommand c → IsTree (uncounted_by t c p o).tree
+tree_by t c p (Some refusal) is tree command = tree
+tree_by t c p None is tree command = IsTree-next_tree t c tree command is
 
--- one that was not
-done_by : (t : Tree) (c : Command) (p : Parameters) (new : PairsState) (value : Unit {0}) (o : Option Refusal) → IsStepOf (λ _. Acknowledged) (uncounted_by t c p o) p new (Ok value) → o ≡ None
-done_by t c p new value (Some refusal) of = let other : Acknowledged ≡ Refused refusal = of.reply in cc
-done_by t c p new value None of = refl
+pub uncounted_tree : (t : Tree) (c : Command) (p : Parameters) → IsTree t → IsCommand c → IsTree (uncounted_step t c p).tree
+uncounted_tree t c p tree command = tree_by t c p (refusal_of t c) refl tree command
 
-pub done : (t : Tree) (c : Command) (p : Parameters) (new : PairsState) (value : Unit {0}) → IsStepOf (λ _. Acknowledged) (uncounted_step t c p) p new (Ok value) → refusal_of t c ≡ None
-done t c p new value of = done_by t c p new value (refusal_of t c) of
+-- ---- the pages counted
 
--- the pairs then are those of the next tree
-pub spells_next : (t : Tree) (c : Command) (p : Parameters) (new : PairsState) (value : Unit {0}) → IsParameters p → IsTree t → IsCommand c → IsStepOf (λ _. Acknowledged) (uncounted_step t c p) p new (Ok value) → SpellTree new.pairs p (next_tree t c)
-spells_next t c p new value valid tree is of =
-    let none = done t c p new value of in
-    record {
-      in_range = valid;
-      tree = IsTree-next_tree t c tree is none;
-      pairs_are = of.pairs_are ∙ ap (λ o. pairs (uncounted_by t c p o).tree p) none;
-    }
+-- a next tree that fits, and one that does not
+pub counted_fits : (t next : Tree) (p : Parameters) → page_count next p ≤ p.slots → counted_step t next p ≡ record { reply = Acknowledged; tree = next }
+counted_fits t next p fits =
+    ap (λ (b : Bool). if b then (record { reply = Refused (refusals.Full (page_count next p) p.slots); tree = t }) else (record { reply = Acknowledged; tree = next })) (le-ltb p.slots (page_count next p) fits)
+
+pub counted_full : (t next : Tree) (p : Parameters) → p.slots < page_count next p → counted_step t next p ≡ record { reply = Refused (refusals.Full (page_count next p) p.slots); tree = t }
+counted_full t next p more =
+    ap (λ (b : Bool). if b then (record { reply = Refused (refusals.Full (page_count next p) p.slots); tree = t }) else (record { reply = Acknowledged; tree = next })) (lt-ltb p.slots (page_count next p) more)
 
 -- the step of a command that nothing but its pages may refuse, by the test of these
 abbrev by_test : Tree → Command → Parameters → Bool → Step
@@ -106,19 +65,66 @@ and_false : (a b : Bool) → b ≡ false → (a && b) ≡ false
 and_false true b e = e
 and_false false b e = refl
 
--- its tree fits
-pub fits_next : (t : Tree) (c : Command) (p : Parameters) → is_change c ≡ true → refusal_of t c ≡ None → Fits (next_tree t c) p → step t c p ≡ record { reply = Acknowledged; tree = next_tree t c }
-fits_next t c p change none fits =
-    counted t c p none ∙ ap (by_test t c p) (and_false (may_fill c) _ (le-ltb p.slots (page_count (next_tree t c) p) fits))
-    ∙ ap (λ (reply : Reply). record { reply = reply; tree = next_tree t c }) (acknowledged t c p change)
+-- ---- a command that is acknowledged
 
--- or does not
-pub full_next : (t : Tree) (c : Command) (p : Parameters) (need slots : ℕ) → IsTree t → Fits t p → refusal_of t c ≡ None → need ≡ page_count (next_tree t c) p → slots ≡ p.slots → p.slots < need
-    → step t c p ≡ record { reply = Refused (refusals.Full need slots); tree = t }
-full_next t c p need slots tree fits none need_is slots_is more = elim (cases_Bool (may_fill c)) [
-  | inl fills ↦
-      counted t c p none ∙ ap (λ b. by_test t c p (b && nat_lt p.slots (page_count (next_tree t c) p))) fills
-      ∙ ap (by_test t c p) (lt-ltb p.slots (page_count (next_tree t c) p) (subst (λ n. p.slots < n) need_is more))
-      ∙ (λ i. record { reply = Refused (refusals.Full (sym need_is i) (sym slots_is i)); tree = t })
-  | inr never ↦ let fewer = needs_no_more t c p tree never none in absurd (omega arith)
-]
+acked_none : (t : Tree) (c : Command) (p : Parameters) (o : Option Refusal) → (uncounted_by t c p o).reply ≡ Acknowledged → o ≡ None
+acked_none t c p (Some refusal) is = let other : Refused refusal ≡ Acknowledged = is in cc
+acked_none t c p None is = refl
+
+-- its step is that from its tree to the next, with the pages counted
+module _ (t : Tree) (c : Command) (p : Parameters) (tree : IsTree t) (fits : Fits t p) (acked : (uncounted_step t c p).reply ≡ Acknowledged) where
+  none : refusal_of t c ≡ None
+  none = acked_none t c p (refusal_of t c) acked
+
+  uncounted_is : uncounted_step t c p ≡ uncounted_by t c p None
+  uncounted_is = ap (uncounted_by t c p) none
+
+  reply_is : reply_of t c p ≡ Acknowledged
+  reply_is = sym (ap (λ (s : Step). s.reply) uncounted_is) ∙ acked
+
+  by_fill : (fill full : Bool) → may_fill c ≡ fill → nat_lt p.slots (page_count (next_tree t c) p) ≡ full → by_test t c p (fill && full) ≡ counted_step t (next_tree t c) p
+  by_fill fill false is full_is =
+      ap (by_test t c p) (and_false fill false refl) ∙ ap (λ (r : Reply). record { reply = r; tree = next_tree t c }) reply_is
+      ∙ sym (ap (λ (b : Bool). if b then (record { reply = Refused (refusals.Full (page_count (next_tree t c) p) p.slots); tree = t }) else (record { reply = Acknowledged; tree = next_tree t c })) full_is)
+  by_fill true true is full_is =
+      sym (ap (λ (b : Bool). if b then (record { reply = Refused (refusals.Full (page_count (next_tree t c) p) p.slots); tree = t }) else (record { reply = Acknowledged; tree = next_tree t c })) full_is)
+  by_fill false true is full_is =
+      let fewer = needs_no_more t c p tree is none in
+      let test = le-ltb p.slots (page_count (next_tree t c) p) (omega (arith, fewer, fits)) in
+      let other : true ≡ false = sym full_is ∙ test in
+      cc
+
+  pub acked_step : step t c p ≡ counted_step t (uncounted_step t c p).tree p
+  acked_step =
+      counted t c p none ∙ by_fill (may_fill c) (nat_lt p.slots (page_count (next_tree t c) p)) refl refl
+      ∙ ap (λ (s : Step). counted_step t s.tree p) (sym uncounted_is)
+
+-- ---- a command that is not
+
+-- it changes nothing
+still_command : (t : Tree) (c : Command) (p : Parameters) → (reply_of t c p ≡ Acknowledged → ⊥) → (may_fill c ≡ false) × (next_tree t c ≡ t)
+unfolding reply_of next_tree may_fill
+still_command t (Make q) p other = absurd (other refl)
+still_command t (Write q at bytes) p other = absurd (other refl)
+still_command t (Cut q len) p other = absurd (other refl)
+still_command t (Rename from to) p other = absurd (other refl)
+still_command t (Remove q) p other = absurd (other refl)
+still_command t (Prune q) p other = absurd (other refl)
+still_command t (ListChildren q) p other = (refl, refl)
+still_command t (Read q at len) p other = (refl, refl)
+still_command t Space p other = (refl, refl)
+still_command t Digest p other = (refl, refl)
+
+-- its step is its reply, and the tree stays
+pub answered_step : (t : Tree) (c : Command) (p : Parameters) (reply : Reply) → reply ≡ (uncounted_step t c p).reply → (reply ≡ Acknowledged → ⊥) → step t c p ≡ record { reply = reply; tree = t }
+answered_step t c p reply is other = by_option (refusal_of t c) refl
+  where
+    by_option : (o : Option Refusal) → refusal_of t c ≡ o → step t c p ≡ record { reply = reply; tree = t }
+    by_option (Some refusal) so =
+        let same = ap (uncounted_by t c p) so in
+        step_where_refused t c p refusal so ∙ same ∙ ap (λ (r : Reply). record { reply = r; tree = t }) (sym (is ∙ ap (λ (s : Step). s.reply) same))
+    by_option None so =
+        let same : reply ≡ reply_of t c p = is ∙ ap (λ (o : Option Refusal). (uncounted_by t c p o).reply) so in
+        let still = still_command t c p (λ e. other (same ∙ e)) in
+        counted t c p so ∙ ap (λ (b : Bool). by_test t c p (b && nat_lt p.slots (page_count (next_tree t c) p))) still.0
+        ∙ (λ i. record { reply = sym same i; tree = still.1 i })

@@ -26,3 +26,8 @@ apply_faults_after count (Err apply.Stopped) = count
 abbrev pub attach_fault_of : Fault → AttachFault
 attach_fault_of causes.Disk = attach.Disk
 attach_fault_of causes.NoMemory = attach.NoMemory
+
+-- why a command was not carried out, where a call that stands below failed
+abbrev pub apply_fault_of : Fault → ApplyFault
+apply_fault_of causes.Disk = apply.Disk
+apply_fault_of causes.NoMemory = apply.NoMemory

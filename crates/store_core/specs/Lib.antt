@@ -1,11 +1,11 @@
+pub mod Answers
 pub mod Changes
-pub mod Commits
 pub mod Faults
-pub mod LaidTree
-pub mod Laying
+pub mod Known
 pub mod Opening
-pub mod Outcomes
+pub mod StagedTree
 pub mod Standing
 pub mod Steps
 pub mod StoreCalls
+pub mod StoreFields
 pub mod StoreState

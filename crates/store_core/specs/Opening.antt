@@ -2,17 +2,21 @@
 use Rattle.std.specs.Prelude.{◌≡◌, ℕ, Result, Ok, Err, IfOk, OnOk, IsErrOf}
 use Rattle.store_base.specs.Counts.{raised}
 use Rattle.store_base.specs.declared.store_fault.Fault.{Fault}
+use Rattle.store_model.specs.Parameters.{image_len}
+use Rattle.store_model.specs.Trees.{Tree}
 use Rattle.disk_model.specs.DiskState.{DiskState, IsObservable, IsDurable}
 use Rattle.disk_model.specs.DiskCalls.{LeavesOnly}
 use Rattle.gate_journal.specs.Disks.{KeepsDisk}
 use Rattle.image_check.specs.declared.contents.Contents.{Contents}
 use Rattle.image_check.specs.declared.contents.Finding.{Finding}
 use Rattle.image_check.specs.declared.contents.Finding.TheVariants as findings
+use Rattle.image_check.specs.Contents.{AreContents}
 use Rattle.image_check.specs.ImageCalls.{HasImage}
 use Rattle.image_check.specs.Verdicts.{IsNoImage, IsDamaged}
 use Rattle.store_core.specs.declared.fault.AttachFault.{AttachFault}
 use Rattle.store_core.specs.declared.fault.AttachFault.TheVariants as attach
 use Rattle.store_core.specs.Faults.{attach_faults_by, attach_fault_of}
+use Rattle.store_core.specs.Standing.{Stands}
 
 -- the disk's count of failed calls behind a call with such a fault, or none
 abbrev pub attach_faults_after : {T : Type 0} → ℕ → Result T AttachFault → ℕ
@@ -43,3 +47,13 @@ pub record ChecksSynced (old new : DiskState) (result : Result Contents AttachFa
   pub image : IfOk result (HasImage old)
   pub not_image : IsErrOf result attach.NotImage → IsNoImage old
   pub damaged : IsErrOf result attach.Damaged → IsDamaged old
+
+-- the contents are those of the tree, which fits, and the disk is as long as its image; an observable one stands at it
+pub record IsOpenAt (disk : DiskState) (contents : Contents) (t : Tree) : Type 0 where
+  pub contents_are : AreContents t contents.params contents
+  pub size_is : disk.size ≡ image_len contents.params.slots
+  pub stands : IsObservable disk → Stands disk t contents.params
+
+-- they are those of some tree
+abbrev pub IsOpenTo : DiskState → Contents → Type 0
+IsOpenTo disk contents = (t : Tree) × IsOpenAt disk contents t

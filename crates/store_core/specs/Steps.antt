@@ -1,22 +1,57 @@
--- A step that a store takes which is not stopped.
-use Rattle.std.specs.Prelude.{◌≡◌, false, Result, Err, OnOk, OnErr}
+-- A step that staged pages take which are those of a tree.
+use Rattle.std.specs.Prelude.{◌≡◌, false, nat_lt, if◌then◌else◌, Result, Ok, Err, IfOk, OnOk, OnErr}
+use Rattle.store_model.specs.declared.refusal.Refusal.TheVariants as refusals
+use Rattle.store_model.specs.Parameters.{Parameters}
 use Rattle.store_model.specs.Trees.{Tree}
+use Rattle.store_model.specs.Pages.{pages, page_count}
+use Rattle.store_model.specs.PageMaps.{map_of_pages}
+use Rattle.store_model.specs.Commands.Reply.{Acknowledged, Refused}
+use Rattle.store_model.specs.Steps.{Step}
 use Rattle.disk_model.specs.DiskState.{DiskState, IsObservable}
 use Rattle.gate_journal.specs.Disks.{KeepsDisk}
+use Rattle.seeded_draw.specs.declared.any.AnyDraw.{AnyDraw}
 use Rattle.script_lines.specs.declared.reply.Reply.{Reply}
+use Rattle.script_lines.specs.declared.reply.Reply.TheVariants as replies
+use Rattle.script_lines.specs.Replies.{reply_of}
+use Rattle.page_store.specs.declared.fault.SettleFault.{SettleFault}
+use Rattle.page_store.specs.declared.fault.SettleFault.TheVariants as causes
+use Rattle.page_store.specs.StagedState.{StagedState}
 use Rattle.store_core.specs.declared.fault.ApplyFault.{ApplyFault}
 use Rattle.store_core.specs.declared.fault.ApplyFault.TheVariants as apply
 use Rattle.store_core.specs.Faults.{apply_faults_after}
-use Rattle.store_core.specs.StoreState.{StoreState}
 use Rattle.store_core.specs.StoreCalls.{ChangesImage}
 
--- The step of a command that leads to the next tree, its reply apart.
-pub record TakesStep {D : Type 0} (state : D → DiskState) (next : Tree) (old new : StoreState D) (result : Result Reply ApplyFault) : Type 0 where
+-- what a command answers whose changes were settled so
+abbrev pub settled_reply : Result (Unit {0}) SettleFault → Result Reply ApplyFault
+settled_reply (Ok value) = Ok replies.Ok
+settled_reply (Err (causes.Full need slots)) = Ok (replies.No (refusals.Full need slots))
+settled_reply (Err causes.Disk) = Err apply.Disk
+settled_reply (Err causes.NoMemory) = Err apply.NoMemory
+
+-- from a tree to the next one, unless that has more pages than there are slots
+abbrev pub counted_step : Tree → Tree → Parameters → Step
+counted_step t next p =
+    if nat_lt p.slots (page_count next p) then (record { reply = Refused (refusals.Full (page_count next p) p.slots); tree = t }) else (record { reply = Acknowledged; tree = next })
+
+-- what it does over an observable disk that stands at the tree
+pub record StepsPages {D : Type 0} (state : D → DiskState) (t : Tree) (to : Step) (p : Parameters) (old new : StagedState D AnyDraw) (result : Result Reply ApplyFault) : Type 0 where
+  pub reply : IfOk result (λ reply. reply_of reply ≡ to.reply)
+  pub image : ChangesImage t to.tree p (state old.disk) (state new.disk) new.is_spent result
+  -- the pages in the table are then those of the step's tree, and after a fault those that they were
+  pub goes : OnOk result (new.table ≡ map_of_pages (pages to.tree p))
+  pub stays : new.is_spent ≡ false → OnErr result (new.table ≡ old.table)
+
+-- Staged pages of a tree take a step, and are spent only by a fault of the disk.
+pub record TakesStep {D : Type 0} (state : D → DiskState) (t : Tree) (to : Step) (p : Parameters) (old new : StagedState D AnyDraw) (result : Result Reply ApplyFault) : Type 0 where
   pub params : new.params ≡ old.params
+  pub draw : new.draw ≡ old.draw
   pub kept : KeepsDisk (state old.disk) (state new.disk)
   pub faults : (state new.disk).faults ≡ apply_faults_after (state old.disk).faults result
   pub never : result ≡ Err apply.Stopped → ⊥
-  pub tree : OnOk result (new.tree ≡ next)
-  pub fault : OnErr result (new.tree ≡ old.tree)
-  pub runs : (result ≡ Err apply.Disk → ⊥) → new.is_stopped ≡ false
-  pub observed : IsObservable (state old.disk) → ChangesImage old.tree next old.params (state old.disk) (state new.disk) new.is_stopped result
+  pub runs : (result ≡ Err apply.Disk → ⊥) → new.is_spent ≡ false
+  pub observed : IsObservable (state old.disk) → StepsPages state t to p old new result
+
+-- a step behind which nothing is staged
+pub record EndsStep {D : Type 0} (state : D → DiskState) (t : Tree) (to : Step) (p : Parameters) (old new : StagedState D AnyDraw) (result : Result Reply ApplyFault) : Type 0 where
+  pub step : TakesStep state t to p old new result
+  pub none_staged : IsObservable (state new.disk) → new.is_spent ≡ false → new.map ≡ new.table

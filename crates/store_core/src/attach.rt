@@ -1,16 +1,18 @@
 //! How a disk becomes a store: its image is checked as recovery would leave it, and then recovered.
 
-ghost use Rattle.std.specs.Prelude.{◌≡◌};
-ghost use Rattle.store_core.specs.Opening.{ChecksSynced, contents_in};
+ghost use Rattle.std.specs.Prelude.{◌≡◌, [], false};
+ghost use Rattle.store_model.specs.Trees.{Tree};
+ghost use Rattle.store_core.specs.Opening.{ChecksSynced, contents_in, IsOpenAt, IsOpenTo};
 ghost use Rattle.store_core.specs.StoreCalls.{Attaches};
 
 use crate::fault::AttachFault;
-use crate::laid::LaidTree;
+use crate::known::KnownTree;
 use crate::store::Store;
 use disk_model::Disk;
 use gate_journal::Journal;
 use image_check::{Contents, Finding, find_image};
-use skip_levels::MapPairs;
+use page_store::{SlotCache, Staged};
+use seeded_draw::AnyDraw;
 use std::alloc::Global;
 use store_base::Fault;
 
@@ -54,20 +56,34 @@ impl<D: Disk> Store<D> {
             Ok(contents) => contents,
             Err(fault) => return Err((fault, disk)),
         };
+        let cache = match SlotCache::new(alloc) {
+            Ok(cache) => cache,
+            Err(fault) => return Err((fault.into(), disk)),
+        };
         if let Err(fault) = Journal::recover(&mut disk, &contents.params) {
             return Err((fault.into(), disk));
         }
+        Ok(Store::open(alloc, disk, contents, cache))
+    }
+
+    /// The store over a disk that stands at the tree of these contents, with a cache that keeps no slot.
+    fn open(alloc: Global, disk: D, contents: Contents, cache: SlotCache) -> Self
+        requires stands { IsOpenTo (D.state disk) contents }
+        requires empty { cache ≡ [] }
+        ensures { (t : Tree) → IsOpenAt (D.state disk) contents t → result ≡ record { params = contents.params; tree = t; disk = disk; is_stopped = false } }
+    {
         let Contents {
             params,
             pairs,
             layout,
             counts: _,
         } = contents;
-        Ok(Store {
+        let known = KnownTree::new(params, &pairs, &disk);
+        let draw = AnyDraw::new(&params);
+        Store {
             alloc,
-            disk,
-            kept: LaidTree::new(params, MapPairs::from_pairs(pairs), layout),
-            is_stopped: false,
-        })
+            known,
+            staged: Some(Staged::new(alloc, disk, &params, draw, layout.used(), cache)),
+        }
     }
 }

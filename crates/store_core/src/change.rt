@@ -6,7 +6,7 @@ ghost use Rattle.store_model.specs.Commands.Command.{Write};
 ghost use Rattle.store_model.specs.Commands.Reply.{Acknowledged};
 ghost use Rattle.script_lines.specs.Parsing.{command_of};
 ghost use Rattle.tree_pairs.specs.TreeCalls.{CarriesOut, HasRoom};
-ghost use Rattle.store_core.specs.Outcomes.{is_change};
+ghost use Rattle.store_core.specs.Answers.{is_change};
 
 use dir_tree::{make, remove};
 use file_blocks::{cut, write_at};
@@ -23,6 +23,7 @@ pub fn change<P: OrderedPairs>(pairs: &mut P, command: &Command) -> Result<Answe
     requires change { is_change (command_of command.now) ≡ true }
     requires room { HasRoom (P.state pairs.old) }
     ensures call { CarriesOut (λ _. Acknowledged) (command_of command.now) (P.state pairs.old) (P.state pairs.new) result }
+    ensures follows { P.follows pairs.old pairs.new }
 {
     match command {
         Command::Make(path) => make(pairs, path),
@@ -45,6 +46,7 @@ fn write<P: OrderedPairs>(
 ) -> Result<Answer<()>, Fault>
     requires room { HasRoom (P.state pairs.old) }
     ensures call { CarriesOut (λ _. Acknowledged) (Write path.now at bytes.now) (P.state pairs.old) (P.state pairs.new) result }
+    ensures follows { P.follows pairs.old pairs.new }
 {
     match kind_of(pairs, &path.parent().unwrap_or(*path))? {
         Kind::Dir => write_at(pairs, path, at, bytes),

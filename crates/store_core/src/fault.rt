@@ -75,10 +75,15 @@ impl From<DiskFault> for ApplyFault {
     }
 }
 
-impl From<NoMemory> for ApplyFault {
-    ghost from_gives = { λ _ fault. fault ≡ apply.NoMemory };
+impl From<Fault> for ApplyFault {
+    ghost use Rattle.store_core.specs.Faults.{apply_fault_of};
 
-    fn from(_: NoMemory) -> Self {
-        ApplyFault::NoMemory
+    ghost from_gives = { λ cause fault. fault ≡ apply_fault_of cause };
+
+    fn from(fault: Fault) -> Self {
+        match fault {
+            Fault::Disk => ApplyFault::Disk,
+            Fault::NoMemory => ApplyFault::NoMemory,
+        }
     }
 }

@@ -5,7 +5,8 @@ ghost use Rattle.store_model.specs.Pages.{page_count};
 ghost use Rattle.disk_model.specs.DiskState.{IsObservable};
 ghost use Rattle.store_core.specs.Standing.{IsFitting, Stands};
 
-use crate::laid::LaidTree;
+use crate::known::KnownTree;
+use crate::staged::TreePages;
 use disk_model::Disk;
 use std::alloc::Global;
 use std::marker::Model;
@@ -16,19 +17,20 @@ use store_base::Params;
 /// An observable disk under a store that is not stopped reads the layout of the tree, and nothing is pending.
 pub struct Store<D: Disk> {
     pub(crate) alloc: Global,
-    pub(crate) disk: D,
-    pub(crate) kept: LaidTree,
-    pub(crate) is_stopped: bool,
+    pub(crate) known: KnownTree<D>,
+    /// The pages over the disk, nothing staged. They are there but within a command, which moves them out and back.
+    pub(crate) staged: Option<TreePages<D>>,
 }
 
 impl<D: Disk> Model for Store<D> {
-    ghost use Rattle.store_core.specs.StoreState.{StoreState, IsServed};
+    ghost use Rattle.store_core.specs.StoreState.{StoreState};
+    ghost use Rattle.store_core.specs.StoreFields.{disk_of, is_stopped_in, AreServed};
 
     ghost Value = { StoreState D };
 
-    ghost view = { λ s. record { params = s.kept.params; tree = s.kept.tree; disk = s.disk; is_stopped = s.is_stopped } };
+    ghost view = { λ s. record { params = s.known.params; tree = s.known.tree; disk = disk_of s.known s.staged; is_stopped = is_stopped_in s.staged } };
 
-    ghost invariant = { λ s. IsServed (D.state s.disk) s.kept.tree s.kept.params s.is_stopped };
+    ghost invariant = { λ s. AreServed D.state s.known s.staged };
 }
 
 impl<D: Disk> Store<D> {
@@ -38,7 +40,10 @@ impl<D: Disk> Store<D> {
         ensures value { result ≡ self.now.is_stopped }
         ensures stands { IsObservable (D.state self.now.disk) → self.now.is_stopped ≡ false → Stands (D.state self.now.disk) self.now.tree self.now.params }
     {
-        self.is_stopped
+        match &self.staged {
+            Some(staged) => staged.is_spent(),
+            None => true,
+        }
     }
 
     /// What the image was made with.
@@ -46,21 +51,27 @@ impl<D: Disk> Store<D> {
         ensures value { result.now ≡ self.now.params }
         ensures fitting { IsFitting self.now.tree self.now.params }
     {
-        self.kept.params()
+        self.known.params()
     }
 
     /// How many slots are used: as many as the tree has pages, on an observable disk and while the store is not stopped.
     pub fn used(&self) -> u32
         ensures { IsObservable (D.state self.now.disk) → self.now.is_stopped ≡ false → result ≡ page_count self.now.tree self.now.params }
     {
-        self.kept.used()
+        match &self.staged {
+            Some(staged) => staged.used(),
+            None => 0,
+        }
     }
 
     /// The disk.
     pub fn disk(&self) -> &D
         ensures { result.now ≡ self.now.disk }
     {
-        &self.disk
+        let Some(staged) = &self.staged else {
+            unreachable!()
+        };
+        staged.disk()
     }
 
     /// Gives the disk back.
@@ -69,10 +80,10 @@ impl<D: Disk> Store<D> {
     {
         let Store {
             alloc: _,
-            disk,
-            kept: _,
-            is_stopped: _,
+            known: _,
+            staged,
         } = self;
-        disk
+        let Some(staged) = staged else { unreachable!() };
+        staged.into_disk()
     }
 }

@@ -44,4 +44,5 @@ returns-in_default g c =
             step_refused (λ _. Acknowledged) refusals.Parent t (Write c.args.path.now c.args.at c.args.bytes.now) p (g.P.OrderedPairs.state c.kind_of.new.pairs)
             (no_parent t c.args.path.now c.args.at c.args.bytes.now none) (up.keeps.unchanged seen ∙ holds.pairs_are);
       };
+      follows = c.in_ok-kind_of.ensures.follows;
     }

@@ -1,0 +1,91 @@
+-- Commands that are answered from the pairs in staged pages.
+use Rattle.std.proofs.Common.{◌≡◌, false, List, Result, Ok, Err, IfOk, OnOk, refl, sym, ap, subst, ◌∙◌}
+use Rattle.store_base.specs.declared.store_fault.Fault.{Fault}
+use Rattle.store_base.specs.declared.store_fault.Fault.TheVariants as causes
+use Rattle.store_model.specs.Parameters.{Parameters}
+use Rattle.store_model.specs.Trees.{Tree}
+use Rattle.store_model.specs.Draws.{Draw, draw_of}
+use Rattle.store_model.specs.Pairs.{Pair, pairs}
+use Rattle.store_model.specs.Commands.{Command, IsCommand}
+use Rattle.store_model.specs.Commands.Reply.{Acknowledged}
+use Rattle.store_model.specs.Steps.{Step, step}
+use Rattle.disk_model.specs.DiskState.{DiskState, IsObservable}
+use Rattle.seeded_draw.specs.declared.any.AnyDraw.{AnyDraw}
+use Rattle.seeded_draw.specs.AnyDrawn.{any_draw}
+use Rattle.script_lines.specs.declared.reply.Reply.{Reply}
+use Rattle.script_lines.specs.declared.reply.Reply.TheVariants as replies
+use Rattle.script_lines.specs.Replies.{reply_of}
+use Rattle.skip_levels.specs.Descent.{HoldsPairs}
+use Rattle.skip_levels.specs.PairsState.{PairsState}
+use Rattle.tree_pairs.specs.TreeCalls.{uncounted_step}
+use Rattle.page_store.specs.StagedState.{StagedState, Follows}
+use Rattle.store_core.specs.declared.fault.ApplyFault.{ApplyFault}
+use Rattle.store_core.specs.declared.fault.ApplyFault.TheVariants as apply
+use Rattle.store_core.specs.Answers.{IsReplyOf, IsReplyAt, AnswersAt}
+use Rattle.store_core.specs.Faults.{apply_fault_of}
+use Rattle.store_core.specs.Standing.{IsFitting}
+use Rattle.store_core.specs.StagedTree.{AreAt, IsStagedFor}
+use Rattle.store_core.specs.Steps.{counted_step, EndsStep}
+use Rattle.store_core.proofs.StagedSteps.{read_step, behind_reads, told_as}
+use Rattle.store_core.proofs.StepLemmas.{acked_step, answered_step, uncounted_tree}
+use Rattle.store_core.proofs.Unchanged.{stands_reading}
+
+-- an answer by the pairs is one at the pages that hold them
+pub reply_at : {D Seen : Type 0} (to : Step) (p : Parameters) (d : Draw) (seen : PairsState) (after : StagedState D AnyDraw) (r : Result Reply Fault) → d ≡ draw_of p → (Seen → HoldsPairs d seen.pairs after.map) → OnOk r Seen → IfOk r (IsReplyOf to p seen) → IfOk r (IsReplyAt to p after)
+reply_at to p d seen after (Ok reply) drawn holds observable is = record {
+  reply_is = is.reply_is;
+  holds = subst (λ (e : Draw). HoldsPairs e (pairs to.tree p) after.map) drawn (subst (λ (s : List Pair). HoldsPairs d s after.map) is.pairs_are (holds observable));
+}
+reply_at to p d seen after (Err fault) drawn holds observable is = tt
+
+module _ {D : Type 0} (state : D → DiskState) (t : Tree) (c : Command) (p : Parameters) (old mid : StagedState D AnyDraw) (fit : IsFitting t p) (at : AreAt state t p old) (runs : old.is_spent ≡ false) (command : IsCommand c) where
+  -- it is acknowledged, and settled
+  pub acked : (new : StagedState D AnyDraw) (result : Result Reply ApplyFault) → AnswersAt state c t p old mid (Ok replies.Ok) → ((u next : Tree) (q : Parameters) → IsStagedFor state u next q mid → EndsStep state u (counted_step u next q) q mid new result)
+      → EndsStep state t (step t c p) p old new result
+  acked new result answers settles =
+      let next = (uncounted_step t c p).tree in
+      let follows = answers.follows in
+      let before = λ (observable : IsObservable (state mid.disk)). sym follows.disk.observable ∙ observable in
+      let staged : IsStagedFor state t next p mid = record {
+        fitting = fit;
+        tree = uncounted_tree t c p fit.tree command;
+        params = follows.disk.params ∙ at.params;
+        draw = ap any_draw follows.draw ∙ at.draw;
+        size_is = follows.disk.size ∙ at.size_is;
+        stands = λ observable. stands_reading (state old.disk) (state mid.disk) t p (follows.disk.reads (before observable)) (at.held (before observable) runs).stands;
+        table_is = λ observable. follows.table (before observable) ∙ (at.held (before observable) runs).table_is;
+        holds = λ observable. (answers.answered (before observable)).holds;
+      } in
+      told_as state t (counted_step t next p) (step t c p) p old new result (λ observable. sym (acked_step t c p fit.tree fit.fits (sym (answers.answered observable).reply_is)))
+      (behind_reads state t (counted_step t next p) p old mid new result fit at runs follows answers.faults (settles t next p staged))
+
+  taken_back : Follows state old mid → Follows state old (record mid { map = mid.table })
+  taken_back follows = record { disk = follows.disk; draw = follows.draw; runs = follows.runs; table = follows.table }
+
+  other_reply : (reply : Reply) → (reply ≡ replies.Ok → ⊥) → reply_of reply ≡ Acknowledged → ⊥
+  other_reply replies.Ok other is = other refl
+  other_reply (replies.Bytes bytes) other is = cc
+  other_reply (replies.Listing entries) other is = cc
+  other_reply (replies.Space used slots) other is = cc
+  other_reply (replies.Digest digest) other is = cc
+  other_reply (replies.No refusal) other is = cc
+
+  -- it is answered otherwise
+  pub answered : (reply : Reply) → (reply ≡ replies.Ok → ⊥) → AnswersAt state c t p old mid (Ok reply) → EndsStep state t (step t c p) p old (record mid { map = mid.table }) (Ok reply)
+  answered reply other answers =
+      let is = λ (observable : IsObservable (state old.disk)). answered_step t c p (reply_of reply) (answers.answered observable).reply_is (other_reply reply other) in
+      record {
+        step = read_step state t (step t c p) p old (record mid { map = mid.table }) (Ok reply) fit at runs (taken_back answers.follows) answers.faults (λ e. cc) (λ observable. ap (λ (s : Step). s.tree) (is observable)) (λ observable. sym (ap (λ (s : Step). s.reply) (is observable)));
+        none_staged = λ observable still. refl;
+      }
+
+  -- it fails
+  pub failed : (fault : Fault) → AnswersAt state c t p old mid (Err fault) → EndsStep state t (step t c p) p old (record mid { map = mid.table }) (Err (apply_fault_of fault))
+  failed causes.Disk answers = record {
+    step = read_step state t (step t c p) p old (record mid { map = mid.table }) (Err apply.Disk) fit at runs (taken_back answers.follows) answers.faults (λ e. cc) (λ observable. tt) (λ observable. tt);
+    none_staged = λ observable still. refl;
+  }
+  failed causes.NoMemory answers = record {
+    step = read_step state t (step t c p) p old (record mid { map = mid.table }) (Err apply.NoMemory) fit at runs (taken_back answers.follows) answers.faults (λ e. cc) (λ observable. tt) (λ observable. tt);
+    none_staged = λ observable still. refl;
+  }

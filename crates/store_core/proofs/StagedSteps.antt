@@ -1,0 +1,263 @@
+-- Steps that staged pages take which are those of a tree.
+use Rattle.std.proofs.Common.{◌≡◌, ◌⊎◌, ◌<◌, ◌≤◌, ℕ, Bool, false, List, length, Result, Ok, Err, IfOk, OnOk, OnErr, refl, sym, ap, ap₂, subst, ◌∙◌, inl, inr, ⊎_elim, arith}
+use Rattle.std.specs.FinMap as maps
+use Rattle.store_model.specs.declared.refusal.Refusal.TheVariants as refusals
+use Rattle.store_model.specs.Parameters.{Parameters, image_len}
+use Rattle.store_model.specs.Trees.{Tree}
+use Rattle.store_model.specs.Draws.{Draw, draw_of}
+use Rattle.store_model.specs.Pages.{pages, page_count}
+use Rattle.store_model.specs.PageMaps.{PageMap, map_of_pages}
+use Rattle.store_model.specs.Images.{Represents}
+use Rattle.store_model.specs.Commands.Reply.{Refused}
+use Rattle.store_model.specs.Steps.{Step}
+use Rattle.disk_model.specs.DiskState.{DiskState, IsObservable, IsSound}
+use Rattle.disk_model.proofs.Crashes.{LeavesOnly-weaken}
+use Rattle.gate_journal.specs.Disks.{KeepsDisk}
+use Rattle.gate_journal.specs.Places.{ReadsOnly}
+use Rattle.gate_journal.specs.Costs.{CountsCommit}
+use Rattle.seeded_draw.specs.declared.any.AnyDraw.{AnyDraw}
+use Rattle.seeded_draw.specs.AnyDrawn.{any_draw}
+use Rattle.script_lines.specs.declared.reply.Reply.{Reply}
+use Rattle.script_lines.specs.declared.reply.Reply.TheVariants as replies
+use Rattle.script_lines.specs.Replies.{reply_of}
+use Rattle.page_store.specs.declared.fault.SettleFault.{SettleFault}
+use Rattle.page_store.specs.declared.fault.SettleFault.TheVariants as causes
+use Rattle.page_store.specs.Faults.{settle_faults_after}
+use Rattle.page_store.specs.PageImages as images
+use Rattle.page_store.specs.Settling.{SettlesDisk, Settles}
+use Rattle.page_store.specs.StagedState.{StagedState, Follows}
+use Rattle.page_store.proofs.TreeLayouts.{represents_tree}
+use Rattle.store_core.specs.declared.fault.ApplyFault.{ApplyFault}
+use Rattle.store_core.specs.declared.fault.ApplyFault.TheVariants as apply
+use Rattle.store_core.specs.Changes.{slots_between}
+use Rattle.store_core.specs.Faults.{apply_faults_after}
+use Rattle.store_core.specs.Standing.{IsFitting, Stands}
+use Rattle.store_core.specs.StagedTree.{AreAt, IsStagedFor}
+use Rattle.store_core.specs.Steps.{settled_reply, counted_step, StepsPages, TakesStep, EndsStep}
+use Rattle.store_core.specs.StoreCalls.{ChangesImage}
+use Rattle.store_core.proofs.DiskLemmas.{keeps_then}
+use Rattle.store_core.proofs.StepLemmas.{counted_fits, counted_full}
+use Rattle.store_core.proofs.TreePages.{held_map, held_count, stands_tree, slots_as}
+use Rattle.store_core.proofs.Unchanged.{reads_change, change_behind}
+
+kept_view : {D : Type 0} (state : D → DiskState) (old new : StagedState D AnyDraw) → Follows state old new → KeepsDisk (state old.disk) (state new.disk)
+kept_view state old new follows =
+    let view = follows.disk in
+    record { size = view.size; observable = view.observable; faults = view.rise; writes = view.writes; syncs = view.syncs }
+
+-- calls that read alone
+pub read_step : {D : Type 0} (state : D → DiskState) (t : Tree) (to : Step) (p : Parameters) (old new : StagedState D AnyDraw) (result : Result Reply ApplyFault) → IsFitting t p → AreAt state t p old → old.is_spent ≡ false → Follows state old new
+    → (state new.disk).faults ≡ apply_faults_after (state old.disk).faults result → (result ≡ Err apply.Stopped → ⊥) → (IsObservable (state old.disk) → OnOk result (to.tree ≡ t)) → (IsObservable (state old.disk) → IfOk result (λ reply. reply_of reply ≡ to.reply)) → TakesStep state t to p old new result
+read_step {D} state t to p old new result fit at runs follows faults never same reply = record {
+  params = follows.disk.params;
+  draw = follows.draw;
+  kept = kept_view state old new follows;
+  faults = faults;
+  never = never;
+  runs = λ other. follows.runs ∙ runs;
+  observed = λ observable.
+      let held = at.held observable runs in
+      record {
+        reply = reply observable;
+        image = subst (λ (b : Bool). ChangesImage {T = Reply} t to.tree p (state old.disk) (state new.disk) b result) (sym (follows.runs ∙ runs)) (reads_change t to.tree p fit {T = Reply} (state old.disk) (state new.disk) result held.stands (follows.disk.reads observable) (same observable));
+        goes = goes result (same observable) (follows.table observable ∙ held.table_is);
+        stays = λ still. stays result (follows.table observable);
+      };
+}
+  where
+    goes : (r : Result Reply ApplyFault) → OnOk r (to.tree ≡ t) → new.table ≡ map_of_pages (pages t p) → OnOk r (new.table ≡ map_of_pages (pages to.tree p))
+    goes (Ok value) e is = is ∙ ap (λ (u : Tree). map_of_pages (pages u p)) (sym e)
+    goes (Err fault) e is = tt
+
+    stays : (r : Result Reply ApplyFault) → new.table ≡ old.table → OnErr r (new.table ≡ old.table)
+    stays (Ok value) is = tt
+    stays (Err fault) is = is
+
+-- nothing is staged behind calls that stage nothing
+pub same_staged : {D : Type 0} (state : D → DiskState) (t : Tree) (p : Parameters) (old new : StagedState D AnyDraw) → AreAt state t p old → old.is_spent ≡ false → Follows state old new → (IsObservable (state old.disk) → new.map ≡ old.map)
+    → IsObservable (state new.disk) → new.is_spent ≡ false → new.map ≡ new.table
+same_staged state t p old new at runs follows same observable still =
+    let before = sym follows.disk.observable ∙ observable in
+    let held = at.held before runs in
+    same before ∙ held.map_is ∙ sym held.table_is ∙ sym (follows.table before)
+
+-- a step behind calls that read alone
+pub behind_reads : {D : Type 0} (state : D → DiskState) (t : Tree) (to : Step) (p : Parameters) (old mid new : StagedState D AnyDraw) (result : Result Reply ApplyFault) → IsFitting t p → AreAt state t p old → old.is_spent ≡ false → Follows state old mid
+    → (state mid.disk).faults ≡ (state old.disk).faults → EndsStep state t to p mid new result → EndsStep state t to p old new result
+behind_reads state t to p old mid new result fit at runs follows faults ends = record {
+  step = record {
+    params = ends.step.params ∙ follows.disk.params;
+    draw = ends.step.draw ∙ follows.draw;
+    kept = keeps_then (state old.disk) (state mid.disk) (state new.disk) (kept_view state old mid follows) ends.step.kept;
+    faults = ends.step.faults ∙ ap (λ (n : ℕ). apply_faults_after n result) faults;
+    never = ends.step.never;
+    runs = ends.step.runs;
+    observed = λ observable.
+        let held = at.held observable runs in
+        let step = ends.step.observed (follows.disk.observable ∙ observable) in
+        record {
+          reply = step.reply;
+          image = change_behind t to.tree p fit {T = Reply} (state old.disk) (state mid.disk) (state new.disk) new.is_spent result held.stands (follows.disk.reads observable) step.image;
+          goes = step.goes;
+          stays = λ still. subst (λ (m : PageMap). OnErr result (new.table ≡ m)) (follows.table observable) (step.stays still);
+        };
+  };
+  none_staged = ends.none_staged;
+}
+
+-- a step, told in another way
+pub told_as : {D : Type 0} (state : D → DiskState) (t : Tree) (to other : Step) (p : Parameters) (old new : StagedState D AnyDraw) (result : Result Reply ApplyFault) → (IsObservable (state old.disk) → to ≡ other) → EndsStep state t to p old new result → EndsStep state t other p old new result
+told_as state t to other p old new result same ends = record {
+  step = record {
+    params = ends.step.params;
+    draw = ends.step.draw;
+    kept = ends.step.kept;
+    faults = ends.step.faults;
+    never = ends.step.never;
+    runs = ends.step.runs;
+    observed = λ observable. subst (λ (s : Step). StepsPages state t s p old new result) (same observable) (ends.step.observed observable);
+  };
+  none_staged = ends.none_staged;
+}
+
+-- ---- a settle
+
+-- pages of the next tree settled over a disk that stands at a tree
+module _ {D : Type 0} (state : D → DiskState) (t next : Tree) (p : Parameters) (old new : StagedState D AnyDraw) (staged : IsStagedFor state t next p old) (runs : old.is_spent ≡ false) (observable : IsObservable (state old.disk)) (sound : IsSound (state new.disk)) where
+  map_is : old.map ≡ map_of_pages (pages next p)
+  map_is = held_map next p old.map (staged.holds observable)
+
+  count_is : maps.len old.map ≡ page_count next p
+  count_is = held_count next p old.map (staged.holds observable)
+
+  slots_are : (any_draw old.draw).slots ≡ p.slots
+  unfolding draw_of
+  slots_are = ap (λ (d : Draw). d.slots) staged.draw
+
+  -- by the trees
+  by_trees : (r : Result (Unit {0}) SettleFault) → SettlesDisk (any_draw old.draw) old.params old.table old.map (state old.disk) (state new.disk) new.is_spent r
+      → SettlesDisk (draw_of p) p (map_of_pages (pages t p)) (map_of_pages (pages next p)) (state old.disk) (state new.disk) new.is_spent r
+  by_trees r settles =
+      subst (λ (d : Draw). SettlesDisk d p (map_of_pages (pages t p)) (map_of_pages (pages next p)) (state old.disk) (state new.disk) new.is_spent r) staged.draw
+      (subst (λ (q : Parameters). SettlesDisk (any_draw old.draw) q (map_of_pages (pages t p)) (map_of_pages (pages next p)) (state old.disk) (state new.disk) new.is_spent r) staged.params
+      (subst (λ (m : PageMap). SettlesDisk (any_draw old.draw) old.params m (map_of_pages (pages next p)) (state old.disk) (state new.disk) new.is_spent r) (staged.table_is observable)
+      (subst (λ (m : PageMap). SettlesDisk (any_draw old.draw) old.params old.table m (state old.disk) (state new.disk) new.is_spent r) map_is settles)))
+
+  fitting_next : ((any_draw old.draw).slots < maps.len old.map → ⊥) → IsFitting next p
+  fitting_next few = record {
+    in_range = staged.fitting.in_range;
+    tree = staged.tree;
+    fits = ⊎_elim (λ fits. fits) (λ more. absurd (few (omega (arith, more, count_is, slots_are)))) (fits_or (page_count next p) p.slots);
+  }
+    where
+      fits_or : (m n : ℕ) → (m ≤ n) ⊎ (n < m)
+      fits_or m n = grind arith
+
+  -- what the settle of a next tree that fits does to the disk
+  module _ (to : IsFitting next p) (kept : KeepsDisk (state old.disk) (state new.disk)) (r : Result (Unit {0}) SettleFault) (disk : SettlesDisk (draw_of p) p (map_of_pages (pages t p)) (map_of_pages (pages next p)) (state old.disk) (state new.disk) new.is_spent r) where
+    either : (image : List ℕ) → images.RepresentsPages (draw_of p) p (map_of_pages (pages t p)) image ⊎ images.RepresentsPages (draw_of p) p (map_of_pages (pages next p)) image → Represents image t p ⊎ Represents image next p
+    either image is =
+        ⊎_elim (λ one. inl (represents_tree t p staged.fitting.in_range staged.fitting.tree staged.fitting.fits image one)) (λ other. inr (represents_tree next p to.in_range to.tree to.fits image other)) is
+
+    long : length (state new.disk).bytes ≡ image_len p.slots
+    long = sound.size ∙ kept.size ∙ staged.size_is
+
+    counts : CountsCommit (slots_between p t next) (state old.disk) (state new.disk) r
+    counts = subst (λ (n : ℕ). CountsCommit n (state old.disk) (state new.disk) r) (slots_as t next p staged.fitting to) disk.counts
+
+    image : {U : Type 0} (result : Result U ApplyFault) → OnOk result (images.StandsAt (draw_of p) p (map_of_pages (pages next p)) (state new.disk)) → (result ≡ Err apply.Disk → r ≡ Err causes.Disk) → (r ≡ Err causes.Disk → result ≡ Err apply.Disk) → (result ≡ Err apply.NoMemory → r ≡ Err causes.NoMemory)
+        → CountsCommit (slots_between p t next) (state old.disk) (state new.disk) result → ChangesImage t next p (state old.disk) (state new.disk) new.is_spent result
+    image {U} result stands from_disk to_disk from_memory count = record {
+      stands = stood result stands;
+      crash = LeavesOnly-weaken (state old.disk) (state new.disk) (λ image. images.RepresentsPages (draw_of p) p (map_of_pages (pages t p)) image ⊎ images.RepresentsPages (draw_of p) p (map_of_pages (pages next p)) image) (λ image. Represents image t p ⊎ Represents image next p) either disk.crash;
+      reads = either (state new.disk).bytes disk.reads;
+      still = λ e. disk.still (ap (λ (u : Tree). map_of_pages (pages u p)) e);
+      no_memory = λ e. disk.no_memory (from_memory e);
+      counts = count;
+      stops = λ e. let spends = disk.spends e in (to_disk spends.0, spends.1);
+      goes_on = λ e f. disk.goes_on e (from_disk f);
+    }
+      where
+        stood : (s : Result U ApplyFault) → OnOk s (images.StandsAt (draw_of p) p (map_of_pages (pages next p)) (state new.disk)) → OnOk s (Stands (state new.disk) next p)
+        stood (Ok value) at = stands_tree next p (state new.disk) to long at
+        stood (Err fault) at = tt
+
+  -- the step that a settle takes
+  pub stepped : (r : Result (Unit {0}) SettleFault) → Settles state any_draw old new r → StepsPages state t (counted_step t next p) p old new (settled_reply r)
+  stepped (Ok value) settles =
+      let disk = settles.observed observable in
+      let to = fitting_next disk.full in
+      let seen = by_trees (Ok value) disk in
+      let count = counts to settles.kept (Ok value) seen in
+      subst (λ (s : Step). StepsPages state t s p old new (Ok replies.Ok)) (sym (counted_fits t next p to.fits)) (record {
+        reply = refl;
+        image = image to settles.kept (Ok value) seen (Ok replies.Ok) seen.stands (λ e. absurd (cc)) (λ e. absurd (cc)) (λ e. absurd (cc)) (record { made = count.made; limit = count.limit });
+        goes = settles.table observable ∙ map_is;
+        stays = λ still. tt;
+      })
+  stepped (Err causes.Disk) settles =
+      let disk = settles.observed observable in
+      let to = fitting_next disk.full in
+      let seen = by_trees (Err causes.Disk) disk in
+      let count = counts to settles.kept (Err causes.Disk) seen in
+      subst (λ (s : Step). StepsPages state t s p old new (Err apply.Disk)) (sym (counted_fits t next p to.fits)) (record {
+        reply = tt;
+        image = image to settles.kept (Err causes.Disk) seen {U = Reply} (Err apply.Disk) tt (λ e. refl) (λ e. refl) (λ e. absurd (cc)) (record { made = tt; limit = count.limit });
+        goes = tt;
+        stays = λ still. settles.table_stays observable still;
+      })
+  stepped (Err causes.NoMemory) settles =
+      let disk = settles.observed observable in
+      let to = fitting_next disk.full in
+      let seen = by_trees (Err causes.NoMemory) disk in
+      let count = counts to settles.kept (Err causes.NoMemory) seen in
+      subst (λ (s : Step). StepsPages state t s p old new (Err apply.NoMemory)) (sym (counted_fits t next p to.fits)) (record {
+        reply = tt;
+        image = image to settles.kept (Err causes.NoMemory) seen {U = Reply} (Err apply.NoMemory) tt (λ e. absurd (cc)) (λ e. absurd (cc)) (λ e. refl) (record { made = tt; limit = count.limit });
+        goes = tt;
+        stays = λ still. settles.table_stays observable still;
+      })
+  stepped (Err (causes.Full need slots)) settles =
+      let disk = settles.observed observable in
+      let full = disk.full in
+      let still : new.is_spent ≡ false = settles.runs (λ e. absurd (cc)) in
+      let need_is : need ≡ page_count next p = full.need_is ∙ count_is in
+      let all_are : slots ≡ p.slots = full.slots_are ∙ slots_are in
+      let reads : ReadsOnly (state old.disk) (state new.disk) = disk.too_many need slots refl in
+      subst (λ (s : Step). StepsPages state t s p old new (Ok (replies.No (refusals.Full need slots)))) (sym (counted_full t next p (omega (arith, full.more, need_is, all_are)))) (record {
+        reply = ap₂ (λ (m n : ℕ). Refused (refusals.Full m n)) need_is all_are;
+        image = subst (λ (b : Bool). ChangesImage t t p (state old.disk) (state new.disk) b (Ok (replies.No (refusals.Full need slots)))) (sym still) (reads_change t t p staged.fitting (state old.disk) (state new.disk) (Ok (replies.No (refusals.Full need slots))) (staged.stands observable) reads refl);
+        goes = settles.table_stays observable still ∙ staged.table_is observable;
+        stays = λ runs. tt;
+      })
+
+-- what a settle makes of the count of faults
+settled_faults : (n m : ℕ) (r : Result (Unit {0}) SettleFault) → m ≡ settle_faults_after n r → m ≡ apply_faults_after n (settled_reply r)
+settled_faults n m (Ok value) is = is
+settled_faults n m (Err (causes.Full need slots)) is = is
+settled_faults n m (Err causes.Disk) is = is
+settled_faults n m (Err causes.NoMemory) is = is
+
+settled_never : (r : Result (Unit {0}) SettleFault) → settled_reply r ≡ Err apply.Stopped → ⊥
+settled_never (Ok value) is = cc
+settled_never (Err (causes.Full need slots)) is = cc
+settled_never (Err causes.Disk) is = cc
+settled_never (Err causes.NoMemory) is = cc
+
+-- a settle, behind which all is taken back that is staged
+pub settled : {D : Type 0} (state : D → DiskState) (t next : Tree) (p : Parameters) (old new : StagedState D AnyDraw) (r : Result (Unit {0}) SettleFault) → ((x : D) → IsObservable (state x) → IsSound (state x)) → IsStagedFor state t next p old → old.is_spent ≡ false
+    → Settles state any_draw old new r → EndsStep state t (counted_step t next p) p old (record new { map = new.table }) (settled_reply r)
+settled state t next p old new r sound staged runs settles = record {
+  step = record {
+    params = settles.params;
+    draw = settles.draw;
+    kept = settles.kept;
+    faults = settled_faults (state old.disk).faults (state new.disk).faults r settles.faults;
+    never = settled_never r;
+    runs = λ other. settles.runs (λ e. other (ap settled_reply e));
+    observed = λ observable.
+        let step = stepped state t next p old new staged runs observable (sound new.disk (settles.kept.observable ∙ observable)) r settles in
+        record { reply = step.reply; image = step.image; goes = step.goes; stays = step.stays };
+  };
+  none_staged = λ observable still. refl;
+}

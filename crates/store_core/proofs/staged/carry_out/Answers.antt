@@ -1,0 +1,25 @@
+use Rattle.std.proofs.Common.{Ok, refl, sym, ap, subst}
+use Rattle.store_model.specs.Commands.{Command}
+use Rattle.store_model.specs.Commands.Command.{Space}
+use Rattle.store_model.specs.Steps.{Step, step}
+use Rattle.script_lines.specs.Parsing.{command_of}
+use Rattle.page_store.specs.StagedState.{Follows-refl}
+use Rattle.store_core.specs.Steps.{EndsStep}
+use Rattle.store_core.proofs.StagedSteps.{read_step, same_staged}
+use Rattle.store_core.proofs.StepLemmas.{space_step}
+use Rattle.store_core.proofs.staged.carry_out.Goals as goal
+
+pub returns-in-Space : goal.returns-in-Space
+returns-in-Space g c = record {
+  call = λ t fit at.
+      let state = g.D.Disk.state in
+      let p = c.args.params.now in
+      let staged = c.args.staged in
+      let to = step t Space p in
+      let still = Follows-refl state staged (g.met.D.Disk.sound staged.disk) in
+      let ends : EndsStep state t to p staged staged (Ok c.tell_space-space.result) = record {
+        step = read_step state t to p staged staged (Ok c.tell_space-space.result) fit at c.requires.runs still refl (λ e. cc) (λ observable. ap (λ (s : Step). s.tree) (space_step t p)) (λ observable. c.tell_space-space.ensures observable t fit at);
+        none_staged = same_staged state t p staged staged at c.requires.runs still (λ observable. refl);
+      } in
+      subst (λ (x : Command). EndsStep state t (step t x p) p staged staged (Ok c.tell_space-space.result)) (sym (ap command_of c.in-Space.is)) ends;
+}

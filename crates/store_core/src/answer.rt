@@ -1,0 +1,75 @@
+//! The commands that are answered from the pairs of a tree, over any list that holds it.
+
+ghost use Rattle.std.specs.Prelude.{◌≡◌, true};
+ghost use Rattle.store_model.specs.Commands.Command.{ListChildren, Read};
+ghost use Rattle.script_lines.specs.Parsing.{command_of};
+ghost use Rattle.tree_pairs.specs.TreeCalls.{HasRoom};
+ghost use Rattle.store_core.specs.Answers.{is_change, asks_pairs, AnswersBy};
+
+use crate::change::change;
+use dir_tree::list;
+use file_blocks::read_at;
+use path_keys::Path;
+use script_lines::{Command, Reply};
+use skip_levels::OrderedPairs;
+use std::alloc::Global;
+use store_base::Fault;
+
+/// Answers a command by the pairs, and changes them as it says, `full` apart. A fault of the pairs is handed on; nothing
+/// is promised of the pairs after it.
+pub fn answer<P: OrderedPairs>(
+    alloc: Global,
+    pairs: &mut P,
+    command: &Command,
+) -> Result<Reply, Fault>
+    requires asks { asks_pairs (command_of command.now) ≡ true }
+    requires room { HasRoom (P.state pairs.old) }
+    ensures call { AnswersBy (command_of command.now) (P.state pairs.old) (P.state pairs.new) result }
+    ensures follows { P.follows pairs.old pairs.new }
+{
+    match command {
+        Command::List(path) => answer_list(alloc, pairs, path),
+        Command::Read(path, at, len) => answer_read(pairs, path, *at, *len),
+        _ => answer_change(pairs, command),
+    }
+}
+
+/// Lists the children of a directory.
+fn answer_list<P: OrderedPairs>(alloc: Global, pairs: &mut P, path: &Path) -> Result<Reply, Fault>
+    ensures call { AnswersBy (ListChildren path.now) (P.state pairs.old) (P.state pairs.new) result }
+    ensures follows { P.follows pairs.old pairs.new }
+{
+    match list(alloc, pairs, path)? {
+        Ok(entries) => Ok(Reply::Listing(entries)),
+        Err(refusal) => Ok(Reply::No(refusal)),
+    }
+}
+
+/// Reads bytes of a file.
+fn answer_read<P: OrderedPairs>(
+    pairs: &mut P,
+    path: &Path,
+    at: u32,
+    len: u32,
+) -> Result<Reply, Fault>
+    ensures call { AnswersBy (Read path.now at len) (P.state pairs.old) (P.state pairs.new) result }
+    ensures follows { P.follows pairs.old pairs.new }
+{
+    match read_at(pairs, path, at, len)? {
+        Ok(bytes) => Ok(Reply::Bytes(bytes)),
+        Err(refusal) => Ok(Reply::No(refusal)),
+    }
+}
+
+/// Changes the pairs as a command says that changes the tree.
+fn answer_change<P: OrderedPairs>(pairs: &mut P, command: &Command) -> Result<Reply, Fault>
+    requires change { is_change (command_of command.now) ≡ true }
+    requires room { HasRoom (P.state pairs.old) }
+    ensures call { AnswersBy (command_of command.now) (P.state pairs.old) (P.state pairs.new) result }
+    ensures follows { P.follows pairs.old pairs.new }
+{
+    match change(pairs, command)? {
+        Ok(()) => Ok(Reply::Ok),
+        Err(refusal) => Ok(Reply::No(refusal)),
+    }
+}

@@ -1,0 +1,74 @@
+//! The tree of a store, of which only the fact is kept: no part of it is in memory.
+
+ghost use Rattle.std.specs.Prelude.{◌≡◌};
+ghost use Rattle.store_model.specs.Trees.{Tree};
+ghost use Rattle.store_model.specs.Images.{layout};
+ghost use Rattle.disk_model.specs.DiskState.{IsObservable};
+ghost use Rattle.store_core.specs.Standing.{IsFitting};
+ghost use Rattle.store_core.specs.Known.{IsKnown, TellsTree, TellsTree-prop, SettlesKnown};
+
+use disk_model::Disk;
+use node_pages::PairList;
+use std::marker::Model;
+use std::snapshot::Snapshot;
+use store_base::Params;
+
+/// The tree that a disk stood at when it was last settled, which fits. Contracts see it as that tree, with the parameters
+/// that it is laid out under and that disk. It takes no memory but that of the parameters.
+///
+/// Of a disk that is not observable the tree is the one whose pairs were found when the store was opened.
+pub struct KnownTree<D: Disk> {
+    pub(crate) params: Params,
+    opened: Snapshot<PairList>,
+    settled: Snapshot<D>,
+    ghost known: { TellsTree (D.state settled.value) params opened.value } by { TellsTree-prop (D.state settled.value) params opened.value },
+}
+
+impl<D: Disk> Model for KnownTree<D> {
+    ghost use Rattle.store_core.specs.Known.{KnownState};
+
+    ghost Value = { KnownState D };
+
+    ghost view = { λ k. record { params = k.params; tree = k.known.0; settled = k.settled.value } };
+}
+
+impl<D: Disk> KnownTree<D> {
+    /// The tree that has these pairs, and at which the disk stands.
+    pub fn new(params: Params, pairs: &PairList, disk: &D) -> Self
+        requires { TellsTree (D.state disk.now) params pairs.now }
+        ensures { (t : Tree) → IsKnown (D.state disk.now) params pairs.now t → result ≡ record { params = params; tree = t; settled = disk.now } }
+    {
+        KnownTree {
+            params,
+            opened: Snapshot::of(pairs),
+            settled: Snapshot::of(disk),
+        }
+    }
+
+    /// The parameters.
+    pub fn params(&self) -> &Params
+        ensures value { result.now ≡ self.now.params }
+        ensures fitting { IsFitting self.now.tree self.now.params }
+    {
+        &self.params
+    }
+
+    /// Goes on to the tree at which the disk stands now.
+    pub fn settle(&mut self, disk: &D)
+        requires same { (D.state disk.now).is_observable ≡ (D.state self.old.settled).is_observable }
+        requires tree { IsObservable (D.state disk.now) → (t : Tree) × (IsFitting t self.old.params × ((D.state disk.now).bytes ≡ layout t self.old.params)) }
+        ensures call { SettlesKnown D.state disk.now self.old self.new }
+    {
+        self.settled = Snapshot::of(disk);
+    }
+}
+
+impl<D: Disk> Drop for KnownTree<D> {
+    fn drop(self) {
+        let Self {
+            params: _,
+            opened: _,
+            settled: _,
+        } = self;
+    }
+}

@@ -1,0 +1,144 @@
+//! How a command is carried out on staged pages that are those of a tree.
+
+ghost use Rattle.std.specs.Prelude.{◌≡◌, true, false};
+ghost use Rattle.store_model.specs.Parameters.{Parameters};
+ghost use Rattle.store_model.specs.Trees.{Tree};
+ghost use Rattle.store_model.specs.Commands.{IsCommand};
+ghost use Rattle.store_model.specs.Commands.Command.{Space, Digest};
+ghost use Rattle.store_model.specs.Steps.{step};
+ghost use Rattle.disk_model.specs.DiskState.{IsObservable};
+ghost use Rattle.script_lines.specs.Parsing.{command_of};
+ghost use Rattle.script_lines.specs.Replies.{reply_of};
+ghost use Rattle.store_core.specs.Answers.{asks_pairs, AnswersAt};
+ghost use Rattle.store_core.specs.Standing.{IsFitting};
+ghost use Rattle.store_core.specs.StagedTree.{AreAt, IsStagedFor};
+ghost use Rattle.store_core.specs.Steps.{counted_step, settled_reply, EndsStep};
+
+use crate::answer::answer;
+use crate::fault::ApplyFault;
+use disk_model::Disk;
+use page_store::{SettleFault, Staged};
+use script_lines::{Command, Reply};
+use seeded_draw::AnyDraw;
+use skip_levels::SkipList;
+use std::alloc::Global;
+use store_base::{Fault, Params, Refusal};
+
+/// The pages of a tree in the table of an image.
+pub type TreePages<D> = Staged<D, AnyDraw>;
+
+/// Carries out a command on the pages of a tree, and hands them back. Behind it nothing is staged.
+///
+/// A fault leaves the tree as it was. `NoMemory`: nothing was written. `Disk`: the disk failed, and where that came at a
+/// write or a sync, or behind one, the pages are spent.
+pub fn carry_out<D: Disk>(
+    alloc: Global,
+    mut staged: TreePages<D>,
+    params: &Params,
+    command: &Command,
+) -> (TreePages<D>, Result<Reply, ApplyFault>)
+    requires command { IsCommand (command_of command.now) }
+    requires runs { staged.is_spent ≡ false }
+    requires pages { (t : Tree) × (IsFitting t params.now × AreAt D.state t params.now staged) }
+    ensures call { (t : Tree) → IsFitting t params.now → AreAt D.state t params.now staged → EndsStep D.state t (step t (command_of command.now) params.now) params.now staged result.0 result.1 }
+{
+    match command {
+        Command::Space => {
+            let space = tell_space(&staged, params);
+            (staged, Ok(space))
+        }
+        Command::Digest => {
+            let digest = tell_digest(&mut staged);
+            (staged, digest)
+        }
+        _ => carry_out_by_pairs(alloc, staged, params, command),
+    }
+}
+
+/// Says how many slots are used, and how many there are.
+fn tell_space<D: Disk>(staged: &TreePages<D>, params: &Params) -> Reply
+    requires runs { staged.now.is_spent ≡ false }
+    ensures { IsObservable (D.state staged.now.disk) → (t : Tree) → IsFitting t params.now → AreAt D.state t params.now staged.now → reply_of result ≡ (step t Space params.now).reply }
+{
+    Reply::Space {
+        used: staged.used(),
+        slots: params.slots(),
+    }
+}
+
+/// The digest of the image.
+fn tell_digest<D: Disk>(staged: &mut TreePages<D>) -> Result<Reply, ApplyFault>
+    requires runs { staged.old.is_spent ≡ false }
+    ensures call { (t : Tree) (p : Parameters) → IsFitting t p → AreAt D.state t p staged.old → EndsStep D.state t (step t Digest p) p staged.old staged.new result }
+{
+    Ok(Reply::Digest(staged.digest()?))
+}
+
+/// Carries out a command that is answered from the pairs of the tree.
+fn carry_out_by_pairs<D: Disk>(
+    alloc: Global,
+    staged: TreePages<D>,
+    params: &Params,
+    command: &Command,
+) -> (TreePages<D>, Result<Reply, ApplyFault>)
+    requires asks { asks_pairs (command_of command.now) ≡ true }
+    requires command { IsCommand (command_of command.now) }
+    requires runs { staged.is_spent ≡ false }
+    requires pages { (t : Tree) × (IsFitting t params.now × AreAt D.state t params.now staged) }
+    ensures call { (t : Tree) → IsFitting t params.now → AreAt D.state t params.now staged → EndsStep D.state t (step t (command_of command.now) params.now) params.now staged result.0 result.1 }
+{
+    let (mut staged, answer) = answer_at(alloc, staged, params, command);
+    let reply = match answer {
+        Ok(reply) => reply,
+        Err(fault) => {
+            staged.discard();
+            return (staged, Err(fault.into()));
+        }
+    };
+    match reply {
+        Reply::Ok => settle(staged),
+        _ => {
+            staged.discard();
+            (staged, Ok(reply))
+        }
+    }
+}
+
+/// Answers a command by the skip list in the pages, and stages what it changes.
+fn answer_at<D: Disk>(
+    alloc: Global,
+    staged: TreePages<D>,
+    params: &Params,
+    command: &Command,
+) -> (TreePages<D>, Result<Reply, Fault>)
+    requires asks { asks_pairs (command_of command.now) ≡ true }
+    requires runs { staged.is_spent ≡ false }
+    requires pages { (t : Tree) × (IsFitting t params.now × AreAt D.state t params.now staged) }
+    ensures call { (t : Tree) → IsFitting t params.now → AreAt D.state t params.now staged → AnswersAt D.state (command_of command.now) t params.now staged result.0 result.1 }
+{
+    let mut pairs = SkipList::new(alloc, staged, AnyDraw::new(params));
+    let answer = answer(alloc, &mut pairs, command);
+    (pairs.into_pages(), answer)
+}
+
+/// Settles what is staged. Where that is refused, or fails, it is taken back.
+fn settle<D: Disk>(mut staged: TreePages<D>) -> (TreePages<D>, Result<Reply, ApplyFault>)
+    requires runs { staged.is_spent ≡ false }
+    ensures call { (t next : Tree) (p : Parameters) → IsStagedFor D.state t next p staged → EndsStep D.state t (counted_step t next p) p staged result.0 result.1 }
+{
+    let settled = staged.settle();
+    staged.discard();
+    (staged, reply_to(settled))
+}
+
+/// What a command answers whose changes were settled so.
+fn reply_to(settled: Result<(), SettleFault>) -> Result<Reply, ApplyFault>
+    ensures { result ≡ settled_reply settled }
+{
+    match settled {
+        Ok(()) => Ok(Reply::Ok),
+        Err(SettleFault::Full { need, slots }) => Ok(Reply::No(Refusal::Full { need, slots })),
+        Err(SettleFault::Disk) => Err(ApplyFault::Disk),
+        Err(SettleFault::NoMemory) => Err(ApplyFault::NoMemory),
+    }
+}
