@@ -1,0 +1,7 @@
+pub mod BigLemmas
+pub mod FormatLemmas
+pub mod LineLemmas
+pub mod RequestLemmas
+pub mod TakenLines
+pub mod ValueLemmas
+pub mod WalkLemmas
