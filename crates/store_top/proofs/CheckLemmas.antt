@@ -1,6 +1,5 @@
 -- How a check and a scrub end.
-use Rattle.std.proofs.Common.{◌≡◌, ◌⊎◌, Result, Ok, Err, IfOk, IsErrOf, refl, sym, ap, ◌∙◌, subst, inl, inr, ⊎_elim}
-use Rattle.std.proofs.lemmas.Bool.{false≢true}
+use Rattle.std.proofs.Common.{◌≡◌, Result, Ok, Err, IfOk, IsErrOf, refl, sym, ◌∙◌, subst, ⊎_elim}
 use Rattle.store_model.specs.Parameters.{Parameters}
 use Rattle.store_model.specs.Trees.{Tree}
 use Rattle.store_base.specs.declared.store_fault.Fault.{Fault}
@@ -14,7 +13,6 @@ use Rattle.image_check.specs.ImageCalls.{ReadsDisk, ChecksImage}
 use Rattle.image_check.specs.Verdicts.{IsVerdict, IsNoImage, IsDamaged}
 use Rattle.script_lines.specs.SinkState.{SinkState}
 use Rattle.scrub_free.specs.ScrubCalls.{ScrubsTo, IsScrubVerdict, IsBeyondScrubbing, Scrubs}
-use Rattle.store_top.specs.declared.outcome.Outcome.{Outcome}
 use Rattle.store_top.specs.declared.status.Status.{Status}
 use Rattle.store_top.specs.declared.status.Status.TheVariants as statuses
 use Rattle.store_top.specs.CheckCall.{IsCheck}

@@ -7,7 +7,6 @@ use Rattle.store_model.specs.Commands.{Command}
 use Rattle.store_model.specs.Scripts.{answer_by}
 use Rattle.store_model.specs.declared.refusal.Refusal.{Refusal}
 use Rattle.disk_model.specs.DiskState.{DiskState, IsObservable, IsSound}
-use Rattle.disk_model.specs.DiskCalls.{LeavesOnly}
 use Rattle.disk_model.proofs.Crashes.{LeavesOnly-trans, LeavesOnly-weaken, MayLeaveOnly-end}
 use Rattle.gate_journal.specs.Places.{Made, ReadsOnly}
 use Rattle.gate_journal.specs.Costs.{commit_writes, commit_syncs}
@@ -21,18 +20,11 @@ use Rattle.store_core.proofs.CostLemmas.{made_none, none_between}
 use Rattle.store_core.proofs.Unchanged.{standing_represents, stands_reading}
 use Rattle.store_top.specs.declared.status.Status.{Status}
 use Rattle.store_top.specs.declared.status.Status.TheVariants as statuses
-use Rattle.store_top.specs.Costs.{run_writes, run_syncs}
 use Rattle.store_top.specs.Promises.{RepresentsOneOf}
-use Rattle.store_top.specs.Runs.{AnswersReading, ChangesByLines, IsUnchanged}
+use Rattle.store_top.specs.Runs.{AnswersReading, ChangesByLines}
+use Rattle.store_top.specs.Turns.{DiskSoFar}
 use Rattle.store_top.proofs.CostLemmas.{lines_more, lines_fault, lines_reading, lines_whole}
 use Rattle.store_top.proofs.CrashLemmas.{crash_start, crash_more, crash_still, crashes_between, crashes_fault}
-
--- What the lines that were carried out so far did to it.
-pub record DiskSoFar (trees : ℕ → Tree) (p : Parameters) (done : ℕ) (first now : DiskState) : Type 0 where
-  pub stands : Stands now (trees done) p
-  pub crash : LeavesOnly first now (RepresentsOneOf trees done p)
-  pub quiet : IsUnchanged trees done → ReadsOnly first now
-  pub counts : Made (run_writes p trees done) (run_syncs p trees done) first now
 
 module _ (trees : ℕ → Tree) (p : Parameters) where
   -- before the first line

@@ -1,5 +1,5 @@
 -- Lemmas on calls that judge a disk and print a report: what is printed, and how they end.
-use Rattle.std.proofs.Common.{◌≡◌, ◌⊎◌, ℕ, ◌≤◌, Bool, IsTrue, Result, Ok, Err, IfOk, refl, sym, ap, ◌∙◌, subst, arith, inl, inr, ⊎_elim}
+use Rattle.std.proofs.Common.{◌≡◌, ℕ, ◌≤◌, Result, Ok, Err, IfOk, refl, sym, ap, ◌∙◌, subst, arith, inl, inr, ⊎_elim}
 use Rattle.std.proofs.lemmas.Bool.{false≢true}
 use Rattle.store_base.specs.Counts.{raised, Rose}
 use Rattle.store_base.specs.Faults.{disk_faults_after}
@@ -16,7 +16,7 @@ use Rattle.store_top.specs.declared.status.Status.{Status}
 use Rattle.store_top.specs.declared.status.Status.TheVariants as statuses
 use Rattle.store_top.specs.Endings.{fault_status}
 use Rattle.store_top.specs.Outside.{KeepsOutside}
-use Rattle.store_top.specs.Reports.{verdict_status, PrintsVerdict, PrintsReport, Reports, EndsByVerdict}
+use Rattle.store_top.specs.Reports.{verdict_status, PrintsReport, Reports, EndsByVerdict}
 use Rattle.store_top.specs.Statuses.{IsJudged, disk_faults_by, source_faults_by, sink_faults_by}
 
 -- a count of failed calls that was raised rose

@@ -9,11 +9,12 @@ use Rattle.store_model.specs.Scripts.{lines, replies_text, script_limit}
 use Rattle.store_model.specs.Images.{Represents}
 use Rattle.store_model.proofs.ListsLemmas.{first_true, second_true}
 use Rattle.store_model.proofs.TreesLemmasLayouts.{images_tell}
-use Rattle.store_base.specs.Counts.{raised, Rose}
+use Rattle.store_base.specs.Counts.{Rose}
 use Rattle.disk_model.specs.DiskState.{DiskState, IsSound, MayLeaveOnly}
 use Rattle.disk_model.specs.DiskState as disks
 use Rattle.disk_model.proofs.Crashes.{LeavesOnly-refl}
 use Rattle.gate_journal.specs.Costs.{opening_writes, opening_syncs}
+use Rattle.gate_journal.specs.Disks.{IsUnwritten}
 use Rattle.image_check.specs.Verdicts.{IsNoImage, IsDamaged, HasParameters}
 use Rattle.script_lines.specs.SourceState.{SourceState}
 use Rattle.script_lines.specs.SourceState as sources
@@ -28,6 +29,7 @@ use Rattle.store_core.proofs.CostLemmas.{made_none, at_most}
 use Rattle.store_core.proofs.Unchanged.{keeps_itself}
 use Rattle.store_top.specs.declared.status.Status.{Status}
 use Rattle.store_top.specs.declared.status.Status.TheVariants as statuses
+use Rattle.store_top.specs.Costs.{CountsRun}
 use Rattle.store_top.specs.Endings.{attach_status}
 use Rattle.store_top.specs.Outside.{Outside, outside_of, KeepsOutside}
 use Rattle.store_top.specs.Promises.{PromisesImage, PromisesCrashes}
@@ -36,7 +38,7 @@ use Rattle.store_top.specs.Runs.{RepliesKept, KeepsLimit, AnswersLines, IsReady,
 use Rattle.store_top.specs.Statuses.{Row, row, IsRunStatus, IsEndOfRun, IsRefusedImage, IsPastHeader, IsBetweenLines, MayComeFirst}
 use Rattle.store_top.proofs.CostLemmas.{run_refused, run_counts}
 use Rattle.store_top.proofs.CrashLemmas.{crashes_refused, crashes_behind, opened_represents}
-use Rattle.store_top.proofs.LoopTurn.{no_line}
+use Rattle.store_top.proofs.ScriptTurns.{no_line}
 use Rattle.store_top.proofs.OutsideLemmas.{outside_behind}
 use Rattle.store_top.proofs.ReportLemmas.{rose}
 use Rattle.store_top.proofs.RunLemmas.{length-replies}
@@ -50,19 +52,19 @@ runs_so faults.NoMemory = refl
 runs_so faults.NotImage = refl
 runs_so faults.Damaged = refl
 
-not_between : (fault : AttachFault) → IsBetweenLines (attach_status fault) → ⊥
+pub not_between : (fault : AttachFault) → IsBetweenLines (attach_status fault) → ⊥
 not_between faults.Disk h = false≢true h
 not_between faults.NoMemory h = false≢true h
 not_between faults.NotImage h = false≢true h
 not_between faults.Damaged h = false≢true h
 
-no_image_by : (fault : AttachFault) → attach_status fault ≡ statuses.NotImage → fault ≡ faults.NotImage
+pub no_image_by : (fault : AttachFault) → attach_status fault ≡ statuses.NotImage → fault ≡ faults.NotImage
 no_image_by faults.Disk e = absurd (cc)
 no_image_by faults.NoMemory e = absurd (cc)
 no_image_by faults.NotImage e = refl
 no_image_by faults.Damaged e = absurd (cc)
 
-damaged_by : (fault : AttachFault) → attach_status fault ≡ statuses.Damaged → fault ≡ faults.Damaged
+pub damaged_by : (fault : AttachFault) → attach_status fault ≡ statuses.Damaged → fault ≡ faults.Damaged
 damaged_by faults.Disk e = absurd (cc)
 damaged_by faults.NoMemory e = absurd (cc)
 damaged_by faults.NotImage e = absurd (cc)
@@ -74,20 +76,20 @@ disk_by faults.NoMemory e = absurd (cc)
 disk_by faults.NotImage e = absurd (cc)
 disk_by faults.Damaged e = absurd (cc)
 
-memory_only : (fault : AttachFault) → attach_status fault ≡ statuses.NoMemory → fault ≡ faults.Disk → ⊥
+pub memory_only : (fault : AttachFault) → attach_status fault ≡ statuses.NoMemory → fault ≡ faults.Disk → ⊥
 memory_only faults.Disk e d = cc
 memory_only faults.NoMemory e d = cc
 memory_only faults.NotImage e d = cc
 memory_only faults.Damaged e d = cc
 
-refusal_only : (fault : AttachFault) → IsRefusedImage (attach_status fault) → fault ≡ faults.Disk → ⊥
+pub refusal_only : (fault : AttachFault) → IsRefusedImage (attach_status fault) → fault ≡ faults.Disk → ⊥
 refusal_only faults.Disk h d = false≢true h
 refusal_only faults.NoMemory h d = false≢true h
 refusal_only faults.NotImage h d = cc
 refusal_only faults.Damaged h d = cc
 
 -- a fault other than that the image is none or damaged
-comes_first : (fault : AttachFault) → (fault ≡ faults.NotImage → ⊥) → (fault ≡ faults.Damaged → ⊥) → MayComeFirst (attach_status fault)
+pub comes_first : (fault : AttachFault) → (fault ≡ faults.NotImage → ⊥) → (fault ≡ faults.Damaged → ⊥) → MayComeFirst (attach_status fault)
 comes_first faults.Disk image whole = refl
 comes_first faults.NoMemory image whole = refl
 comes_first faults.NotImage image whole = absurd (image refl)
@@ -174,30 +176,48 @@ nothing_opened disk sound = record {
 }
 
 module _ (fault : AttachFault) (old new : DiskState) (refused : IsRefused old fault new) (o : disks.IsObservable old) where
-  says_no_image : (f : AttachFault) → fault ≡ f → IsNoImage old → (attach_status f ≡ statuses.NotImage) ⊎ MayComeFirst (attach_status f)
+  pub says_no_image : (f : AttachFault) → fault ≡ f → IsNoImage old → (attach_status f ≡ statuses.NotImage) ⊎ MayComeFirst (attach_status f)
   says_no_image faults.Disk is none = inr refl
   says_no_image faults.NoMemory is none = inr refl
   says_no_image faults.NotImage is none = inl refl
   says_no_image faults.Damaged is none = let damaged = refused.damaged is in absurd (none o damaged.params (damaged.has_parameters.named o))
 
-  says_damaged : (f : AttachFault) → fault ≡ f → IsDamaged old → (attach_status f ≡ statuses.Damaged) ⊎ MayComeFirst (attach_status f)
+  pub says_damaged : (f : AttachFault) → fault ≡ f → IsDamaged old → (attach_status f ≡ statuses.Damaged) ⊎ MayComeFirst (attach_status f)
   says_damaged faults.Disk is damaged = inr refl
   says_damaged faults.NoMemory is damaged = inr refl
   says_damaged faults.NotImage is damaged = absurd (refused.not_image is o damaged.params (damaged.has_parameters.named o))
   says_damaged faults.Damaged is damaged = inl refl
 
-named_by : (fault : AttachFault) (old : DiskState) → (fault ≡ faults.Damaged → IsDamaged old) → IsPastHeader (attach_status fault) → (p : Parameters) × HasParameters old p
+pub named_by : (fault : AttachFault) (old : DiskState) → (fault ≡ faults.Damaged → IsDamaged old) → IsPastHeader (attach_status fault) → (p : Parameters) × HasParameters old p
 named_by faults.Disk old damaged h = absurd (false≢true h)
 named_by faults.NoMemory old damaged h = absurd (false≢true h)
 named_by faults.NotImage old damaged h = absurd (false≢true h)
 named_by faults.Damaged old damaged h = let is = damaged refl in (is.params, is.has_parameters)
 
 -- of an image that represents a tree, where no call failed
-memory_left : (fault : AttachFault) (old new : DiskState) (t : Tree) (p : Parameters) → IsRefused old fault new → KeepsImage t p old fault new → (Rose old.faults new.faults → ⊥) → attach_status fault ≡ statuses.NoMemory
+pub memory_left : (fault : AttachFault) (old new : DiskState) (t : Tree) (p : Parameters) → IsRefused old fault new → KeepsImage t p old fault new → (Rose old.faults new.faults → ⊥) → attach_status fault ≡ statuses.NoMemory
 memory_left faults.Disk old new t p refused keeps whole = absurd (whole (rose old.faults new.faults refused.faults))
 memory_left faults.NoMemory old new t p refused keeps whole = refl
 memory_left faults.NotImage old new t p refused keeps whole = absurd (keeps.not_image refl)
 memory_left faults.Damaged old new t p refused keeps whole = absurd (keeps.damaged refl)
+
+-- what stands of such an image, over any trees of which it represents the first
+module _ (fault : AttachFault) (old new : DiskState) (refused : IsRefused old fault new) (o : disks.IsObservable old) where
+  pub quiet_unopened : (attach_status fault ≡ statuses.DiskFault → ⊥) → IsUnwritten old new
+  quiet_unopened whole =
+      let synced = (refused.unwritten o (λ e. whole (ap attach_status e))).synced in
+      record { bytes = synced.bytes; writes = synced.writes }
+
+  module _ (t : Tree) (p : Parameters) (keeps : KeepsImage t p old fault new) (trees : ℕ → Tree) where
+    pub image_unopened : trees 0 ≡ t → PromisesImage (attach_status fault) 0 trees old new p
+    image_unopened here = record {
+      between = λ between. absurd (not_between fault between);
+      no_memory = λ e. inr (refl, (refused.unwritten o (memory_only fault e)).synced);
+      fault = λ e. inl (subst (λ (u : Tree). Represents new.bytes u p) (sym here) keeps.represents);
+    }
+
+    pub counts_unopened : CountsRun (attach_status fault) 0 trees p old new
+    counts_unopened = run_refused (attach_status fault) trees p old new (not_between fault) keeps.limit (λ e. (refused.unwritten o (memory_only fault e)).synced)
 
 module _ {D R W : Type 0} (disk_of : D → DiskState) (source_of : R → SourceState) (sink_of : W → SinkState) (sound : (disk : D) → disks.IsObservable (disk_of disk) → IsSound (disk_of disk)) where
   -- The run had no store.
@@ -225,15 +245,9 @@ module _ {D R W : Type 0} (disk_of : D → DiskState) (source_of : R → SourceS
               let trees : ℕ → Tree = run_trees t script p in
               record {
                 replies = none_answered (attach_status fault) (comes_first fault keeps.not_image keeps.damaged) (run_replies t script p) (source_of before.source) (sink_of before.sink);
-                image = record {
-                  between = λ between. absurd (not_between fault between);
-                  no_memory = λ e. inr (refl, (refused.unwritten o (memory_only fault e)).synced);
-                  fault = λ e. inl (subst (λ (u : Tree). Represents new.bytes u p) (sym (no_line t script p)) keeps.represents);
-                };
-                counts = run_refused (attach_status fault) trees p old new (not_between fault) keeps.limit (λ e. (refused.unwritten o (memory_only fault e)).synced);
-                quiet = λ empty whole all.
-                    let synced = (refused.unwritten o (λ e. whole (ap attach_status e))).synced in
-                    record { bytes = synced.bytes; writes = synced.writes };
+                image = image_unopened fault old new refused o t p keeps trees (no_line t script p);
+                counts = counts_unopened fault old new refused o t p keeps trees;
+                quiet = λ empty whole all. quiet_unopened fault old new refused o whole;
                 complete = λ within disk_whole source_whole sink_whole. inr (memory_left fault old new t p refused keeps disk_whole);
               };
           crashes = λ os t p may.
@@ -245,10 +259,10 @@ module _ {D R W : Type 0} (disk_of : D → DiskState) (source_of : R → SourceS
 -- ---- lines were answered
 
 -- the call ended between two lines or after the last, or by a fault
-not_refused : (status : Status) → IsEndOfRun status → IsRefusedImage status → ⊥
+pub not_refused : (status : Status) → IsEndOfRun status → IsRefusedImage status → ⊥
 not_refused status ends refused = false≢true (sym (ap not refused) ∙ second_true _ _ ends)
 
-image_answered : (status : Status) (done : ℕ) (trees : ℕ → Tree) (old new : DiskState) (p : Parameters)
+pub image_answered : (status : Status) (done : ℕ) (trees : ℕ → Tree) (old new : DiskState) (p : Parameters)
     → ((status ≡ statuses.DiskFault → ⊥) → Stands new (trees done) p)
     → (status ≡ statuses.DiskFault → Represents new.bytes (trees done) p ⊎ Represents new.bytes (trees (done + 1)) p)
     → PromisesImage status done trees old new p

@@ -17,6 +17,7 @@ use Rattle.script_lines.proofs.LineLemmas.{lines-none}
 use Rattle.store_top.specs.declared.status.Status.{Status}
 use Rattle.store_top.specs.declared.status.Status.TheVariants as statuses
 use Rattle.store_top.specs.Runs.{run_replies, run_trees, RepliesKept, HasTaken, KeepsLimit}
+use Rattle.store_top.specs.ScriptWork.{Halfway}
 use Rattle.store_top.specs.Statuses.{Row, row, MayComeFirst}
 use Rattle.store_top.proofs.StatusLemmas.{other_than}
 
@@ -57,15 +58,7 @@ one_more : (xs : List Reply) (y : Reply) (n : ℕ) → take 1 (drop n xs) ≡ y 
 one_more xs y n e = omega (arith, ap length e, length-take 1 (drop n xs), length-drop n xs)
 
 module _ {R : Type 0} (state : R → SourceState) where
-  -- the lines that were answered from the start of a script on, with the tree after them and what was written
-  pub record Halfway (first now : LineState R) (sink_first sink_now : SinkState) (t_first t_now : Tree) (p : Parameters) (done : ℕ) : Type 0 where
-    pub texts : List (List ℕ)
-    pub answers : Answers state first now texts
-    pub count : done ≡ length texts
-    pub tree : t_now ≡ tree_after t_first texts p
-    pub written : IsTrue sink_first.is_observable → sink_now.written ≡ sink_first.written ++ replies_text (replies t_first texts p)
-
-  pub halfway_start : (first : LineState R) (sink : SinkState) (t : Tree) (p : Parameters) → Halfway first first sink sink t t p 0
+  pub halfway_start : (first : LineState R) (sink : SinkState) (t : Tree) (p : Parameters) → Halfway state first first sink sink t t p 0
   halfway_start first sink t p = record {
     texts = [];
     answers = Answers-refl state first;
@@ -76,9 +69,9 @@ module _ {R : Type 0} (state : R → SourceState) where
 
   -- one line more, whose reply was written
   pub halfway_more : (first now next : LineState R) (sink_first sink_now sink_next : SinkState) (t_first t_now t_next : Tree) (p : Parameters) (done : ℕ) (text : List ℕ)
-      → Halfway first now sink_first sink_now t_first t_now p done → Answers state now next (text ∷ []) → t_next ≡ (answer t_now text p).tree
+      → Halfway state first now sink_first sink_now t_first t_now p done → Answers state now next (text ∷ []) → t_next ≡ (answer t_now text p).tree
       → (IsTrue sink_first.is_observable → sink_next.written ≡ sink_now.written ++ reply_text (answer t_now text p).reply)
-      → Halfway first next sink_first sink_next t_first t_next p (done + 1)
+      → Halfway state first next sink_first sink_next t_first t_next p (done + 1)
   halfway_more first now next sink_first sink_now sink_next t_first t_now t_next p done text h answers tree written =
       let step = answer t_now text p in
       let tree_after : tree_after t_first (h.texts ++ text ∷ []) p ≡ (answer t_now text p).tree =
@@ -110,7 +103,7 @@ module _ {R : Type 0} (state : R → SourceState) where
     lines_split now texts answers = ap lines (sym script_is) ∙ answers.lines
 
     pub trees_at : (now : LineState R) (sink_first sink_now : SinkState) (t_first t_now : Tree) (p : Parameters) (done : ℕ)
-        → Halfway first now sink_first sink_now t_first t_now p done → run_trees t_first (left state first) p done ≡ t_now
+        → Halfway state first now sink_first sink_now t_first t_now p done → run_trees t_first (left state first) p done ≡ t_now
     trees_at now sink_first sink_now t_first t_now p done h =
         ap (λ xs. tree_after t_first (take done xs) p) (lines_split now h.texts h.answers)
         ∙ ap (λ xs. tree_after t_first xs p) (take_at h.texts (lines (to_come state now)) done (sym h.count))
@@ -122,7 +115,7 @@ module _ {R : Type 0} (state : R → SourceState) where
         ap (λ xs. replies t xs p) (lines_split now texts answers) ∙ replies-append t texts (lines (to_come state now)) p
 
     pub replies_at : (now : LineState R) (sink_first sink_now : SinkState) (t_first t_now : Tree) (p : Parameters) (done : ℕ)
-        (h : Halfway first now sink_first sink_now t_first t_now p done) → take done (run_replies t_first (left state first) p) ≡ replies t_first h.texts p
+        (h : Halfway state first now sink_first sink_now t_first t_now p done) → take done (run_replies t_first (left state first) p) ≡ replies t_first h.texts p
     replies_at now sink_first sink_now t_first t_now p done h =
         ap (take done) (replies_split now h.texts t_first p h.answers)
         ∙ take_at (replies t_first h.texts p) (replies (tree_after t_first h.texts p) (lines (to_come state now)) p) done (length-replies t_first h.texts p ∙ sym h.count)
@@ -133,7 +126,7 @@ module _ {R : Type 0} (state : R → SourceState) where
 
     -- the end of the script
     pub at_end : (now next : LineState R) (sink_first sink_now : SinkState) (t_first t_now : Tree) (p : Parameters) (done : ℕ)
-        → Halfway first now sink_first sink_now t_first t_now p done → Answers state now next [] → to_come state next ≡ []
+        → Halfway state first now sink_first sink_now t_first t_now p done → Answers state now next [] → to_come state next ≡ []
         → RepliesKept statuses.Done done (run_replies t_first (left state first) p) (state first.source) (state next.source) sink_first sink_now
     at_end now next sink_first sink_now t_first t_now p done h answers none =
         let all = Answers-trans state first now next h.texts [] h.answers answers in
@@ -166,7 +159,7 @@ module _ {R : Type 0} (state : R → SourceState) where
 
     -- a fault of the disk, or want of memory, in a line
     pub at_fault : (status : Status) → MayComeFirst status → (now next : LineState R) (sink_first sink_now : SinkState) (t_first t_now : Tree) (p : Parameters) (done : ℕ)
-        → Halfway first now sink_first sink_now t_first t_now p done → Takes state now next
+        → Halfway state first now sink_first sink_now t_first t_now p done → Takes state now next
         → RepliesKept status done (run_replies t_first (left state first) p) (state first.source) (state next.source) sink_first sink_now
     at_fault status fault now next sink_first sink_now t_first t_now p done h takes =
         let never : (other : Status) → (row other).may_come_first ≡ false → status ≡ other → ⊥ = λ other no. other_than (λ (r : Row). r.may_come_first) status other fault no in
@@ -193,7 +186,7 @@ module _ {R : Type 0} (state : R → SourceState) where
 
     -- a take that failed
     pub at_source_fault : (now next : LineState R) (sink_first sink_now : SinkState) (t_first t_now : Tree) (p : Parameters) (done : ℕ)
-        → Halfway first now sink_first sink_now t_first t_now p done → FailsBetween state now next
+        → Halfway state first now sink_first sink_now t_first t_now p done → FailsBetween state now next
         → RepliesKept statuses.SourceFault done (run_replies t_first (left state first) p) (state first.source) (state next.source) sink_first sink_now
     at_source_fault now next sink_first sink_now t_first t_now p done h fails =
         let size : (now.taken - first.taken) + (next.taken - now.taken) ≡ next.taken - first.taken = omega (arith, h.answers.takes.taken, fails.takes.taken) in
@@ -223,7 +216,7 @@ module _ {R : Type 0} (state : R → SourceState) where
 
     -- a reply that could not be written
     pub at_sink_fault : (now next : LineState R) (sink_first sink_now sink_next : SinkState) (t_first t_now : Tree) (p : Parameters) (done : ℕ) (text : List ℕ)
-        → Halfway first now sink_first sink_now t_first t_now p done → Answers state now next (text ∷ [])
+        → Halfway state first now sink_first sink_now t_first t_now p done → Answers state now next (text ∷ [])
         → (IsTrue sink_first.is_observable → AppendsPrefix sink_now.written sink_next.written (reply_text (answer t_now text p).reply))
         → RepliesKept statuses.SinkFault (done + 1) (run_replies t_first (left state first) p) (state first.source) (state next.source) sink_first sink_next
     at_sink_fault now next sink_first sink_now sink_next t_first t_now p done text h answers appends =
@@ -270,7 +263,7 @@ module _ {R : Type 0} (state : R → SourceState) where
 
     -- one byte too many
     pub at_too_long : (now next : LineState R) (sink_first sink_now : SinkState) (t_first t_now : Tree) (p : Parameters) (done : ℕ) → first.limit ≡ script_limit
-        → Halfway first now sink_first sink_now t_first t_now p done → PassesLimit state now next
+        → Halfway state first now sink_first sink_now t_first t_now p done → PassesLimit state now next
         → RepliesKept statuses.TooLong done (run_replies t_first (left state first) p) (state first.source) (state next.source) sink_first sink_now
     at_too_long now next sink_first sink_now t_first t_now p done limit h passes =
         let limit_now : now.limit ≡ script_limit = h.answers.takes.limit ∙ limit in

@@ -21,6 +21,7 @@ pub record Row : Type 0 where
   pub of_check : Bool
   pub of_scrub : Bool
   pub of_wipe : Bool
+  pub of_big : Bool
   -- what failed
   pub failed : Failed
   -- the work was carried out
@@ -49,6 +50,7 @@ with_code code = record {
   of_check = false;
   of_scrub = false;
   of_wipe = false;
+  of_big = false;
   failed = Nothing;
   is_done = false;
   is_judged = false;
@@ -61,15 +63,15 @@ with_code code = record {
 }
 
 abbrev pub row : Status → Row
-row Done = record (with_code 0) { of_format = true; of_run = true; of_check = true; of_scrub = true; of_wipe = true; is_done = true; is_judged = true; is_past_header = true; is_between_lines = true }
+row Done = record (with_code 0) { of_format = true; of_run = true; of_check = true; of_scrub = true; of_wipe = true; of_big = true; is_done = true; is_judged = true; is_past_header = true; is_between_lines = true }
 row Usage = with_code 2
 row SourceFault = record (with_code 3) { of_run = true; failed = TheSource; is_past_header = true; is_between_lines = true; is_cut_short = true }
-row SinkFault = record (with_code 4) { of_run = true; of_check = true; of_scrub = true; failed = TheSink; is_judged = true; is_past_header = true; is_between_lines = true }
-row DiskFault = record (with_code 5) { of_format = true; of_run = true; of_check = true; of_scrub = true; of_wipe = true; failed = TheDisk; is_cut_short = true; may_come_first = true }
+row SinkFault = record (with_code 4) { of_run = true; of_check = true; of_scrub = true; of_big = true; failed = TheSink; is_judged = true; is_past_header = true; is_between_lines = true }
+row DiskFault = record (with_code 5) { of_format = true; of_run = true; of_check = true; of_scrub = true; of_wipe = true; of_big = true; failed = TheDisk; is_cut_short = true; may_come_first = true }
 row TooLong = record (with_code 6) { of_run = true; is_past_header = true; is_between_lines = true; is_cut_short = true }
-row NotImage = record (with_code 7) { of_run = true; of_check = true; of_scrub = true; is_judged = true; refuses_image = true }
-row Damaged = record (with_code 8) { of_run = true; of_check = true; of_scrub = true; is_judged = true; refuses_image = true; is_past_header = true }
-row NoMemory = record (with_code 9) { of_format = true; of_run = true; of_check = true; of_scrub = true; of_wipe = true; is_cut_short = true; may_come_first = true }
+row NotImage = record (with_code 7) { of_run = true; of_check = true; of_scrub = true; of_big = true; is_judged = true; refuses_image = true }
+row Damaged = record (with_code 8) { of_run = true; of_check = true; of_scrub = true; of_big = true; is_judged = true; refuses_image = true; is_past_header = true }
+row NoMemory = record (with_code 9) { of_format = true; of_run = true; of_check = true; of_scrub = true; of_wipe = true; of_big = true; is_cut_short = true; may_come_first = true }
 row AlreadyImage = record (with_code 10) { of_format = true; refuses_disk = true }
 row WrongLength = record (with_code 11) { of_format = true; refuses_disk = true }
 
@@ -91,9 +93,20 @@ IsScrubStatus status = IsTrue (row status).of_scrub
 abbrev pub IsWipeStatus : Status → Type 0
 IsWipeStatus status = IsTrue (row status).of_wipe
 
+abbrev pub IsBigStatus : Status → Type 0
+IsBigStatus status = IsTrue (row status).of_big
+
 -- how answering a script may end, once its image was taken
 abbrev pub IsEndOfRun : Status → Type 0
 IsEndOfRun status = IsTrue ((row status).of_run && not (row status).refuses_image)
+
+-- how generated commands may end, once their image was taken
+abbrev pub IsEndOfBig : Status → Type 0
+IsEndOfBig status = IsTrue ((row status).of_big && not (row status).refuses_image)
+
+-- they were all carried out, and summed up
+abbrev pub IsSummed : Status → Type 0
+IsSummed status = IsTrue ((row status).of_big && (row status).is_between_lines)
 
 abbrev pub IsJudged : Status → Type 0
 IsJudged status = IsTrue (row status).is_judged

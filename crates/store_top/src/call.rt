@@ -1,34 +1,40 @@
 //! The whole program as one call.
 
-ghost use Rattle.std.specs.Prelude.{◌≡◌, ◌⊎◌, Some, None};
+ghost use Rattle.std.specs.Prelude.{◌≡◌, ◌⊎◌, ℕ, Some, None};
 ghost use Rattle.store_model.specs.Parameters.{Parameters};
-ghost use Rattle.store_model.specs.Words.Request.{Format, Run, Check, Scrub, Wipe};
+ghost use Rattle.store_model.specs.Words.{request_of};
+ghost use Rattle.store_model.specs.Words.Request.{Format, Run, Check, Scrub, Wipe, Big};
+ghost use Rattle.store_top.specs.BigCall.{IsBig};
 ghost use Rattle.store_top.specs.CheckCall.{IsCheck};
 ghost use Rattle.store_top.specs.FormatCall.{IsFormat};
 ghost use Rattle.store_top.specs.Outside.{KeepsOutside, CallsNothing, outside_of};
 ghost use Rattle.store_top.specs.RunCall.{IsRun};
 ghost use Rattle.store_top.specs.ScrubCall.{IsScrub};
-ghost use Rattle.store_top.specs.ServedWords.{served_request};
 ghost use Rattle.store_top.specs.WipeCall.{IsWipe};
 
+use crate::big::big;
 use crate::check::check_disk;
 use crate::format::format_disk;
 use crate::outcome::Outcome;
 use crate::run::run;
 use crate::scrub::scrub_disk;
 use crate::status::Status;
+use crate::uncalled::{no_memory, usage};
 use crate::wipe::wipe_disk;
-use crate::words::{Request, Words};
 use disk_model::Disk;
 use script_lines::{Sink, Source};
 use std::alloc::Global;
+use store_base::NoMemory;
+use store_words::{Request, Words};
 
 /// Carries out the words of a command line on a disk: `format` makes the image of the empty tree, `run` answers the script
 /// that the source has and writes the replies to the sink, `check` prints a line that tells what the disk holds, `scrub`
-/// recovers the image, makes its free slots zero and prints such a line, `wipe` makes every byte zero.
+/// recovers the image, makes its free slots zero and prints such a line, `wipe` makes every byte zero, `big` carries out the
+/// commands that a number gives and prints four lines that sum them up.
 ///
-/// Words that are not served end with `Usage`, and then nothing is called. What each word promises is one record: how it
-/// ends, which status comes exactly where, and what stands then of the disk, the source and the sink.
+/// Words that are not well formed end with `Usage`, and then nothing is called; nor is anything called where memory runs out
+/// while the words are read. What each word promises is one record: how it ends, which status comes exactly where, and what
+/// stands then of the disk, the source and the sink.
 pub fn top<D: Disk, R: Source, W: Sink>(
     alloc: Global,
     words: &Words,
@@ -37,28 +43,25 @@ pub fn top<D: Disk, R: Source, W: Sink>(
     sink: W,
 ) -> Outcome<D, R, W>
     // The words.
-    ensures usage { result.status ≡ Status.Usage → served_request words.now ≡ None }
-    ensures unserved { served_request words.now ≡ None → (result.status ≡ Status.Usage) ⊎ (result.status ≡ Status.NoMemory) }
-    ensures uncalled { served_request words.now ≡ None → CallsNothing (outside_of disk source sink) result }
+    ensures usage { result.status ≡ Status.Usage → request_of words.now ≡ None }
+    ensures unserved { request_of words.now ≡ None → (result.status ≡ Status.Usage) ⊎ (result.status ≡ Status.NoMemory) }
+    ensures uncalled { request_of words.now ≡ None → CallsNothing (outside_of disk source sink) result }
 
     // The disk, the source and the sink: a second call can follow on this one, and each failed call is the status.
     ensures outside { KeepsOutside result.status (D.state disk) (D.state result.disk) (R.state source) (R.state result.source) (W.state sink) (W.state result.sink) }
 
     // What each word does.
-    ensures format { (p : Parameters) → served_request words.now ≡ Some (Format p) → IsFormat D.state p (outside_of disk source sink) result }
-    ensures run { served_request words.now ≡ Some Run → IsRun D.state R.state W.state (outside_of disk source sink) result }
-    ensures check { served_request words.now ≡ Some Check → IsCheck D.state W.state (outside_of disk source sink) result }
-    ensures scrub { served_request words.now ≡ Some Scrub → IsScrub D.state W.state (outside_of disk source sink) result }
-    ensures wipe { served_request words.now ≡ Some Wipe → IsWipe D.state (outside_of disk source sink) result }
+    ensures format { (p : Parameters) → request_of words.now ≡ Some (Format p) → IsFormat D.state p (outside_of disk source sink) result }
+    ensures run { request_of words.now ≡ Some Run → IsRun D.state R.state W.state (outside_of disk source sink) result }
+    ensures check { request_of words.now ≡ Some Check → IsCheck D.state W.state (outside_of disk source sink) result }
+    ensures scrub { request_of words.now ≡ Some Scrub → IsScrub D.state W.state (outside_of disk source sink) result }
+    ensures wipe { request_of words.now ≡ Some Wipe → IsWipe D.state (outside_of disk source sink) result }
+    ensures big { (number count : ℕ) → request_of words.now ≡ Some (Big number count) → IsBig D.state W.state number count (outside_of disk source sink) result }
 {
-    let Some(request) = words.request() else {
-        return Outcome {
-            status: Status::Usage,
-            done: 0,
-            disk,
-            source,
-            sink,
-        };
+    let request = match words.request() {
+        Ok(Some(request)) => request,
+        Ok(None) => return usage(disk, source, sink),
+        Err(NoMemory) => return no_memory(disk, source, sink),
     };
     match request {
         Request::Format(params) => format_disk(&params, disk, source, sink),
@@ -66,5 +69,6 @@ pub fn top<D: Disk, R: Source, W: Sink>(
         Request::Check => check_disk(alloc, disk, source, sink),
         Request::Scrub => scrub_disk(alloc, disk, source, sink),
         Request::Wipe => wipe_disk(disk, source, sink),
+        Request::Big(number, count) => big(alloc, number, count, disk, source, sink),
     }
 }

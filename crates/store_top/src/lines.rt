@@ -1,17 +1,23 @@
-//! The lines of a script, answered one after another.
+//! The lines of a script, as a work for the loop.
 
 ghost use Rattle.std.specs.Prelude.{◌≡◌, true};
-ghost use Rattle.script_lines.specs.Parsing.{reading_of};
-ghost use Rattle.store_top.specs.Endings.{ended_status};
-ghost use Rattle.store_top.specs.Runs.{ReadsLine, AnswersReading, AnswersLines, IsReady, IsUnread};
+ghost use Rattle.store_top.specs.Runs.{ReadsLine};
 
 use crate::status::Status;
-use disk_model::Disk;
+use crate::work::Work;
 use script_lines::{
     Command, Line, LineFault, LineReader, Reply, Sink, Source, parse_command, write_reply,
 };
 use store_base::Refusal;
-use store_core::{ApplyFault, Store};
+
+/// A script: the reader of its lines, and where the replies go.
+#[derive(Drop)]
+pub struct Script<R: Source, W> {
+    /// The lines that are to come.
+    pub reader: LineReader<R>,
+    /// Where their replies go.
+    pub sink: W,
+}
 
 /// What the next line asks for, or why it is refused; `None` at the end of the script. A fault of the reader is handed on.
 fn next_reading<R: Source>(
@@ -28,36 +34,29 @@ fn next_reading<R: Source>(
     }
 }
 
-/// Answers what a line asks for.
-fn answer<D: Disk>(
-    store: &mut Store<D>,
-    reading: Result<Command, Refusal>,
-) -> Result<Reply, ApplyFault>
-    ensures { AnswersReading D.state (reading_of reading) store.old store.new result }
-{
-    match reading {
-        Ok(command) => store.apply(&command),
-        Err(refusal) => Ok(Reply::No(refusal)),
-    }
-}
+impl<R: Source, W: Sink> Work for Script<R, W> {
+    ghost use Rattle.script_lines.specs.LineState.{unread};
+    ghost use Rattle.store_top.specs.ScriptWork.{ScriptTold, ScriptLive, script_trees, ScriptKept, ScriptDue, ScriptEnds};
 
-/// Answers the lines that a new reader has to come, each before the next is read, and counts in `done` those that were
-/// carried out. `Err` has the status of a call that a fault ended.
-pub fn answer_lines<D: Disk, R: Source, W: Sink>(
-    reader: &mut LineReader<R>,
-    store: &mut Store<D>,
-    sink: &mut W,
-    done: &mut u64,
-) -> Result<(), Status>
-    requires ready { IsReady D.state store.old }
-    requires unread { IsUnread reader.old }
-    requires none { done.old ≡ 0 }
-    ensures { AnswersLines D.state R.state W.state (ended_status result) done.new store.old store.new reader.old reader.new sink.old sink.new }
-{
-    'lines: while let Some(reading) = next_reading(reader)? {
-        let reply = answer(store, reading)?;
-        *done += 1;
-        write_reply(sink, &reply)?;
+    ghost told = { λ script. ScriptTold R.state W.state script };
+
+    ghost trees = { λ script start. script_trees R.state W.state script start };
+
+    ghost left = { λ script. unread script.reader };
+
+    ghost live = { λ script. ScriptLive R.state W.state script };
+
+    ghost kept = { λ start first now done. ScriptKept R.state W.state start first now done };
+
+    ghost due = { λ start first now done asked. ScriptDue R.state W.state start first now done asked };
+
+    ghost ends = { λ start first new done status. ScriptEnds R.state W.state start first new done status };
+
+    fn next(&mut self) -> Result<Option<Result<Command, Refusal>>, Status> {
+        Ok(next_reading(&mut self.reader)?)
     }
-    Ok(())
+
+    fn answered(&mut self, reply: &Reply) -> Result<(), Status> {
+        Ok(write_reply(&mut self.sink, reply)?)
+    }
 }

@@ -5,16 +5,17 @@ ghost use Rattle.store_top.specs.Endings.{ended_status};
 ghost use Rattle.store_top.specs.Outside.{KeepsOutside, outside_of};
 ghost use Rattle.store_top.specs.RunCall.{IsRun};
 
-use crate::lines::answer_lines;
+use crate::lines::Script;
 use crate::outcome::Outcome;
 use crate::status::Status;
+use crate::work::answer_all;
 use disk_model::Disk;
 use script_lines::{LineReader, Sink, Source};
 use std::alloc::Global;
 use store_core::Store;
 
 /// How a call ends whose lines ended so.
-fn status_of(ended: Result<(), Status>) -> Status
+pub(crate) fn status_of(ended: Result<(), Status>) -> Status
     ensures { result ≡ ended_status ended }
 {
     match ended {
@@ -34,7 +35,7 @@ pub fn run<D: Disk, R: Source, W: Sink>(
     ensures run { IsRun D.state R.state W.state (outside_of disk source sink) result }
     ensures outside { KeepsOutside result.status (D.state disk) (D.state result.disk) (R.state source) (R.state result.source) (W.state sink) (W.state result.sink) }
 {
-    let mut reader = match LineReader::new(alloc, source) {
+    let reader = match LineReader::new(alloc, source) {
         Ok(reader) => reader,
         Err((_, source)) => {
             return Outcome {
@@ -58,13 +59,13 @@ pub fn run<D: Disk, R: Source, W: Sink>(
             };
         }
     };
-    let (mut sink, mut done) = (sink, 0);
-    let ended = answer_lines(&mut reader, &mut store, &mut sink, &mut done);
+    let (mut script, mut done) = (Script { reader, sink }, 0);
+    let ended = answer_all(&mut script, &mut store, &mut done);
     Outcome {
         status: status_of(ended),
         done,
         disk: store.into_disk(),
-        source: reader.into_source(),
-        sink,
+        source: script.reader.into_source(),
+        sink: script.sink,
     }
 }

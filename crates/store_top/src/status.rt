@@ -14,14 +14,14 @@ use store_core::{ApplyFault, AttachFault};
 #[derive(Clone, Copy, Debug, PartialEq, Eq)]
 pub enum Status {
     /// All was done: the image is formatted, or is found clean, or is scrubbed, or the disk is wiped, or no line of the
-    /// script is left and every reply is written.
+    /// script is left and every reply is written, or all commands of a number are carried out and summed up.
     Done,
     /// The words are not served. Nothing was read, written or printed.
     Usage,
     /// A take from the source failed. The image is the layout of the tree after the answered lines.
     SourceFault,
-    /// A put into the sink failed. With `run` the image is the layout of the tree after the answered lines; with `scrub` it
-    /// is scrubbed, where scrubbing leaves the layout of a tree.
+    /// A put into the sink failed. With `run` the image is the layout of the tree after the answered lines, with `big` that of
+    /// the tree after all commands; with `scrub` it is scrubbed, where scrubbing leaves the layout of a tree.
     SinkFault,
     /// A read, a write or a sync of the disk failed.
     DiskFault,

@@ -1,4 +1,4 @@
-use Rattle.std.proofs.Common.{sym, ap, subst, ◌∙◌, rules}
+use Rattle.std.proofs.Common.{sym, ap, subst, ◌∙◌}
 use Rattle.script_lines.specs.LineState.{LineState}
 use Rattle.store_core.specs.declared.fault.AttachFault.TheVariants as faults
 use Rattle.store_top.specs.declared.status.Status.{Status}
@@ -6,7 +6,8 @@ use Rattle.store_top.specs.declared.status.Status.TheVariants as statuses
 use Rattle.store_top.specs.Outside.{outside_of}
 use Rattle.store_top.specs.RunCall.{IsRun}
 use Rattle.store_top.specs.Runs.{AnswersLines}
-use Rattle.store_top.proofs.RunEnds.{nothing_opened, run_unopened, run_answered, new_reader_is_unread, attached_is_ready}
+use Rattle.store_top.proofs.RunEnds.{nothing_opened, run_unopened, run_answered, new_reader_is_unread}
+use Rattle.store_top.proofs.ScriptTurns.{script_begins, script_answered}
 use Rattle.store_top.proofs.run.run.Goals as goal
 
 pub returns-in-Err-clause-run : goal.returns-in-Err-clause-run
@@ -23,18 +24,16 @@ returns-in-Err-attach-clause-run g c =
     (subst (λ (status : Status). IsRun g.D.Disk.state g.R.Source.state g.W.Sink.state before (record { status = status; done = 0; disk = c.in-Err-attach.disk; source = c.args.source; sink = c.args.sink })) (sym c.into.ensures)
     (run_unopened g.D.Disk.state g.R.Source.state g.W.Sink.state g.met.D.Disk.sound before c.in-Err-attach.fault c.in-Err-attach.disk c.in-Err-attach.ensures.call.refused))
 
-pub answer_lines-ended-requires : goal.answer_lines-ended-requires
-answer_lines-ended-requires g c = record {
-  ready = attached_is_ready g.D.Disk.state (g.D.Disk.state c.args.disk) c.in-Ok-attach.store c.in-Ok-attach.ensures.call.attached;
-  unread = new_reader_is_unread c.in-Ok.reader c.args.source c.in-Ok.ensures.ok;
-  none = search rules;
-}
+pub answer_all-ended-requires-clause-begins : goal.answer_all-ended-requires-clause-begins
+answer_all-ended-requires-clause-begins g c =
+    script_begins g.D.Disk.state g.R.Source.state g.W.Sink.state c.in-Ok-attach.store (record { reader = c.in-Ok.reader; sink = c.args.sink }) (new_reader_is_unread c.in-Ok.reader c.args.source c.in-Ok.ensures.ok)
 
 pub returns-clause-run : goal.returns-clause-run
 returns-clause-run g c =
     let old_source = ap (λ (r : LineState g.row.R.Denot). r.source) c.in-Ok.ensures.ok in
-    let run = run_answered g.D.Disk.state g.R.Source.state g.W.Sink.state g.met.D.Disk.sound c.args.disk c.in-Ok-attach.store c.answer_lines-ended.new.store c.in-Ok.reader c.answer_lines-ended.new.reader c.args.sink c.answer_lines-ended.new.sink
-    c.status_of.result c.answer_lines-ended.new.done c.in-Ok-attach.ensures.call.attached (subst (λ (status : Status). AnswersLines g.D.Disk.state g.R.Source.state g.W.Sink.state status c.answer_lines-ended.new.done c.in-Ok-attach.store c.answer_lines-ended.new.store c.in-Ok.reader c.answer_lines-ended.new.reader c.args.sink c.answer_lines-ended.new.sink) (sym c.status_of.ensures) c.answer_lines-ended.ensures) in
-    subst (λ disk. IsRun g.D.Disk.state g.R.Source.state g.W.Sink.state (outside_of c.args.disk c.args.source c.args.sink) (record { status = c.status_of.result; done = c.answer_lines-ended.new.done; disk = disk; source = c.into_source-2.result; sink = c.answer_lines-ended.new.sink })) (sym c.into_disk.ensures)
-    (subst (λ source. IsRun g.D.Disk.state g.R.Source.state g.W.Sink.state (outside_of c.args.disk c.args.source c.args.sink) (record { status = c.status_of.result; done = c.answer_lines-ended.new.done; disk = c.answer_lines-ended.new.store.disk; source = source; sink = c.answer_lines-ended.new.sink })) (sym c.into_source-2.ensures)
-    (subst (λ source. IsRun g.D.Disk.state g.R.Source.state g.W.Sink.state (outside_of c.args.disk source c.args.sink) (record { status = c.status_of.result; done = c.answer_lines-ended.new.done; disk = c.answer_lines-ended.new.store.disk; source = c.answer_lines-ended.new.reader.source; sink = c.answer_lines-ended.new.sink })) old_source run))
+    let run = run_answered g.D.Disk.state g.R.Source.state g.W.Sink.state g.met.D.Disk.sound c.args.disk c.in-Ok-attach.store c.answer_all-ended.new.store c.in-Ok.reader c.answer_all-ended.new.work.reader c.args.sink c.answer_all-ended.new.work.sink
+    c.status_of.result c.answer_all-ended.new.done c.in-Ok-attach.ensures.call.attached (subst (λ (status : Status). AnswersLines g.D.Disk.state g.R.Source.state g.W.Sink.state status c.answer_all-ended.new.done c.in-Ok-attach.store c.answer_all-ended.new.store c.in-Ok.reader c.answer_all-ended.new.work.reader c.args.sink c.answer_all-ended.new.work.sink) (sym c.status_of.ensures)
+    (script_answered g.D.Disk.state g.R.Source.state g.W.Sink.state c.answer_all-ended.result c.answer_all-ended.new.done c.in-Ok-attach.store c.answer_all-ended.new.store (record { reader = c.in-Ok.reader; sink = c.args.sink }) c.answer_all-ended.new.work c.answer_all-ended.ensures)) in
+    subst (λ disk. IsRun g.D.Disk.state g.R.Source.state g.W.Sink.state (outside_of c.args.disk c.args.source c.args.sink) (record { status = c.status_of.result; done = c.answer_all-ended.new.done; disk = disk; source = c.into_source-2.result; sink = c.answer_all-ended.new.work.sink })) (sym c.into_disk.ensures)
+    (subst (λ source. IsRun g.D.Disk.state g.R.Source.state g.W.Sink.state (outside_of c.args.disk c.args.source c.args.sink) (record { status = c.status_of.result; done = c.answer_all-ended.new.done; disk = c.answer_all-ended.new.store.disk; source = source; sink = c.answer_all-ended.new.work.sink })) (sym c.into_source-2.ensures)
+    (subst (λ source. IsRun g.D.Disk.state g.R.Source.state g.W.Sink.state (outside_of c.args.disk source c.args.sink) (record { status = c.status_of.result; done = c.answer_all-ended.new.done; disk = c.answer_all-ended.new.store.disk; source = c.answer_all-ended.new.work.reader.source; sink = c.answer_all-ended.new.work.sink })) old_source run))

@@ -1,0 +1,56 @@
+//! Calls that end before anything is called.
+
+ghost use Rattle.std.specs.Prelude.{◌≡◌, ℕ};
+ghost use Rattle.store_model.specs.Parameters.{Parameters};
+ghost use Rattle.store_top.specs.BigCall.{IsBig};
+ghost use Rattle.store_top.specs.CheckCall.{IsCheck};
+ghost use Rattle.store_top.specs.FormatCall.{IsFormat};
+ghost use Rattle.store_top.specs.Outside.{KeepsOutside, CallsNothing, outside_of};
+ghost use Rattle.store_top.specs.RunCall.{IsRun};
+ghost use Rattle.store_top.specs.ScrubCall.{IsScrub};
+ghost use Rattle.store_top.specs.WipeCall.{IsWipe};
+
+use crate::outcome::Outcome;
+use crate::status::Status;
+use disk_model::Disk;
+use script_lines::{Sink, Source};
+
+/// The words are not well formed.
+pub(crate) fn usage<D: Disk, R: Source, W: Sink>(disk: D, source: R, sink: W) -> Outcome<D, R, W>
+    ensures ends { result.status ≡ Status.Usage }
+    ensures nothing { CallsNothing (outside_of disk source sink) result }
+    ensures outside { KeepsOutside result.status (D.state disk) (D.state result.disk) (R.state source) (R.state result.source) (W.state sink) (W.state result.sink) }
+{
+    Outcome {
+        status: Status::Usage,
+        done: 0,
+        disk,
+        source,
+        sink,
+    }
+}
+
+/// Memory ran out while the words were read. That is how every word may end.
+pub(crate) fn no_memory<D: Disk, R: Source, W: Sink>(
+    disk: D,
+    source: R,
+    sink: W,
+) -> Outcome<D, R, W>
+    ensures ends { result.status ≡ Status.NoMemory }
+    ensures nothing { CallsNothing (outside_of disk source sink) result }
+    ensures outside { KeepsOutside result.status (D.state disk) (D.state result.disk) (R.state source) (R.state result.source) (W.state sink) (W.state result.sink) }
+    ensures format { (p : Parameters) → IsFormat D.state p (outside_of disk source sink) result }
+    ensures run { IsRun D.state R.state W.state (outside_of disk source sink) result }
+    ensures check { IsCheck D.state W.state (outside_of disk source sink) result }
+    ensures scrub { IsScrub D.state W.state (outside_of disk source sink) result }
+    ensures wipe { IsWipe D.state (outside_of disk source sink) result }
+    ensures big { (number count : ℕ) → IsBig D.state W.state number count (outside_of disk source sink) result }
+{
+    Outcome {
+        status: Status::NoMemory,
+        done: 0,
+        disk,
+        source,
+        sink,
+    }
+}

@@ -1,0 +1,95 @@
+//! The one loop that answers commands, whatever they come from.
+
+ghost use Rattle.std.specs.Prelude.{◌≡◌};
+ghost use Rattle.script_lines.specs.Parsing.{reading_of};
+ghost use Rattle.store_top.specs.Runs.{AnswersReading, IsReady};
+ghost use Rattle.store_top.specs.Turns.{Begins, AnswersAll};
+
+use crate::status::Status;
+use disk_model::Disk;
+use script_lines::{Command, Reply};
+use store_base::Refusal;
+use store_core::{ApplyFault, Store};
+
+/// What asks a store for one thing after another, and takes the replies: the lines of a script, or commands that a number gives.
+///
+/// A turn is a call of `next`, the answer of the store, and a call of `answered`. The members speak of a start, of the work as it
+/// was then and as it is, and of how many turns were made.
+pub trait Work {
+    ghost use Rattle.std.specs.Prelude.{◌≤◌, ◌+◌, ℕ, Result, IfOk, OnOk};
+    ghost use Rattle.store_model.specs.Trees.{Tree};
+    ghost use Rattle.store_model.specs.declared.refusal.Refusal.{Refusal};
+    ghost use Rattle.script_lines.specs.declared.command.Command.{Command};
+    ghost use Rattle.store_top.specs.declared.status.Status.{Status};
+    ghost use Rattle.store_top.specs.Turns.{Start, FallsAt, IsNext, IsTurn, RepliesTo};
+
+    /// Whether it tells what it will ask for.
+    ghost told: { Self → Type 0 };
+
+    /// The trees that the store has after so many turns.
+    ghost trees: { Self → Start → ℕ → Tree };
+
+    /// How many turns there may still be.
+    ghost left: { Self → ℕ };
+
+    /// Whether it may be asked: no fault of its own ended it.
+    ghost live: { Self → Type 0 };
+
+    /// What holds between two turns.
+    ghost kept: { Start → Self → Self → ℕ → Type 0 };
+
+    /// What holds where something was asked for and is not answered yet.
+    ghost due: { Start → Self → Self → ℕ → Result Command Refusal → Type 0 };
+
+    /// What holds where the turns ended with this status.
+    ghost ends: { Start → Self → Self → ℕ → Status → Type 0 };
+
+    /// What is asked for next, or why it is refused; `None` at the end. `Err` has the status of a call that a fault of the work
+    /// ended; nothing is asked for behind it.
+    fn next(&mut self) -> Result<Option<Result<Command, Refusal>>, Status>
+        requires { live self.old }
+        ensures live { OnOk result (live self.new) }
+        ensures falls { IfOk result (FallsAt (left self.old) (left self.new)) }
+        ensures turn { (start : Start) (first : Self) (done : ℕ) → kept start first self.old done → IsNext told trees ends due start first self.new done result };
+
+    /// Takes the reply to what was asked for. `Err` has the status of a call that a fault of the work ended.
+    fn answered(&mut self, reply: &Reply) -> Result<(), Status>
+        requires { live self.old }
+        ensures live { live self.new }
+        ensures falls { left self.new ≤ left self.old }
+        ensures turn { (start : Start) (first : Self) (done : ℕ) (asked : Result Command Refusal) → due start first self.old done asked → RepliesTo told trees start first done asked reply.now
+            → IsTurn told trees ends kept start first self.new (done + 1) result };
+}
+
+/// Answers what is asked for: a command is carried out, and a refusal is the reply.
+fn answer<D: Disk>(
+    store: &mut Store<D>,
+    asked: Result<Command, Refusal>,
+) -> Result<Reply, ApplyFault>
+    ensures { AnswersReading D.state (reading_of asked) store.old store.new result }
+{
+    match asked {
+        Ok(command) => store.apply(&command),
+        Err(refusal) => Ok(Reply::No(refusal)),
+    }
+}
+
+/// Answers all that the work asks for, each before the next is asked, and counts in `done` what was carried out. `Err` has the
+/// status of a call that a fault ended.
+pub fn answer_all<J: Work, D: Disk>(
+    work: &mut J,
+    store: &mut Store<D>,
+    done: &mut u64,
+) -> Result<(), Status>
+    requires ready { IsReady D.state store.old }
+    requires begins { Begins D.state J.trees J.left J.live J.kept store.old work.old }
+    requires none { done.old ≡ 0 }
+    ensures { AnswersAll D.state J.told J.trees J.ends result done.new store.old store.new work.old work.new }
+{
+    'turns: while let Some(asked) = work.next()? {
+        let reply = answer(store, asked)?;
+        *done += 1;
+        work.answered(&reply)?;
+    }
+    Ok(())
+}
