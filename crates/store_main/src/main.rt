@@ -1,7 +1,7 @@
-//! The program `hstore IMAGE WORDS..`: opens the image's file and carries out the words on it, with standard
-//! input as the script and standard output for the replies. It prints nothing else.
+//! The program `hstore IMAGE WORDS..`: opens the image's file, keeps other programs off it, and carries out the words on
+//! it, with standard input as the script and standard output for the replies. It prints nothing else.
 //!
-//! That a file, standard input and standard output do what is asked of them is assumed here. All else is
+//! That a file, its lock, standard input and standard output do what is asked of them is assumed here. All else is
 //! the library's.
 #![tactic(auto)]
 
@@ -12,19 +12,32 @@ use std::fs::File;
 use std::io::ErrorKind;
 use std::os::fd::AsRawFd;
 use std::process::ExitCode;
-use std::{env, io};
+use std::{env, fs, io};
 use store_base::NoMemory;
 use store_top::{Outcome, Status, Wanted, Words, top, wanted_len};
 
-/// The status where the file cannot be opened or made.
+/// The status where the file cannot be opened, made or locked, or what stands at the path is no file.
 const NO_FILE: u8 = 12;
 
 /// The descriptor of standard error, the last of the standard streams.
 const LAST_STREAM: i32 = 2;
 
-/// The image's path and the words behind it.
+/// The word that reads its image and never writes to it.
+const READING_WORD: &str = "check";
+
+/// What the words do with the image's file.
+#[derive(Clone, Copy)]
+enum Access {
+    /// They read it, and others may read it meanwhile.
+    Read,
+    /// They read it and write to it, and nobody else has it meanwhile.
+    Write,
+}
+
+/// The image's path, what is done with its file, and the words behind it.
 struct CommandLine {
     image: String,
+    access: Access,
     words: Words,
 }
 
@@ -57,27 +70,51 @@ fn command_line(rt: &HostRuntime) -> Result<CommandLine, BadCommandLine> {
     let (_, Some(image)) = (args.next(), args.next()) else {
         return Err(BadCommandLine::Usage);
     };
+    let mut access = Access::Write;
     let mut words = Words::new(rt.alloc());
     for word in args {
+        // it takes no words beside it, so where it is served it is the only one
+        if word.as_str() == READING_WORD {
+            access = Access::Read;
+        }
         words.push(word.as_str())?;
     }
-    Ok(CommandLine { image, words })
+    Ok(CommandLine {
+        image,
+        access,
+        words,
+    })
 }
 
-/// Opens a file for reading and writing.
-fn open(rt: &HostRuntime, path: &str) -> io::Result<File> {
-    File::options().read(true).write(true).open(rt, path)
+/// Keeps other programs off a file until it is closed: all of them, or those that write to it. It does not wait; where
+/// another program has the file, that is an error.
+fn lock(file: &File, access: Access) -> io::Result<()> {
+    match access {
+        Access::Read => file.try_lock_shared()?,
+        Access::Write => file.try_lock()?,
+    }
+    Ok(())
 }
 
-/// Opens a file; where there is none, makes one of so many zeros.
+/// Opens a file, and locks it. What is no file is not opened, since that of a pipe would wait for its other end.
+fn open(rt: &HostRuntime, path: &str, access: Access) -> io::Result<File> {
+    if !fs::metadata(rt, path)?.is_file() {
+        return Err(io::Error::from(ErrorKind::InvalidInput));
+    }
+    let file = match access {
+        Access::Read => File::open(rt, path),
+        Access::Write => File::options().read(true).write(true).open(rt, path),
+    }?;
+    lock(&file, access)?;
+    Ok(file)
+}
+
+/// Opens a file for writing; where there is none, makes one of so many zeros.
 fn open_or_make(rt: &HostRuntime, path: &str, len: u64) -> io::Result<File> {
-    match open(rt, path) {
+    match open(rt, path, Access::Write) {
         Err(error) if error.kind() == ErrorKind::NotFound => {
-            let file = File::options()
-                .read(true)
-                .write(true)
-                .create_new(true)
-                .open(rt, path)?;
+            let file = File::create_new(rt, path)?;
+            lock(&file, Access::Write)?;
             file.set_len(len)?;
             Ok(file)
         }
@@ -111,7 +148,11 @@ fn carry_out(rt: &HostRuntime, words: &Words, disk: FileDisk) -> Status {
 
 /// The status that the program ends with.
 fn run(rt: &HostRuntime) -> u8 {
-    let CommandLine { image, words } = match command_line(rt) {
+    let CommandLine {
+        image,
+        access,
+        words,
+    } = match command_line(rt) {
         Ok(line) => line,
         Err(BadCommandLine::Usage) => return Status::Usage.code(),
         Err(BadCommandLine::NoMemory) => return Status::NoMemory.code(),
@@ -119,7 +160,7 @@ fn run(rt: &HostRuntime) -> u8 {
     let opened = match wanted_len(&words) {
         Err(NoMemory) => return Status::NoMemory.code(),
         Ok(Wanted::Usage) => return Status::Usage.code(),
-        Ok(Wanted::Existing) => open(rt, image.as_str()),
+        Ok(Wanted::Existing) => open(rt, image.as_str(), access),
         Ok(Wanted::Fresh(len)) => open_or_make(rt, image.as_str(), len),
     };
     match opened.and_then(disk_of) {
