@@ -60,21 +60,30 @@ fn read_files(pairs: &mut UnseenPairs, files: &[Path]) -> io::Result<()> {
 
 /// How long it takes to write the files into the directory `/d`, to read them, to list them, to move the directory to
 /// `/e`, and to prune that.
+fn time_calls(
+    rt: &HostRuntime,
+    pairs: &mut UnseenPairs,
+    files: &[Path],
+) -> io::Result<[Duration; 5]> {
+    let (from, to) = (path_of("/d")?, path_of("/e")?);
+    done(make(pairs, &from))?;
+    let mut watch = Stopwatch::start(rt)?;
+    write_files(pairs, files)?;
+    let written = watch.lap(rt)?;
+    read_files(pairs, files)?;
+    let read = watch.lap(rt)?;
+    done(list(rt.alloc(), pairs, &from))?;
+    let listed = watch.lap(rt)?;
+    done(rename(pairs, &from, &to))?;
+    let renamed = watch.lap(rt)?;
+    done(prune(pairs, &to))?;
+    Ok([written, read, listed, renamed, watch.lap(rt)?])
+}
+
+/// The same on a list of its own.
 fn time_list(rt: &HostRuntime, files: &[Path]) -> io::Result<[Duration; 5]> {
     let mut pairs = UnseenPairs::new(rt.alloc()).map_err(no_memory)?;
-    let (from, to) = (path_of("/d")?, path_of("/e")?);
-    done(make(&mut pairs, &from))?;
-    let mut watch = Stopwatch::start(rt)?;
-    write_files(&mut pairs, files)?;
-    let written = watch.lap(rt)?;
-    read_files(&mut pairs, files)?;
-    let read = watch.lap(rt)?;
-    done(list(rt.alloc(), &mut pairs, &from))?;
-    let listed = watch.lap(rt)?;
-    done(rename(&mut pairs, &from, &to))?;
-    let renamed = watch.lap(rt)?;
-    done(prune(&mut pairs, &to))?;
-    Ok([written, read, listed, renamed, watch.lap(rt)?])
+    time_calls(rt, &mut pairs, files)
 }
 
 /// Puts the pairs of the files into a map.

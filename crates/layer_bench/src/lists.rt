@@ -43,12 +43,13 @@ impl Call {
 /// those of a file of 4,096 bytes in it.
 fn key_of(alloc: Global, number: u32) -> io::Result<Key> {
     let directory = scattered(number / 20);
-    let text = match number % 20 {
-        0 => format!(in alloc; "/{directory:08x}")?,
-        1 => format!(in alloc; "/{directory:08x}/a")?,
-        2 => format!(in alloc; "/{directory:08x}/b")?,
-        _ => format!(in alloc; "/{directory:08x}/file")?,
+    let name = match number % 20 {
+        0 => "",
+        1 => "/a",
+        2 => "/b",
+        _ => "/file",
     };
+    let text = format!(in alloc; "/{directory:08x}{name}")?;
     let block = (number % 20).saturating_sub(3);
     Ok(path_of(text.as_str())?.key(block))
 }
@@ -131,6 +132,28 @@ fn print_call(
     )
 }
 
+/// Makes calls of a kind for each key, on a list and on std's ordered map, and answers how many pairs were there, and both
+/// times.
+fn time_call(
+    rt: &HostRuntime,
+    list: &mut List,
+    map: &mut BTreeMap<Key, Value>,
+    call: Call,
+    keys: &[Key],
+) -> io::Result<(u32, (Duration, Duration))> {
+    let mut watch = Stopwatch::start(rt)?;
+    let Ok(found) = call_list_for_each(list, call, keys) else {
+        return Err(io::ErrorKind::OutOfMemory.into());
+    };
+    let time = watch.lap(rt)?;
+    let found_bare = call_map_for_each(map, call, keys)?;
+    let bare = watch.lap(rt)?;
+    if found != found_bare {
+        return Err(io::ErrorKind::InvalidData.into());
+    }
+    Ok((found, (time, bare)))
+}
+
 /// Makes calls of a kind for each key, on a list over the pages and on std's ordered map, and prints their times. The pages
 /// of the list are answered.
 fn measure_call(
@@ -142,20 +165,11 @@ fn measure_call(
     keys: &[Key],
 ) -> io::Result<CountedPages> {
     let mut list = SkipList::new(rt.alloc(), pages, draw);
-    let mut watch = Stopwatch::start(rt)?;
-    let Ok(found) = call_list_for_each(&mut list, call, keys) else {
-        return Err(io::ErrorKind::OutOfMemory.into());
-    };
-    let time = watch.lap(rt)?;
-    let found_bare = call_map_for_each(map, call, keys)?;
-    let bare = watch.lap(rt)?;
-    if found != found_bare {
-        return Err(io::ErrorKind::InvalidData.into());
-    }
+    let (found, times) = time_call(rt, &mut list, map, call, keys)?;
     let mut pages = list.into_pages();
     let lookups = pages.lookups();
     println!(rt; "{}: {found} pairs, {} pages", call.name(), pages.len())?;
-    print_call(rt, call, keys.len(), (time, bare), lookups)?;
+    print_call(rt, call, keys.len(), times, lookups)?;
     Ok(pages)
 }
 

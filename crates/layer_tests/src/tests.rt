@@ -9,4 +9,7 @@ mod layouts;
 mod listed_pages;
 mod moves;
 mod skip_lists;
+mod staged_pages;
+mod staged_slots;
 mod tables;
+mod unseen_disk;

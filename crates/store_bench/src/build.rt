@@ -1,16 +1,18 @@
 //! How long the layout of many pairs takes.
 
-ghost use Rattle.std.specs.Prelude.{◌≡◌, ◌<◌, map, length, IsTrue, IfOk};
+ghost use Rattle.std.specs.Prelude.{◌≡◌, ◌<◌, map, length, IsTrue, IfOk, OnOk};
 ghost use Rattle.std.specs.List.Sorted.{IsStrictlySortedBy};
 ghost use Rattle.store_model.specs.Paths.{key_cmp};
+ghost use Rattle.layout_scratch.specs.Sorting.{HasDistinctKeys};
 
 use crate::name_of;
-use layer_bench::{Ratio, Stopwatch, no_memory};
+use layer_bench::{Ratio, no_memory};
 use layout_scratch::{Layout, build};
 use node_pages::PairList;
 use std::alloc::Global;
 use std::cmp::Ordering;
 use std::io;
+use std::time::{Duration, Instant};
 use store_base::{DrawKind, Key, NoMemory, Params, Value};
 
 /// The most cells on a page of level 0.
@@ -66,31 +68,45 @@ fn rise(keys: &[Key]) -> bool
     true
 }
 
-/// Lays the pairs out, at most 268,435,456 of them with distinct keys, and prints how long that takes.
-pub fn lay_out(rt: &HostRuntime, params: &Params, pairs: &PairList) -> io::Result<Layout>
-    ensures { IfOk result (λ layout. length layout ≡ params.now.slots) }
+/// How long it takes to sort the keys of the pairs. `InvalidData` where two are equal.
+fn time_sort(rt: &HostRuntime, pairs: &PairList) -> io::Result<Duration>
+    ensures { OnOk result (HasDistinctKeys pairs.now) }
 {
-    let alloc = rt.alloc();
-    let Ok(mut keys) = keys_of(alloc, pairs) else {
+    let Ok(mut keys) = keys_of(rt.alloc(), pairs) else {
         return Err(no_memory(NoMemory));
     };
-    let mut watch = Stopwatch::start(rt)?;
-    keys.sort().map_err(|_| no_memory(NoMemory))?;
-    let sorting = watch.lap(rt)?;
-    if !rise(&keys) || pairs.len() > MOST_PAIRS {
+    let start = Instant::now(rt)?;
+    keys.sort()?;
+    let time = start.elapsed(rt)?;
+    if !rise(&keys) {
         return Err(io::ErrorKind::InvalidData.into());
     }
-    watch.lap(rt)?;
-    let Ok(layout) = build(alloc, params, pairs) else {
-        return Err(no_memory(NoMemory));
-    };
-    let building = watch.lap(rt)?;
+    Ok(time)
+}
+
+/// Prints how long a layout took, beside the sort of its keys.
+fn print_times(rt: &HostRuntime, building: Duration, sorting: Duration) -> io::Result<()> {
     eprintln!(rt;
         "  build {} us, sort of the same keys {} us: {}",
         building.as_micros(),
         sorting.as_micros(),
         Ratio::new(building, sorting)
-    )?;
+    )
+}
+
+/// Lays the pairs out, at most 268,435,456 of them with distinct keys, and prints how long that takes.
+pub fn lay_out(rt: &HostRuntime, params: &Params, pairs: &PairList) -> io::Result<Layout>
+    ensures { IfOk result (λ layout. length layout ≡ params.now.slots) }
+{
+    if pairs.len() > MOST_PAIRS {
+        return Err(io::ErrorKind::InvalidData.into());
+    }
+    let sorting = time_sort(rt, pairs)?;
+    let start = Instant::now(rt)?;
+    let Ok(layout) = build(rt.alloc(), params, pairs) else {
+        return Err(no_memory(NoMemory));
+    };
+    print_times(rt, start.elapsed(rt)?, sorting)?;
     Ok(layout)
 }
 
@@ -99,14 +115,19 @@ pub fn params_of(slots: u32, kind: DrawKind) -> io::Result<Params> {
     Params::new(slots, 1, kind, [0; 32]).map_err(|_| io::ErrorKind::InvalidInput.into())
 }
 
+/// Lays the pairs out in so many slots under the draw.
+fn measure_draw(rt: &HostRuntime, slots: u32, kind: DrawKind, pairs: &PairList) -> io::Result<()> {
+    let layout = lay_out(rt, &params_of(slots, kind)?, pairs)?;
+    let used = layout.used();
+    println!(rt; "{used} pages are laid out under {}", name_of(kind))
+}
+
 /// Lays out the pairs of so many full pages, at most 16,384 of them, in just as many slots, under both draws.
 pub fn measure(rt: &HostRuntime, pages: u32) -> io::Result<()> {
     let pages = pages.clamp(1, 16_384);
     let pairs = make_pairs(rt.alloc(), pages).map_err(no_memory)?;
     for kind in [DrawKind::Ruler, DrawKind::Sha256] {
-        let layout = lay_out(rt, &params_of(pages, kind)?, &pairs)?;
-        let used = layout.used();
-        println!(rt; "{used} pages are laid out under {}", name_of(kind))?;
+        measure_draw(rt, pages, kind, &pairs)?;
     }
     Ok(())
 }

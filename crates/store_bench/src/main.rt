@@ -30,25 +30,31 @@ fn name_of(kind: DrawKind) -> &'static str {
     }
 }
 
+/// Measures what a word names; there may be no such word.
+fn measure(rt: &HostRuntime, word: &str, number: u32) -> io::Result<bool> {
+    let measured = match word {
+        "build" => build::measure(rt, number),
+        "files" => files::measure(rt, number),
+        "image" => image::write(rt, number),
+        "lists" => lists::measure(rt, number),
+        "run" => run::measure(rt, number),
+        "table" => table::measure(rt, number),
+        _ => return Ok(false),
+    };
+    measured?;
+    Ok(true)
+}
+
 /// Carries out the words.
 fn bench(rt: &HostRuntime) -> io::Result<bool> {
     let mut args = env::args(rt)?;
     let (_, Some(word), Some(number)) = (args.next(), args.next(), args.next()) else {
         return Ok(false);
     };
-    let Ok(number) = number.as_str().parse::<u32>() else {
-        return Ok(false);
-    };
-    match word.as_str() {
-        "build" => build::measure(rt, number)?,
-        "files" => files::measure(rt, number)?,
-        "image" => image::write(rt, number)?,
-        "lists" => lists::measure(rt, number)?,
-        "run" => run::measure(rt, number)?,
-        "table" => table::measure(rt, number)?,
-        _ => return Ok(false),
+    match number.as_str().parse::<u32>() {
+        Ok(number) => measure(rt, word.as_str(), number),
+        Err(_) => Ok(false),
     }
-    Ok(true)
 }
 
 fn main(rt: HostRuntime) -> ExitCode {

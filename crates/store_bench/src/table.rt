@@ -4,17 +4,19 @@ ghost use Rattle.std.specs.Prelude.{◌≡◌, ◌<◌, ◌≤◌, IfOk, IfSome}
 ghost use Rattle.seeded_draw.specs.AnyDrawn.{any_draw};
 ghost use Rattle.ordered_table.specs.MemSlots.{mem_state};
 
+use crate::build::params_of;
 use crate::name_of;
 use layer_bench::{Ratio, no_memory};
 use node_pages::{Cell, Page};
 use ordered_table::{MemSlots, Steps, find, insert, next_slot};
 use seeded_draw::{AnyDraw, Draw};
 use shift_remove::remove;
+use std::alloc::Global;
 use std::io;
 use std::marker::Brand;
 use std::sync::ledger::{Blank, Ledger};
 use std::time::{Duration, Instant};
-use store_base::{BLOCK, DrawKind, Fault, Key, Label, Lead, Params, ReadSlots, Slots, Value};
+use store_base::{BLOCK, DrawKind, Fault, Key, Label, Lead, ReadSlots, Slots, Value};
 
 /// How many calls of each kind are timed in a round.
 const CALLS: u32 = 16;
@@ -231,6 +233,25 @@ const KINDS: [&str; 4] = [
     "removal",
 ];
 
+/// Times a call of each kind: searches for the labels, then the second page put in and taken out.
+fn turn(
+    rt: &HostRuntime,
+    slots: &mut MemSlots,
+    draw: &AnyDraw,
+    there: &Label,
+    new: &Page,
+) -> io::Result<[Times; 4]>
+    requires count { (mem_state slots.old).count ≡ (any_draw draw.now).slots }
+    ensures { (mem_state slots.new).count ≡ (any_draw draw.now).slots }
+{
+    let label = new.label();
+    let found = search(rt, slots, draw, there)?;
+    let missed = search(rt, slots, draw, &label)?;
+    let inserted = insertion(rt, slots, draw, new)?;
+    let removed = removal(rt, slots, draw, &label)?;
+    Ok([found, missed, inserted, removed])
+}
+
 /// The times of a round of each kind of calls, on slots that hold the pages 0 to `used` - 1.
 fn round(
     rt: &HostRuntime,
@@ -244,14 +265,13 @@ fn round(
 {
     let mut sums = [Times::NONE; 4];
     for i in 0..CALLS {
-        let turn = number.wrapping_mul(CALLS).wrapping_add(i);
-        let old = page_of(turn.wrapping_mul(7919) % used.max(1));
-        let new = page_of(used.wrapping_add(turn));
-        let label = new.label();
-        sums[0] = sums[0].and(search(rt, slots, draw, &old.label())?);
-        sums[1] = sums[1].and(search(rt, slots, draw, &label)?);
-        sums[2] = sums[2].and(insertion(rt, slots, draw, &new)?);
-        sums[3] = sums[3].and(removal(rt, slots, draw, &label)?);
+        let number = number.wrapping_mul(CALLS).wrapping_add(i);
+        let there = page_of(number.wrapping_mul(7919) % used.max(1)).label();
+        let new = page_of(used.wrapping_add(number));
+        let times = turn(rt, slots, draw, &there, &new)?;
+        for (sum, time) in sums.iter_mut().zip(times) {
+            *sum = sum.and(time);
+        }
     }
     Ok(sums)
 }
@@ -310,28 +330,43 @@ fn print_kind(
     }
 }
 
+/// Slots that hold the pages 0 to `used` - 1.
+fn fill(alloc: Global, draw: &AnyDraw, used: u32) -> io::Result<MemSlots>
+    ensures { IfOk result (λ slots. (mem_state slots).count ≡ (any_draw draw.now).slots) }
+{
+    let mut slots = MemSlots::new(alloc, draw.slots(), Vec::new(alloc)).map_err(no_memory)?;
+    for number in 0..used {
+        insert(&mut slots, draw, &page_of(number)).map_err(broken)?;
+    }
+    Ok(slots)
+}
+
+/// The times of all rounds, on slots that hold the pages 0 to `used` - 1.
+fn make_rounds(rt: &HostRuntime, draw: &AnyDraw, used: u32) -> io::Result<Vec<[Times; 4]>> {
+    let mut slots = fill(rt.alloc(), draw, used)?;
+    let mut rounds = Vec::new(rt.alloc());
+    for number in 0..ROUNDS {
+        rounds.push(round(rt, &mut slots, draw, used, number)?)?;
+    }
+    Ok(rounds)
+}
+
+/// Prints the rounds of each kind of calls.
+fn print_kinds(rt: &HostRuntime, rounds: &[[Times; 4]], clock: Duration) -> io::Result<()> {
+    for (kind, name) in KINDS.iter().enumerate() {
+        print_kind(rt, name, rounds, kind, clock)?;
+    }
+    Ok(())
+}
+
 /// Measures the calls on a table of so many slots that holds so many pages.
 fn measure_load(rt: &HostRuntime, slots: u32, used: u32, kind: DrawKind) -> io::Result<()> {
-    let Ok(params) = Params::new(slots, 1, kind, [0; 32]) else {
-        return Err(io::ErrorKind::InvalidInput.into());
-    };
-    let draw = AnyDraw::new(&params);
-    let failing = Vec::new(rt.alloc());
-    let mut table = MemSlots::new(rt.alloc(), draw.slots(), failing).map_err(no_memory)?;
-    for number in 0..used {
-        insert(&mut table, &draw, &page_of(number)).map_err(broken)?;
-    }
+    let draw = AnyDraw::new(&params_of(slots, kind)?);
     println!(rt; "{used} of {slots} slots are used, under {}", name_of(kind))?;
     measure_draws(rt, &draw)?;
     let clock = time_clock(rt)?;
-    let mut rounds = Vec::new(rt.alloc());
-    for number in 0..ROUNDS {
-        rounds.push(round(rt, &mut table, &draw, used, number)?)?;
-    }
-    for (kind, name) in KINDS.iter().enumerate() {
-        print_kind(rt, name, &rounds, kind, clock)?;
-    }
-    Ok(())
+    let rounds = make_rounds(rt, &draw, used)?;
+    print_kinds(rt, &rounds, clock)
 }
 
 /// Measures the calls on tables of so many slots, 20 to 16,384, half full, fuller, and with one slot free.

@@ -1,6 +1,7 @@
 //! The tests, a module for each kind, and `support`, which they share.
 
 mod crashes;
+mod generations;
 mod images;
 mod outside;
 mod scripts;

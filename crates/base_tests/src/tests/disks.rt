@@ -1,9 +1,13 @@
 //! Worked examples with the images that may result, and one use of each disk.
 
+ghost use Rattle.std.specs.Prelude.{◌≤◌};
+ghost use Rattle.disk_model.specs.FileDisk.{file_state};
+
 use disk_model::{Disk, FailingDisk, FileDisk, MemDisk, StopChoice};
 use std::alloc::Global;
 use std::fs::{self, File};
 use std::test::Fail;
+use store_base::DiskFault;
 
 // Two bytes are durable, and then two are pending, one of which was written twice.
 fn pending(alloc: Global) -> Result<MemDisk, Fail> {
@@ -15,12 +19,18 @@ fn pending(alloc: Global) -> Result<MemDisk, Fail> {
     Ok(disk)
 }
 
+// Whether the disk has this image, with so many writes and syncs made.
+fn stands_so(disk: &MemDisk, image: &[u8], calls: [u64; 2]) -> bool {
+    disk.bytes() == image && [disk.write_count(), disk.sync_count()] == calls
+}
+
 // Whether a crash with this choice leaves this image durably, with three writes and a sync made.
 fn leaves(alloc: Global, choice: StopChoice, image: &[u8]) -> Result<bool, Fail> {
     let disk = pending(alloc)?.stopped(choice);
-    let is_left = disk.bytes() == image && disk.write_count() == 3 && disk.sync_count() == 1;
+    let is_left = stands_so(&disk, image, [3, 1]);
     let again = disk.stopped(StopChoice::Fill(0));
-    Ok(is_left && again.bytes() == image)
+    let is_kept = again.bytes() == image;
+    Ok(is_left && is_kept)
 }
 
 #[test]
@@ -43,11 +53,10 @@ fn ends_so(alloc: Global, room: usize, written: bool, synced: bool) -> Result<bo
     let mut disk = MemDisk::new(alloc, b"abcd", room)?;
     let done = [disk.write_at(1, b"XYZ").is_ok(), disk.sync().is_ok()];
     let image = if written && synced { b"aXYZ" } else { b"abcd" };
-    disk = disk.stopped(StopChoice::Old);
-    let is_left = disk.bytes() == image.as_slice();
-    let counts = [disk.write_count(), disk.sync_count()];
-    let again = disk.write_at(1, b"XYZ").is_ok();
-    Ok(done == [written, synced] && is_left && counts == [1, 1] && again == written)
+    let mut left = disk.stopped(StopChoice::Old);
+    let is_left = stands_so(&left, image, [1, 1]);
+    let again = left.write_at(1, b"XYZ").is_ok();
+    Ok(done == [written, synced] && is_left && again == written)
 }
 
 #[test]
@@ -130,23 +139,37 @@ fn each_call_fails_in_turn(rt: HostRuntime) -> Result<(), Fail> {
     Ok(())
 }
 
-#[test]
-fn a_file_is_a_disk(rt: HostRuntime) -> Result<(), Fail> {
-    let path = "disk_model_test.img";
-    fs::write(&rt, path, b"abcdefgh")?;
-    let file = File::options().read(true).write(true).open(&rt, path)?;
-    let mut disk = FileDisk::new(file, 8);
+// What stands in bytes 2 to 5 of a disk of eight, once bytes 3 and 4 are written.
+fn written_and_read(disk: &mut FileDisk) -> Result<[u8; 4], DiskFault>
+    requires { 6 ≤ (file_state disk.old).size }
+{
     let mut buffer = [0; 4];
     disk.write_at(3, b"XY")?;
     disk.sync()?;
     disk.read_at(2, &mut buffer)?;
-    assert_eq!(rt; buffer, *b"cXYf");
-    // A file that is shorter than its caller said gives no byte past its end.
-    let short = File::options().read(true).open(&rt, path)?;
-    assert_eq!(rt;
-        FileDisk::new(short, 9).read_at(5, &mut buffer).is_err(),
-        true
-    );
+    Ok(buffer)
+}
+
+// The same, of a file that has eight bytes.
+fn written_in_file(rt: &HostRuntime, path: &str) -> Result<[u8; 4], Fail> {
+    let file = File::options().read(true).write(true).open(rt, path)?;
+    let mut disk = FileDisk::new(file, 8);
+    let read = written_and_read(&mut disk);
+    Ok(read?)
+}
+
+// Whether a file of eight bytes, said to have nine, gives no byte past its end.
+fn ends_early(rt: &HostRuntime, path: &str) -> Result<bool, Fail> {
+    let file = File::options().read(true).open(rt, path)?;
+    Ok(FileDisk::new(file, 9).read_at(5, &mut [0; 4]).is_err())
+}
+
+#[test]
+fn a_file_is_a_disk(rt: HostRuntime) -> Result<(), Fail> {
+    let path = "disk_model_test.img";
+    fs::write(&rt, path, b"abcdefgh")?;
+    assert_eq!(rt; written_in_file(&rt, path)?, *b"cXYf");
+    assert!(rt; ends_early(&rt, path)?);
     fs::remove_file(&rt, path)?;
     Ok(())
 }

@@ -2,11 +2,12 @@
 
 use crate::samples::{TWO_KEYS, key, slot_with, start_label};
 use node_pages::{
-    Cell, Cells, MapPages, Page, Pages, PairList, cut_group, decode_page, encode_page, join_group,
-    label_in,
+    Cell, Cells, MapPages, Page, PageList, Pages, PairList, cut_group, decode_page, encode_page,
+    join_group, label_in,
 };
+use std::alloc::Global;
 use std::test::Fail;
-use store_base::{BLOCK, Lead, Value};
+use store_base::{BLOCK, Lead, NoMemory, Value};
 
 // The directory /a alone, in one slot: 01, 130 zeros, 01, 61 and 123 zeros, 00 01, 01, zeros.
 const ONE_DIRECTORY: [(usize, u8); 5] = [(0, 1), (131, 1), (132, 0x61), (257, 1), (258, 1)];
@@ -75,20 +76,34 @@ fn slots_of_no_page(rt: HostRuntime) {
 }
 
 #[test]
-fn lists_and_groups(rt: HostRuntime) -> Result<(), Fail> {
-    let mut cells = Cells::new(rt.alloc());
+fn group_of_no_cell(rt: HostRuntime) -> Result<(), Fail> {
+    let cells = Cells::new(rt.alloc());
     assert!(rt; cells.is_empty());
-    let none = cut_group(rt.alloc(), 1, &Lead::Start, &Cells::new(rt.alloc()))?;
-    assert_eq!(rt; none.len(), 0);
+    let pages = cut_group(rt.alloc(), 1, &Lead::Start, &cells)?;
+    assert_eq!(rt; pages.len(), 0);
+    Ok(())
+}
 
+/// The pages of level 0 that hold one cell, with the key `a`.
+fn one_page(alloc: Global) -> Result<PageList, NoMemory> {
+    let mut cells = Cells::new(alloc);
     cells.push(Cell::with_value(key(b"a"), Value::new(&[1])))?;
-    let pages = cut_group(rt.alloc(), 0, &Lead::Start, &cells)?;
+    cut_group(alloc, 0, &Lead::Start, &cells)
+}
+
+#[test]
+fn group_of_one_cell(rt: HostRuntime) -> Result<(), Fail> {
+    let pages = one_page(rt.alloc())?;
     assert_eq!(rt; pages.len(), 1);
     assert!(rt; *pages.get(0).as_slot() == slot_with(&ONE_DIRECTORY));
     let joined = join_group(rt.alloc(), &pages)?;
     assert_eq!(rt; joined.len(), 1);
     assert!(rt; joined.get(0).key == key(b"a"));
+    Ok(())
+}
 
+#[test]
+fn list_of_one_pair(rt: HostRuntime) -> Result<(), Fail> {
     let mut pairs = PairList::new(rt.alloc());
     pairs.push((key(b"a"), Value::new(&[1, 2])))?;
     assert_eq!(rt; pairs.as_slice().len(), 1);

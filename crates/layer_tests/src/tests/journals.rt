@@ -18,7 +18,11 @@ const LEN: usize = 77824;
 const ROOM: usize = 400000;
 
 /// What a crash may make of bytes that are not durable.
-static CHOICES: [StopChoice; 3] = [StopChoice::Old, StopChoice::New, StopChoice::Fill(0xA5)];
+pub(crate) static CHOICES: [StopChoice; 3] = [
+    StopChoice::Old,
+    StopChoice::New,
+    StopChoice::Fill(0xA5),
+];
 
 /// The first slots of odd number are to hold this byte throughout.
 struct Stripes {
@@ -57,7 +61,8 @@ fn commit<D: Disk>(disk: &mut D, params: &Params, stripes: &Stripes) -> Result<(
     Journal::commit(disk, params, stripes)
 }
 
-fn recover<D: Disk>(disk: &mut D, params: &Params) -> Result<(), DiskFault> {
+/// Recovers the disk.
+pub(crate) fn recover<D: Disk>(disk: &mut D, params: &Params) -> Result<(), DiskFault> {
     if !is_long(disk, params) {
         return Err(DiskFault);
     }

@@ -34,7 +34,7 @@ fn make(rt: &impl Abort, pairs: &mut PairList, key: Key) -> Result<(), Fail>
 }
 
 /// The layout of directories with a key for each letter: of the letter alone, or of `U` and the letter.
-fn layout(
+pub(crate) fn layout(
     rt: &impl Abort,
     alloc: Global,
     params: &Params,

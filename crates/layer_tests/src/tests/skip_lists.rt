@@ -274,21 +274,53 @@ fn list_of_no_pair(rt: HostRuntime) -> Result<(), Fail> {
     Ok(())
 }
 
+/// The pairs of /a with the value 1 and of /b with the value 2.
+fn two_pairs(alloc: Global) -> Result<MapPairs, Fail> {
+    let mut list = MapPairs::new(alloc)?;
+    list.put(key_of("/b")?, Value::new(&[2]))?;
+    list.put(key_of("/a")?, Value::new(&[1]))?;
+    Ok(list)
+}
+
+/// Whether the value of the key is this byte.
+fn has_value(list: &mut MapPairs, word: &str, byte: u8) -> Result<bool, Fail> {
+    match list.get(&key_of(word)?)? {
+        Some(value) => Ok(value == Value::new(&[byte])),
+        None => Ok(false),
+    }
+}
+
+/// Whether the first pair from one key on is that of another one, with this byte for its value.
+fn has_next(list: &mut MapPairs, word: &str, next: &str, byte: u8) -> Result<bool, Fail> {
+    let wanted = key_of(next)?;
+    match list.next_from(&key_of(word)?)? {
+        Some((key, value)) => Ok(key == wanted && value == Value::new(&[byte])),
+        None => Ok(false),
+    }
+}
+
 #[test]
 fn list_in_memory(rt: HostRuntime) -> Result<(), Fail> {
-    let (a, b) = (key_of("/a")?, key_of("/b")?);
-    let mut list = MapPairs::new(rt.alloc())?;
-    list.put(b, Value::new(&[2]))?;
-    list.put(a, Value::new(&[1]))?;
-    assert!(rt; list.get(&b)?.ok_or("no value")? == Value::new(&[2]));
+    let mut list = two_pairs(rt.alloc())?;
+    assert!(rt; has_value(&mut list, "/b", 2)?);
+    assert!(rt; has_next(&mut list, "/aa", "/b", 2)?);
+    Ok(())
+}
 
-    let (next, value) = list.next_from(&key_of("/aa")?)?.ok_or("no next pair")?;
-    assert!(rt; next == b);
-    assert!(rt; value == Value::new(&[2]));
+/// Whether the key is there and can be taken out once.
+fn is_taken_once(list: &mut MapPairs, word: &str) -> Result<bool, Fail> {
+    let key = key_of(word)?;
+    match list.take(&key)? {
+        Some(value) => Ok(value == Value::new(&[1]) && list.take(&key)?.is_none()),
+        None => Ok(false),
+    }
+}
 
+#[test]
+fn copy_of_a_list(rt: HostRuntime) -> Result<(), Fail> {
+    let list = two_pairs(rt.alloc())?;
     let mut other = list.copy()?;
-    assert!(rt; other.take(&a)?.ok_or("no value")? == Value::new(&[1]));
-    assert!(rt; other.take(&a)?.is_none());
+    assert!(rt; is_taken_once(&mut other, "/a")?);
     assert_eq!(rt; list.pairs()?.len(), 2);
     assert_eq!(rt; other.pairs()?.len(), 1);
     Ok(())

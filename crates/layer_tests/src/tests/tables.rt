@@ -7,8 +7,9 @@ ghost use Rattle.ordered_table.specs.MemSlots.{mem_state};
 use base_tests::samples::{key, led, start_label};
 use node_pages::{Cell, Page};
 use ordered_table::{MemSlots, Steps, find, insert, overwrite};
-use seeded_draw::RulerDraw;
+use seeded_draw::{Draw, RulerDraw};
 use shift_remove::remove;
+use std::alloc::Global;
 use std::marker::Brand;
 use std::process::Abort;
 use std::sync::ledger::{Blank, Ledger};
@@ -28,7 +29,7 @@ pub(crate) fn label(name: [u8; 2]) -> Label {
 }
 
 /// The page of this name, with one cell.
-fn page(name: [u8; 2], value: u8) -> Page {
+pub(crate) fn page(name: [u8; 2], value: u8) -> Page {
     if name == TOP {
         return Page::new(start_label(1, 0), Cell::bare(key(&name)));
     }
@@ -65,20 +66,69 @@ fn look_for<L: Ledger>(
     find(slots, draw, &label(name), &mut steps)
 }
 
+/// A call on slots.
+enum Call {
+    /// Puts the page of this name in, with this value.
+    Insert([u8; 2], u8),
+    /// Writes the page of this name over the one in the slot, with the value 1.
+    Overwrite(u32, [u8; 2]),
+    /// Takes the page in the slot out.
+    Remove(u32),
+}
+
+/// A call on slots, how many reads and writes were made in all when it ends, and the pages that the slots then hold, with
+/// the value 1; where none are told, the slots are not looked at.
+type Step = (Call, u64, &'static [Option<[u8; 2]>]);
+
+/// Makes the call; one that names no slot is a fault.
+fn make(slots: &mut MemSlots, draw: &RulerDraw, call: &Call) -> Result<(), Fault>
+    requires { (mem_state slots.old).count ≡ draw.now.slots }
+    ensures { (mem_state slots.new).count ≡ draw.now.slots }
+{
+    match call {
+        Call::Insert(name, value) => insert(slots, draw, &page(*name, *value)),
+        Call::Overwrite(at, name) if *at < draw.slots() => {
+            overwrite(slots, draw, *at, &page(*name, 1))
+        }
+        Call::Remove(at) if *at < draw.slots() => remove(slots, draw, *at),
+        _ => Err(Fault::Disk),
+    }
+}
+
+/// Makes the calls on so many free slots, and looks what each leads to.
+fn lead_so(rt: &impl Abort, alloc: Global, slots: u32, steps: &[Step]) -> Result<(), Fail> {
+    let draw = RulerDraw::new(&Params::new(slots, 2, DrawKind::Ruler, [0; 32])?);
+    let mut slots = MemSlots::new(alloc, draw.slots(), Vec::new(alloc))?;
+    for step in steps {
+        let (call, calls, wanted) = step;
+        make(&mut slots, &draw, call)?;
+        assert_eq!(rt; slots.calls(), *calls);
+        if !wanted.is_empty() {
+            holds(rt, &slots, wanted);
+        }
+    }
+    Ok(())
+}
+
+/// Insertions into four slots; the one that displaces a page reads two and writes both.
+static INSERTIONS: [Step; 4] = [
+    (
+        Call::Insert(*b"Ua", 1),
+        2,
+        &[None, None, None, Some(*b"Ua")],
+    ),
+    (Call::Insert(*b"UU", 2), 6, &[]),
+    (Call::Insert(TOP, 1), 8, &[]),
+    (
+        Call::Overwrite(3, *b"UU"),
+        9,
+        &[Some(*b"Ua"), Some(TOP), None, Some(*b"UU")],
+    ),
+];
+
 #[test]
 fn insertion_and_overwriting(rt: HostRuntime) -> Result<(), Fail> {
-    let draw = RulerDraw::new(&Params::new(4, 2, DrawKind::Ruler, [0; 32])?);
-    let mut slots = MemSlots::new(rt.alloc(), 4, Vec::new(rt.alloc()))?;
-    insert(&mut slots, &draw, &page(*b"Ua", 1))?;
-    holds(&rt, &slots, &[None, None, None, Some(*b"Ua")]);
-    assert_eq!(rt; slots.calls(), 2);
-    insert(&mut slots, &draw, &page(*b"UU", 2))?;
-    // The insertion that displaces a page reads two slots and writes both.
-    assert_eq!(rt; slots.calls(), 6);
-    insert(&mut slots, &draw, &page(TOP, 1))?;
-    overwrite(&mut slots, &draw, 3, &page(*b"UU", 1))?;
-    holds(&rt, &slots, &[Some(*b"Ua"), Some(TOP), None, Some(*b"UU")]);
-    Ok(())
+    lead_so(&rt, rt.alloc(), 4, &INSERTIONS)
 }
 
 #[test]
@@ -92,40 +142,63 @@ fn search_round_the_end(rt: HostRuntime) -> Result<(), Fail> {
     Ok(())
 }
 
+/// Two slots that are filled, and a page taken out.
+static FULL: [Step; 3] = [
+    (Call::Insert(*b"Ua", 1), 2, &[]),
+    (Call::Insert(TOP, 1), 5, &[Some(TOP), Some(*b"Ua")]),
+    (Call::Remove(1), 8, &[None, Some(TOP)]),
+];
+
+/// One slot that is filled and made free.
+static ONE: [Step; 2] = [
+    (Call::Insert(*b"a\0", 1), 2, &[Some(*b"a\0")]),
+    (Call::Remove(0), 3, &[None]),
+];
+
 #[test]
 fn removal_from_full_tables(rt: HostRuntime) -> Result<(), Fail> {
-    let draw = RulerDraw::new(&Params::new(2, 2, DrawKind::Ruler, [0; 32])?);
-    let mut slots = MemSlots::new(rt.alloc(), 2, Vec::new(rt.alloc()))?;
-    insert(&mut slots, &draw, &page(*b"Ua", 1))?;
-    insert(&mut slots, &draw, &page(TOP, 1))?;
-    holds(&rt, &slots, &[Some(TOP), Some(*b"Ua")]);
-    remove(&mut slots, &draw, 1)?;
-    holds(&rt, &slots, &[None, Some(TOP)]);
-
-    let one = RulerDraw::new(&Params::new(1, 1, DrawKind::Ruler, [0; 32])?);
-    let mut slot = MemSlots::new(rt.alloc(), 1, Vec::new(rt.alloc()))?;
-    insert(&mut slot, &one, &page(*b"a\0", 1))?;
-    remove(&mut slot, &one, 0)?;
-    holds(&rt, &slot, &[None]);
-    Ok(())
+    lead_so(&rt, rt.alloc(), 2, &FULL)?;
+    lead_so(&rt, rt.alloc(), 1, &ONE)
 }
+
+/// Pages round a hole. The removal reads slots 3, 4 and 5, and writes 2 and 4.
+static PAST_THE_HOLE: [Step; 5] = [
+    (Call::Insert(*b"Ud", 1), 2, &[]),
+    (Call::Insert(*b"UE", 1), 4, &[]),
+    (Call::Insert(*b"UD", 1), 9, &[]),
+    (
+        Call::Insert(TOP, 1),
+        11,
+        &[
+            None,
+            Some(TOP),
+            Some(*b"UD"),
+            Some(*b"UE"),
+            Some(*b"Ud"),
+            None,
+            None,
+            None,
+        ],
+    ),
+    (
+        Call::Remove(2),
+        16,
+        &[
+            None,
+            Some(TOP),
+            Some(*b"Ud"),
+            Some(*b"UE"),
+            None,
+            None,
+            None,
+            None,
+        ],
+    ),
+];
 
 #[test]
 fn page_that_starts_past_the_hole(rt: HostRuntime) -> Result<(), Fail> {
-    let draw = RulerDraw::new(&Params::new(8, 2, DrawKind::Ruler, [0; 32])?);
-    let mut slots = MemSlots::new(rt.alloc(), 8, Vec::new(rt.alloc()))?;
-    insert(&mut slots, &draw, &page(*b"Ud", 1))?;
-    insert(&mut slots, &draw, &page(*b"UE", 1))?;
-    insert(&mut slots, &draw, &page(*b"UD", 1))?;
-    insert(&mut slots, &draw, &page(TOP, 1))?;
-    let (top, d, e, l) = (Some(TOP), Some(*b"UD"), Some(*b"UE"), Some(*b"Ud"));
-    holds(&rt, &slots, &[None, top, d, e, l, None, None, None]);
-    assert_eq!(rt; slots.calls(), 11);
-    remove(&mut slots, &draw, 2)?;
-    holds(&rt, &slots, &[None, top, l, e, None, None, None, None]);
-    // The removal reads slots 3, 4 and 5, and writes 2 and 4.
-    assert_eq!(rt; slots.calls(), 16);
-    Ok(())
+    lead_so(&rt, rt.alloc(), 8, &PAST_THE_HOLE)
 }
 
 /// Over two slots: inserts the pages `Ua` and `TOP`, searches for `TOP` in slot 0, overwrites `Ua` in slot 1 and

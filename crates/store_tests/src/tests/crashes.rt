@@ -76,16 +76,17 @@ static CHANGES: [Change; 2] = [
     },
 ];
 
-/// The first call of the disk at which a crash of the run, with this choice of what it leaves, leaves neither tree, if there
-/// is one.
-fn torn_at(alloc: Global, change: &Change, choice: StopChoice) -> Result<Option<u64>, Fail> {
-    let script = change.command.as_bytes();
-    let old = image_of(alloc, &change.format, change.script.as_bytes())?;
-    let ran = call(alloc, &["run"], &old, script)?;
-    let images = [old.as_slice(), ran.disk.bytes()];
+/// The first call of the disk at which a crash of the run of one command, from the old image to the new, leaves neither, with
+/// this choice of what it leaves; none where there is no such call.
+fn first_torn(
+    alloc: Global,
+    command: &[u8],
+    images: [&[u8]; 2],
+    choice: StopChoice,
+) -> Result<Option<u64>, Fail> {
     let mut last = u64::MAX;
     for from in 0..MOST_CALLS {
-        let crashed = crash(alloc, "run", &old, script, from)?;
+        let crashed = crash(alloc, "run", images[0], command, from)?;
         let (stage, is_last) = (crashed.stage(), crashed.status == 0);
         if stage != last && !is_whole_or_absent(alloc, crashed, images, choice)? {
             return Ok(Some(from));
@@ -96,6 +97,14 @@ fn torn_at(alloc: Global, change: &Change, choice: StopChoice) -> Result<Option<
         last = stage;
     }
     Ok(Some(MOST_CALLS))
+}
+
+/// The first call at which a crash of the change's run leaves neither tree.
+fn torn_at(alloc: Global, change: &Change, choice: StopChoice) -> Result<Option<u64>, Fail> {
+    let command = change.command.as_bytes();
+    let old = image_of(alloc, &change.format, change.script.as_bytes())?;
+    let ran = call(alloc, &["run"], &old, command)?;
+    first_torn(alloc, command, [old.as_slice(), ran.disk.bytes()], choice)
 }
 
 #[test]

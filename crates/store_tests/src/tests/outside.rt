@@ -86,7 +86,7 @@ fn end_of(alloc: Global, row: &Failing) -> Result<Ended, Fail> {
     let disk = FailingDisk::new(disk, Vec::new(alloc), row.from);
     let source = source_for(alloc, row)?;
     let sink = MemSink::new(alloc, row.sink_room, Vec::from_slice(alloc, row.puts)?)?;
-    call_with(alloc, row.word, disk, source, sink)
+    call_with(alloc, &[row.word], disk, source, sink)
 }
 
 /// What of the call of the row is not as the row says, if anything is.

@@ -117,20 +117,30 @@ fn wrong_in_scrub(
     ]))
 }
 
-/// What of the row is not as it says, if anything is: what `check` finds of the image, a scrub of it, and a second one,
-/// which writes nothing.
-fn wrong_in(alloc: Global, row: &Scrubbing) -> Result<&'static str, Fail> {
-    let (image, left) = images_of(alloc, row)?;
-    let checked = call(alloc, &["check"], &image, b"")?;
-    if checked.sink.written() != row.image.report.as_bytes() {
+/// What of these bytes is not as the row says, if anything is, where a scrub leaves what is wanted: what `check` finds, the
+/// scrub, and a second one, which writes nothing.
+fn wrong_in_bytes(
+    alloc: Global,
+    row: &Scrubbing,
+    bytes: &[u8],
+    wanted: &[u8],
+) -> Result<&'static str, Fail> {
+    let is_reported = call(alloc, &["check"], bytes, b"")?.sink.written()
+        == row.image.report.as_bytes();
+    if !is_reported {
         return Ok("report of check");
     }
-    let wrong = wrong_in_scrub(alloc, row, &image, row.calls, &left)?;
-    if wrong.is_empty() {
-        wrong_in_scrub(alloc, row, &left, [0, row.calls[1].min(2)], &left)
-    } else {
-        Ok(wrong)
+    let wrong = wrong_in_scrub(alloc, row, bytes, row.calls, wanted)?;
+    if !wrong.is_empty() {
+        return Ok(wrong);
     }
+    wrong_in_scrub(alloc, row, wanted, [0, row.calls[1].min(2)], wanted)
+}
+
+/// What of the row is not as it says, if anything is.
+fn wrong_in(alloc: Global, row: &Scrubbing) -> Result<&'static str, Fail> {
+    let (image, left) = images_of(alloc, row)?;
+    wrong_in_bytes(alloc, row, &image, &left)
 }
 
 #[test]
@@ -165,12 +175,17 @@ fn torn_at(
     Ok(Some(MOST_CALLS))
 }
 
+/// The first call at which a crash of a scrub of the row keeps the next scrub from leaving what is wanted.
+fn torn_in(alloc: Global, row: &Scrubbing, choice: StopChoice) -> Result<Option<u64>, Fail> {
+    let (image, left) = images_of(alloc, row)?;
+    torn_at(alloc, "scrub", &image, &left, choice)
+}
+
 #[test]
 fn a_crash_leaves_what_the_next_scrub_ends(rt: HostRuntime) -> Result<(), Fail> {
     for row in &SCRUBBINGS {
-        let (image, left) = images_of(rt.alloc(), row)?;
         for choice in &CHOICES {
-            let torn = torn_at(rt.alloc(), "scrub", &image, &left, *choice)?;
+            let torn = torn_in(rt.alloc(), row, *choice)?;
             assert_eq!(rt; torn, None, "{:?}, {choice:?}", row.image.bytes);
         }
     }
@@ -190,18 +205,28 @@ fn is_whole_or_none(
     Ok(is_kept || left.bytes().starts_with(&[0]))
 }
 
+/// The first call of the disk at which a crash of a wipe of these bytes, with this choice of what it leaves, leaves a torn
+/// image, or keeps the next wipe from leaving zeros, of which there are as many; none where there is no such call.
+fn torn_in_wipe(
+    alloc: Global,
+    bytes: &[u8],
+    zeros: &[u8],
+    choice: StopChoice,
+) -> Result<Option<u64>, Fail> {
+    // A byte and a sync, five blocks and a sync: from call 8 on none is left to fail.
+    for from in 0..9 {
+        if !is_whole_or_none(alloc, bytes, from, choice)? {
+            return Ok(Some(from));
+        }
+    }
+    torn_at(alloc, "wipe", bytes, zeros, choice)
+}
+
 #[test]
 fn a_crash_in_a_wipe_leaves_no_torn_image(rt: HostRuntime) -> Result<(), Fail> {
-    let alloc = rt.alloc();
-    let image = image_of(alloc, &LEAST, b"make /a\n")?;
-    let zeros = vec![in alloc; 0; 20_480]?;
+    let image = image_of(rt.alloc(), &LEAST, b"make /a\n")?;
     for choice in &CHOICES {
-        // A byte and a sync, five blocks and a sync: from call 8 on none is left to fail.
-        for from in 0..9 {
-            let holds = is_whole_or_none(alloc, &image, from, *choice)?;
-            assert!(rt; holds, "call {from}, {choice:?}");
-        }
-        let torn = torn_at(alloc, "wipe", &image, &zeros, *choice)?;
+        let torn = torn_in_wipe(rt.alloc(), &image, &[0; 20_480], *choice)?;
         assert_eq!(rt; torn, None, "{choice:?}");
     }
     Ok(())

@@ -81,7 +81,30 @@ pub fn sink_of(alloc: Global) -> Result<MemSink, NoMemory> {
     MemSink::new(alloc, SINK_ROOM, Vec::new(alloc))
 }
 
+/// A source that gives the script, and a sink with room for every reply.
+fn ends_of(alloc: Global, script: &[u8]) -> Result<(MemSource, MemSink), NoMemory> {
+    let source = source_of(alloc, script)?;
+    Ok((source, sink_of(alloc)?))
+}
+
+/// These bytes once more.
+fn copy_of(alloc: Global, bytes: &[u8]) -> Result<Vec<u8>, Fail> {
+    Ok(Vec::from_slice(alloc, bytes)?)
+}
+
 /// A call with these words on a disk with these bytes.
+fn call_on(
+    alloc: Global,
+    words: &Words,
+    bytes: &[u8],
+    script: &[u8],
+) -> Result<MemOutcome, NoMemory> {
+    let (source, sink) = ends_of(alloc, script)?;
+    let disk = MemDisk::new(alloc, bytes, ROOM)?;
+    Ok(top(alloc, words, disk, source, sink))
+}
+
+/// A call whose words these texts are, on a disk with these bytes.
 pub fn call(
     alloc: Global,
     texts: &[&str],
@@ -89,27 +112,33 @@ pub fn call(
     script: &[u8],
 ) -> Result<MemOutcome, NoMemory> {
     let words = words_of(alloc, texts)?;
-    let disk = MemDisk::new(alloc, bytes, ROOM)?;
-    let (source, sink) = (source_of(alloc, script)?, sink_of(alloc)?);
-    Ok(top(alloc, &words, disk, source, sink))
+    call_on(alloc, &words, bytes, script)
 }
 
-/// A call with this word whose disk, source or sink may fail.
+/// How the call ended that left this.
+fn ended_of(
+    alloc: Global,
+    left: Outcome<FailingDisk<MemDisk>, MemSource, MemSink>,
+) -> Result<Ended, Fail> {
+    let written = copy_of(alloc, left.sink.written())?;
+    Ok(Ended {
+        status: left.status.code(),
+        done: left.done,
+        written,
+        disk: left.disk.into_disk(),
+    })
+}
+
+/// A call with these words whose disk, source or sink may fail.
 pub fn call_with(
     alloc: Global,
-    word: &str,
+    texts: &[&str],
     disk: FailingDisk<MemDisk>,
     source: MemSource,
     sink: MemSink,
 ) -> Result<Ended, Fail> {
-    let words = words_of(alloc, &[word])?;
-    let ended = top(alloc, &words, disk, source, sink);
-    Ok(Ended {
-        status: ended.status.code(),
-        done: ended.done,
-        written: Vec::from_slice(alloc, ended.sink.written())?,
-        disk: ended.disk.into_disk(),
-    })
+    let words = words_of(alloc, texts)?;
+    ended_of(alloc, top(alloc, &words, disk, source, sink))
 }
 
 /// A call with this word and script on a disk with these bytes that fails from call `from` on.
@@ -122,8 +151,8 @@ pub fn crash(
 ) -> Result<Ended, Fail> {
     let disk = MemDisk::new(alloc, bytes, FAILING_ROOM)?;
     let disk = FailingDisk::new(disk, Vec::new(alloc), Some(from));
-    let (source, sink) = (source_of(alloc, script)?, sink_of(alloc)?);
-    call_with(alloc, word, disk, source, sink)
+    let (source, sink) = ends_of(alloc, script)?;
+    call_with(alloc, &[word], disk, source, sink)
 }
 
 /// As many zeros as the image has bytes that these words make; none where they make none.
@@ -136,13 +165,24 @@ fn blank(alloc: Global, texts: &[&str]) -> Result<Vec<u8>, Fail> {
     Ok(vec![in alloc; 0; len]?)
 }
 
-/// The image that the script leaves on that of the empty tree.
-pub fn image_of(alloc: Global, format: &Format, script: &[u8]) -> Result<Vec<u8>, Fail> {
+/// What the call leaves that makes the image of the empty tree.
+fn made(alloc: Global, format: &Format) -> Result<MemOutcome, Fail> {
     let [slots, height, draw, seed] = *format;
     let texts = ["format", slots, height, draw, seed];
-    let made = call(alloc, &texts, &blank(alloc, &texts)?, b"")?;
-    let ran = call(alloc, &["run"], made.disk.bytes(), script)?;
-    Ok(Vec::from_slice(alloc, ran.disk.bytes())?)
+    let zeros = blank(alloc, &texts)?;
+    Ok(call(alloc, &texts, &zeros, b"")?)
+}
+
+/// The image that the script leaves on this one.
+fn image_after(alloc: Global, image: &[u8], script: &[u8]) -> Result<Vec<u8>, Fail> {
+    let ran = call(alloc, &["run"], image, script)?;
+    copy_of(alloc, ran.disk.bytes())
+}
+
+/// The image that the script leaves on that of the empty tree.
+pub fn image_of(alloc: Global, format: &Format, script: &[u8]) -> Result<Vec<u8>, Fail> {
+    let empty = made(alloc, format)?;
+    image_after(alloc, empty.disk.bytes(), script)
 }
 
 /// Whether the script, where there is one, leaves this image on that of the empty tree.

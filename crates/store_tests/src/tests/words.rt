@@ -6,8 +6,13 @@ use std::alloc::Global;
 use std::test::Fail;
 use store_top::{Wanted, Words, wanted_len};
 
+/// A seed in capital letters, and one with a digit too many.
+const CAPITALS: &str = "FFFFFFFFFFFFFFFFFFFFFFFFFFFFFFFFFFFFFFFFFFFFFFFFFFFFFFFFFFFFFFFF";
+
+const TOO_LONG: &str = "00000000000000000000000000000000000000000000000000000000000000000";
+
 /// Words, and the file that they need.
-static WANTED: [(&[&str], Wanted); 18] = [
+static WANTED: [(&[&str], Wanted); 29] = [
     (&[], Wanted::Usage),
     (&["run"], Wanted::Existing),
     (&["check"], Wanted::Existing),
@@ -15,14 +20,13 @@ static WANTED: [(&[&str], Wanted); 18] = [
     (&["wipe"], Wanted::Existing),
     (&["run", "now"], Wanted::Usage),
     (&["Run"], Wanted::Usage),
-    (&["--help"], Wanted::Usage),
     (&["format", "1", "1", "ruler", ZEROS], Wanted::Fresh(20_480)),
     (
         &["format", "4", "2", "sha256", ZEROS],
         Wanted::Fresh(45_056),
     ),
     (
-        &["format", "16384", "8", "ruler", ZEROS],
+        &["format", "16384", "8", "ruler", CAPITALS],
         Wanted::Fresh(134_246_400),
     ),
     (&["format", "0", "1", "ruler", ZEROS], Wanted::Usage),
@@ -32,6 +36,42 @@ static WANTED: [(&[&str], Wanted); 18] = [
     (&["format", "04", "1", "ruler", ZEROS], Wanted::Usage),
     (&["format", "4", "1", "sha1", ZEROS], Wanted::Usage),
     (&["format", "4", "1", "ruler", "00"], Wanted::Usage),
+    (&["big", "0", "1"], Wanted::Existing),
+    (&["big", "4294967295", "1000000"], Wanted::Existing),
+    (&["big", "4294967296", "1"], Wanted::Usage),
+    (&["big", "00", "1"], Wanted::Usage),
+    (&["big", "0", "0"], Wanted::Usage),
+    (&["big", "0", "1000001"], Wanted::Usage),
+    (&["big", "0"], Wanted::Usage),
+    (&["Big", "0", "1"], Wanted::Usage),
+    (&["format", "4", "1", "ruler", TOO_LONG], Wanted::Usage),
+    (&["format", "4", "1", "ruler"], Wanted::Usage),
+    (&["format", "4", "1", "ruler", ZEROS, "now"], Wanted::Usage),
+    (&["format"], Wanted::Usage),
+];
+
+/// Words that a parser of command lines might take for something, and that ask for nothing here.
+static STRAY: [&[&str]; 20] = [
+    &[""],
+    &["run", ""],
+    &["", "run"],
+    &["--help"],
+    &["-h"],
+    &["help"],
+    &["help", "run"],
+    &["run", "--help"],
+    &["run", "-h"],
+    &["--version"],
+    &["-V"],
+    &["-"],
+    &["--"],
+    &["--", "run"],
+    &["run", "--"],
+    &["ru"],
+    &["format", "--", "4", "1", "ruler", ZEROS],
+    &["format", "-4", "1", "ruler", ZEROS],
+    &["format", "+4", "1", "ruler", ZEROS],
+    &["big", "7", "2000", "now"],
 ];
 
 /// Whether the words need this file, and end the call with it where none will do.
@@ -46,6 +86,10 @@ fn tell(alloc: Global, texts: &[&str], wanted: &Wanted) -> Result<bool, Fail> {
 fn words_tell_the_file_that_they_need(rt: HostRuntime) -> Result<(), Fail> {
     for (texts, wanted) in &WANTED {
         let holds = tell(rt.alloc(), texts, wanted)?;
+        assert!(rt; holds, "{texts:?}");
+    }
+    for texts in &STRAY {
+        let holds = tell(rt.alloc(), texts, &Wanted::Usage)?;
         assert!(rt; holds, "{texts:?}");
     }
     Ok(())
