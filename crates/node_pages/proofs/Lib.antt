@@ -1,3 +1,4 @@
+mod Answered
 pub mod CellBytes
 pub mod CellLists
 pub mod EntryLemmas

@@ -142,7 +142,7 @@ module _ {X Y : Type 0} (f : Y → X) where
       subst P (sym (item.2 d)) (subst (λ y. P (f y)) (item.1 item.0) (h item.0))
 
 -- no key is below the one before it
-neighbours : {X Y : Type 0} (f : Y → Entry X) (ys : List Y) → IsStrictlySortedBy (λ a b. key_cmp a.0 b.0) (map f ys) → IsSortedBy (λ (a b : Y). is_lt (key_cmp (f a).0 (f b).0)) ys
+pub neighbours : {X Y : Type 0} (f : Y → Entry X) (ys : List Y) → IsStrictlySortedBy (λ a b. key_cmp a.0 b.0) (map f ys) → IsSortedBy (λ (a b : Y). is_lt (key_cmp (f a).0 (f b).0)) ys
 neighbours f [] h k d low high = absurd (omega arith)
 neighbours f (p ∷ []) h k d low high = absurd (omega arith)
 neighbours f (p ∷ q ∷ s) h zero d low high = ap is_lt (reversed (f p).0 (f q).0 Less (rising_head (λ a b. key_cmp a.0 b.0) (f p) (map f (q ∷ s)) h).0)

@@ -1,5 +1,6 @@
 -- What a store of pages means at one moment, and what a call on it does.
-use Rattle.std.specs.Prelude.{◌≡◌, ℕ, ◌+◌, ◌≤◌, Option, Result, IfOk, OnOk, OnErr}
+use Rattle.std.specs.Prelude.{◌≡◌, ℕ, ◌+◌, ◌≤◌, Option, Result, Ok, Err, IfOk, OnOk, OnErr, option_copied}
+use Rattle.std.specs.Borrow.{Bor}
 use Rattle.store_base.specs.declared.store_fault.Fault.{Fault}
 use Rattle.store_base.specs.Faults.{disk_faults_after}
 use Rattle.store_model.specs.Labels.{Label}
@@ -50,6 +51,11 @@ pub record IsPageGet (old new : PagesState) (label : Label) (result : Result (Op
   pub lookups_most : new.lookups ≤ old.lookups + 1
   pub hidden : IsObservable new → IsObservable old
   pub observed : IsObservable old → GetsPage old new label result
+
+-- what an answer shows that hands out a reference to a page
+abbrev pub looked_at : Result (Option (Bor Page)) Fault → Result (Option Page) Fault
+looked_at (Ok page) = Ok (option_copied page)
+looked_at (Err fault) = Err fault
 
 -- a put of a page under its label, in the place of the one that was there
 pub record IsPagePut {T : Type 0} (old new : PagesState) (page : Page) (result : Result T Fault) : Type 0 where

@@ -35,7 +35,7 @@ pub fn cut_group(alloc: Global, level: u8, lead: &Lead, cells: &Cells) -> Result
     requires rising { IsStrictlySortedBy key_cmp (map (λ c. c.key) cells.now) }
     ensures { IfOk result (λ pages. pages ≡ group_pages level (lead_of lead.now) cells.now) }
 {
-    let mut pages = PageList::new(alloc);
+    let mut pages = PageList::with_room(alloc, cells.len() / u32::from(spelling::room(level)) + 1)?;
     append_group(&mut pages, level, lead, cells)?;
     Ok(pages)
 }
@@ -81,12 +81,17 @@ fn append_cells(cells: &mut Cells, page: &Page) -> Result<(), NoMemory>
     Ok(())
 }
 
-/// The cells of these pages, one page after another: of the pages that `cut_group` gives, the cells of the group.
+/// The cells of these pages, one page after another: of the pages that `cut_group` gives, the cells of the group. There is
+/// memory for one cell more.
 pub fn join_group(alloc: Global, pages: &PageList) -> Result<Cells, NoMemory>
     ensures cells { IfOk result (λ cells. cells ≡ flat_map (λ page. page.cells) pages.now) }
     ensures group { (level : ℕ) (lead : ModelLead) (cells : List ModelCell) → pages.now ≡ group_pages level lead cells → IfOk result (λ joined. joined ≡ cells) }
 {
-    let mut cells = Cells::new(alloc);
+    let room = pages
+        .as_slice()
+        .iter()
+        .fold(1_u32, |room, page| room.saturating_add(page.len()));
+    let mut cells = Cells::with_room(alloc, room)?;
     for page in pages.as_slice() {
         append_cells(&mut cells, page)?;
     }

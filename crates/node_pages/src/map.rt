@@ -78,6 +78,14 @@ impl Pages for MapPages {
         }
     }
 
+    fn look(&mut self, label: &Label) -> Result<Option<&Page>, Fault> {
+        self.lookups = self.lookups.saturating_add(1);
+        match place_of(&self.pages, label) {
+            Ok(at) => Ok(Some(&self.pages[at])),
+            Err(_) => Ok(None),
+        }
+    }
+
     fn put(&mut self, page: Page) -> Result<(), Fault> {
         match place_of(&self.pages, &page.label()) {
             Ok(at) => *self.pages[at] = page,

@@ -1,9 +1,11 @@
 //! What every store of pages offers, wherever the pages lie.
 
 ghost use Rattle.std.specs.Prelude.{◌<◌};
+ghost use Rattle.std.specs.Borrow.{sem};
 ghost use Rattle.std.specs.FinMap as maps;
+ghost use Rattle.std.specs.Io.BufRead.{Rests};
 ghost use Rattle.store_model.specs.PageMaps.{IsPageMap};
-ghost use Rattle.node_pages.specs.PagesState.{PagesState, IsObservable, IsPageGet, IsPagePut, IsPageDrop, most_pages};
+ghost use Rattle.node_pages.specs.PagesState.{PagesState, IsObservable, IsPageGet, IsPagePut, IsPageDrop, looked_at, most_pages};
 
 use crate::page::Page;
 use store_base::{Fault, Label};
@@ -25,6 +27,10 @@ pub trait Pages {
     fn get(&mut self, label: &Label) -> Result<Option<Page>, Fault>
         ensures call { IsPageGet (state self.old) (state self.new) label.now result }
         ensures follows { follows self.old self.new };
+
+    /// As `get`, with a reference to the page in the place of a copy. It may answer `Fault::NoMemory`.
+    fn look(&mut self, label: &Label) -> Result<Option<&Page>, Fault>
+        ensures* after_borrow { sem 𝓛 (Rests Self.row self.entry (λ new. IsPageGet (state self.old) (state new) label.now (looked_at result) × follows self.old new)) };
 
     /// Puts the page under its label, in the place of the one that was there. There have to be fewer than 2^32 - 1
     /// pages. After a fault the pages are as they were.

@@ -1,6 +1,6 @@
 //! Lists of cells, of pages and of pairs.
 
-ghost use Rattle.std.specs.Prelude.{◌≡◌, ◌<◌, ◌↔◌, [], ◌∷◌, ◌++◌, length, Some, OnOk, OnErr, IsTrue, slice_get};
+ghost use Rattle.std.specs.Prelude.{◌≡◌, ◌<◌, ◌≤◌, ◌↔◌, [], ◌∷◌, ◌++◌, length, insert, remove, Some, IfOk, OnOk, OnErr, IsTrue, slice_get, slice_index_or};
 
 use crate::cell::Cell;
 use crate::page::Page;
@@ -17,7 +17,7 @@ pub type PageList = Sequence<Page>;
 /// A list of pairs, each a key and its value.
 pub type PairList = Sequence<(Key, Value)>;
 
-/// A list of fewer than 2^32 items, which grows at its end. Contracts see it as the list of its items.
+/// A list of fewer than 2^32 items. Contracts see it as the list of its items.
 #[derive(Debug, Drop)]
 pub struct Sequence<T> {
     items: Vec<T>,
@@ -41,6 +41,15 @@ impl<T> Sequence<T> {
         Sequence {
             items: Vec::new(alloc),
         }
+    }
+
+    /// The empty list, with memory for so many items.
+    pub fn with_room(alloc: Global, room: u32) -> Result<Self, NoMemory>
+        ensures { IfOk result (λ list. list ≡ []) }
+    {
+        Ok(Sequence {
+            items: Vec::with_capacity(alloc, room as usize)?,
+        })
     }
 
     /// How many items it has.
@@ -80,6 +89,15 @@ impl<T> Sequence<T> {
     {
         &self.items[i as usize]
     }
+
+    /// Takes item `i` out, the first being 0. Those behind it move up.
+    pub fn remove(&mut self, i: u32) -> T
+        requires { i < length self.old }
+        ensures value { result ≡ slice_index_or self.old i result }
+        ensures rest { self.new ≡ remove self.old i }
+    {
+        self.items.remove(i as usize)
+    }
 }
 
 impl<T: Drop> Sequence<T> {
@@ -93,6 +111,18 @@ impl<T: Drop> Sequence<T> {
             return Err(NoMemory);
         }
         self.items.push(item)?;
+        Ok(())
+    }
+    /// Puts an item before item `i`, the first being 0, or at the end. `NoMemory` comes as from `push`, and leaves the list as it was.
+    pub fn insert(&mut self, i: u32, item: T) -> Result<(), NoMemory>
+        requires { i ≤ length self.old }
+        ensures ok { OnOk result (self.new ≡ insert self.old i item) }
+        ensures err { OnErr result (self.new ≡ self.old) }
+    {
+        if self.items.len() >= u32::MAX as usize {
+            return Err(NoMemory);
+        }
+        self.items.insert(i as usize, item)?;
         Ok(())
     }
 }
