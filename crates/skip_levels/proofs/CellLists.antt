@@ -1,5 +1,5 @@
 -- Cells that rise, one more behind them, and the cells on the sides of a key.
-use Rattle.std.proofs.Common.{◌≡◌, ℕ, suc, ◌+◌, ◌-◌, ◌<◌, List, [], ◌∷◌, ◌++◌, map, length, take, drop, get_or, Bool, true, false, cond, Some, None, Ordering, Less, Equal, Greater, refl, sym, ap, ap₂, subst, ◌∙◌, append_assoc, arith}
+use Rattle.std.proofs.Common.{◌≡◌, ℕ, suc, ◌+◌, ◌-◌, ◌<◌, List, [], ◌∷◌, ◌++◌, map, length, take, drop, get_or, Bool, true, false, cond, Some, None, Ordering, Less, Equal, Greater, refl, sym, ap, subst, ◌∙◌, append_assoc, arith}
 use Rattle.std.specs.Ordering.{is_lt}
 use Rattle.std.specs.List.{slice_get}
 use Rattle.std.specs.List.Sorted.{IsStrictlySortedBy}
@@ -118,17 +118,17 @@ not_both b holds fails = let e : true ≡ false = sym holds ∙ fails in cc
 -- ---- the cells of two groups on the sides of a key
 
 -- what was added step by step
-pub merged_cells : (level : ℕ) (key : List ℕ) (start lows highs own low high first second third : List Cell) → start ≡ [] → lows ≡ low → highs ≡ high → AreCells level (merged key low own high)
-    → (AreCells level (start ++ side Less key lows) → first ≡ start ++ side Less key lows) → (AreCells level (first ++ side Equal key own) → second ≡ first ++ side Equal key own)
-    → (AreCells level (second ++ side Greater key highs) → third ≡ second ++ side Greater key highs) → (first ≡ side Less key low) × (third ≡ merged key low own high)
-merged_cells level key start lows highs own low high first second third start_is lows_are highs_are valid one two three =
+pub merged_cells : (level : ℕ) (key : List ℕ) (start own low high first second third : List Cell) → start ≡ [] → AreCells level (merged key low own high)
+    → (AreCells level (start ++ side Less key low) → first ≡ start ++ side Less key low) → (AreCells level (first ++ side Equal key own) → second ≡ first ++ side Equal key own)
+    → (AreCells level (second ++ side Greater key high) → third ≡ second ++ side Greater key high) → (first ≡ side Less key low) × (third ≡ merged key low own high)
+merged_cells level key start own low high first second third start_is valid one two three =
     let below = side Less key low in
     let same = side Equal key own in
     let above = side Greater key high in
     let both : AreCells level (below ++ same) = front_cells level (below ++ same) above valid in
-    let s1 : start ++ side Less key lows ≡ below = ap₂ (λ a b. a ++ side Less key b) start_is lows_are in
+    let s1 : start ++ below ≡ below = ap (λ a. a ++ below) start_is in
     let e1 : first ≡ below = one (subst (AreCells level) (sym s1) (front_cells level below same both)) ∙ s1 in
     let s2 : first ++ same ≡ below ++ same = ap (λ a. a ++ same) e1 in
     let e2 : second ≡ below ++ same = two (subst (AreCells level) (sym s2) both) ∙ s2 in
-    let s3 : second ++ side Greater key highs ≡ merged key low own high = ap₂ (λ a b. a ++ side Greater key b) e2 highs_are in
+    let s3 : second ++ above ≡ merged key low own high = ap (λ a. a ++ above) e2 in
     (e1, three (subst (AreCells level) (sym s3) valid) ∙ s3)

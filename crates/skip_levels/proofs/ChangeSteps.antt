@@ -8,6 +8,7 @@ use Rattle.store_base.specs.Faults.{disk_faults_after}
 use Rattle.store_base.specs.Keys.{IsKey}
 use Rattle.store_base.specs.Leads.{lead_of}
 use Rattle.store_model.specs.Paths.{key_cmp}
+use Rattle.store_model.specs.Labels.{Lead}
 use Rattle.store_model.specs.Labels.Lead.{Leader}
 use Rattle.store_model.specs.Draws.{Draw}
 use Rattle.store_model.specs.Pairs.{Pair, IsValue}
@@ -15,18 +16,17 @@ use Rattle.store_model.specs.Pages.{Cell, cell_on}
 use Rattle.store_model.specs.PageMaps.{map_of_pages}
 use Rattle.node_pages.specs.PagesState.{PagesState, IsObservable}
 use Rattle.skip_levels.specs.CellChanges.{IsPagesCall, HasRoom, SetsCells, SplitsGroup, JoinsGroups}
-use Rattle.skip_levels.specs.Descent.{HoldsPairs, IsDescent}
+use Rattle.skip_levels.specs.Descent.{HoldsPairs}
 use Rattle.skip_levels.specs.Groups.{HoldsGroup}
 use Rattle.skip_levels.specs.PairChanges.{IsPutting, IsTaking, PutsPairFrom, TakesPairFrom}
 use Rattle.skip_levels.specs.PairsState.{without}
-use Rattle.skip_levels.specs.SearchPath.{leader_behind, group_cost, group_below, group_at_or_below, levels_cost, path_cost, path_cost_below, not_above, below, above}
-use Rattle.skip_levels.specs.declared.search.PathEnd.{PathEnd}
+use Rattle.skip_levels.specs.SearchPath.{leader_behind, group_cost, group_below, group_at_or_below, levels_cost, path_cost_below, not_above, below, above}
 use Rattle.skip_levels.proofs.LevelChanges.{pages_between, all_changed}
-use Rattle.skip_levels.proofs.PathCosts.{cost_within, cost_of_level, costs_from, costs_down, costs_within}
+use Rattle.skip_levels.proofs.PathCosts.{cost_of_level, levels_within, costs_from, costs_down, costs_within}
 use Rattle.skip_levels.proofs.PathLemmas.{holds_path}
 use Rattle.skip_levels.proofs.PlaceCosts.{low_group, high_group}
 use Rattle.skip_levels.proofs.PlaceGroups.{group_of_place}
-use Rattle.skip_levels.proofs.PlaceLists.{put_begins, put_first, put_below, floor_below, pair_there, take_begins, take_first, take_below}
+use Rattle.skip_levels.proofs.PlaceLists.{within, put_begins, put_first, put_below, floor_below, pair_there, take_within, take_begins, take_first, take_below}
 use Rattle.skip_levels.proofs.PlaceSteps.{SetsAt, SplitsAt, JoinsAt}
 use Rattle.skip_levels.proofs.ValueLemmas.{same_count}
 
@@ -44,129 +44,106 @@ fails_behind {A} {B} {C} old mid new a fault h g = record {
   observable = λ o. g.observable (h.observable o);
 }
 
-descent_call : {C : Type 0} (old new : PagesState) (height bottom : ℕ) (key : List ℕ) (fault : Fault) → IsDescent old new height bottom key (Err fault) → IsPagesCall {T = C} old new (Err fault)
-descent_call {C} old new height bottom key fault h = record { faults = h.faults ∙ same_count PathEnd C old.faults fault; lookups_kept = h.lookups_kept; hidden = h.hidden; observable = λ o. (h.observed o).observable }
+-- and one alone
+failed_call : {A C : Type 0} (old new : PagesState) (fault : Fault) → IsPagesCall {T = A} old new (Err fault) → IsPagesCall {T = C} old new (Err fault)
+failed_call {A} {C} old new fault h = record { faults = h.faults ∙ same_count A C old.faults fault; lookups_kept = h.lookups_kept; hidden = h.hidden; observable = h.observable }
 
-descended_call : (old new : PagesState) (height bottom : ℕ) (key : List ℕ) (end : PathEnd) → IsDescent old new height bottom key (Ok end) → IsPagesCall {T = PathEnd} old new (Ok end)
-descended_call old new height bottom key end h = record { faults = h.faults; lookups_kept = h.lookups_kept; hidden = h.hidden; observable = λ o. (h.observed o).observable }
+-- ---- the first level
+
+module _ (old new : PagesState) (top : ℕ) (lead : Lead) (key : List ℕ) (d : Draw) (s : List Pair) where
+  -- what reading its group costs
+  cost_of_first : HoldsPairs d s old.pages → lead ≡ leader_behind d top (not_above key s) → top < d.height → ((cells : List Cell) → HoldsGroup old.pages top lead cells → new.lookups ≤ old.lookups + group_cost top cells)
+      → new.lookups ≤ old.lookups + levels_cost d s key top (suc top - top)
+  cost_of_first holds leads within more =
+      let group = group_of_place d top (not_above key s) (above key s) in
+      omega (arith, more group (subst (λ l. HoldsGroup old.pages top l group) (sym leads) (holds_path d s old top key holds within)), cost_of_level d s key top (suc top) holds.pairs (omega arith))
 
 -- ---- a value put
 
-module _ (old : PagesState) (height top : ℕ) (key value : List ℕ) where
+module _ (old : PagesState) (top : ℕ) (first : Lead) (key value : List ℕ) where
   -- the map is that of the new list from a level on, and this leads the group of the next lower level
   pub record IsDown (now : PagesState) (level : ℕ) (lead : declared.Lead) (d : Draw) (s : List Pair) : Type 0 where
     pub pages_are : now.pages ≡ map_of_pages (pages_between d s (put key_cmp key value s) level)
     pub leads : (lower : ℕ) → level ≡ suc lower → lead_of lead ≡ leader_behind d lower (below key s)
-    pub lookups : now.lookups ≤ old.lookups + levels_cost d s key level (height - level)
+    pub lookups : now.lookups ≤ old.lookups + levels_cost d s key level (suc top - level)
 
   pub record PutDown (now : PagesState) (level : ℕ) (lead : declared.Lead) : Type 0 where
     pub call : IsPagesCall {T = Unit {0}} old now (Ok (tt {0}))
-    pub down : IsObservable old → (d : Draw) (s : List Pair) → IsPutting d s old.pages height top key → IsDown now level lead d s
+    pub down : IsObservable old → (d : Draw) (s : List Pair) → IsPutting d s old.pages top first key → IsDown now level lead d s
 
-  -- the levels from one on cost no more than the whole path
-  path_within : (d : Draw) (s : List Pair) (level : ℕ) → height ≡ d.height → level ≤ height → levels_cost d s key level (height - level) ≤ path_cost d s key
-  path_within d s level high within =
-      let all : height - 0 ≡ d.height = omega (arith, high) in
-      subst (λ n. levels_cost d s key level (height - level) ≤ levels_cost d s key 0 n) all (cost_within d s key 0 level height (omega arith) within)
-
-  pub put_no_path : (mid : PagesState) (fault : Fault) → top < height → IsDescent old mid height top key (Err fault) → PutsPairFrom {T = Unit {0}} old mid height top key value (Err fault)
-  put_no_path mid fault within descent = record {
-    call = descent_call old mid height top key fault descent;
+  pub put_lacks_cell : PutsPairFrom {T = Unit {0}} old old top first key value (Err NoMemory)
+  put_lacks_cell = record {
+    call = record { faults = refl; lookups_kept = omega arith; hidden = λ o. o; observable = λ o. o };
     put = λ o d s h. tt;
-    lookups = λ o d s h. let whole = path_within d s (suc top) h.high (omega arith) in omega (arith, (descent.observed o).lookups d s h.holds h.high);
+    lookups = λ o d s h. omega arith;
   }
 
-  pub put_lacks_memory : (now : PagesState) (level : ℕ) (lead : declared.Lead) → PutDown now level lead → level ≤ top → top < height → PutsPairFrom {T = Unit {0}} old now height top key value (Err NoMemory)
-  put_lacks_memory now level lead w low within = record {
+  pub put_lacks_memory : (now : PagesState) (level : ℕ) (lead : declared.Lead) → PutDown now level lead → level ≤ top → PutsPairFrom {T = Unit {0}} old now top first key value (Err NoMemory)
+  put_lacks_memory now level lead w low = record {
     call = memory_lacks old now (tt {0}) w.call;
     put = λ o d s h. tt;
-    lookups = λ o d s h. let whole = path_within d s level h.high (omega arith) in omega (arith, (w.down o d s h).lookups);
+    lookups = λ o d s h. omega (arith, (w.down o d s h).lookups, levels_within d s key level top (omega arith));
   }
 
-  module _ (mid : PagesState) (end : PathEnd) (descent : IsDescent old mid height top key (Ok end)) (within : top < height) where
-    -- the map is as it was, and the descent found what leads the group of the first level
-    descended : (o : IsObservable old) (d : Draw) (s : List Pair) → HoldsPairs d s old.pages → height ≡ d.height → lead_of end.lead ≡ leader_behind d top (not_above key s)
-    descended o d s holds high = (descent.observed o).lead d s holds high
+  module _ (is_key : IsKey key) (is_value : IsValue value) where
+    pub first_to_put : (d : Draw) (s : List Pair) (h : IsPutting d s old.pages top first key) → SetsAt old.pages d top first s (put key_cmp key value s) key (cell_on top (key, value) ∷ []) (below key s)
+    first_to_put d s h =
+        subst (λ l. SetsAt old.pages d top l s (put key_cmp key value s) key (cell_on top (key, value) ∷ []) (below key s)) (sym h.leads)
+        (put_first d s old.pages top first key value h is_key is_value old.pages (h.holds.map_is ∙ ap map_of_pages (sym (put_begins d s old.pages top first key value h is_key is_value))))
 
-    group_held : (o : IsObservable old) (d : Draw) (s : List Pair) → HoldsPairs d s old.pages → height ≡ d.height → HoldsGroup mid.pages top (lead_of end.lead) (group_of_place d top (not_above key s) (above key s))
-    group_held o d s holds high =
-        subst (λ m. HoldsGroup m top (lead_of end.lead) (group_of_place d top (not_above key s) (above key s))) (sym (descent.observed o).unchanged)
-        (subst (λ l. HoldsGroup old.pages top l (group_of_place d top (not_above key s) (above key s))) (sym (descended o d s holds high)) (holds_path d s old top key holds (omega arith)))
+    pub room_for_first : (IsObservable old → (d : Draw) × (s : List Pair) × IsPutting d s old.pages top first key) → IsObservable old → HasRoom old.pages top first
+    room_for_first place o = let p = place o in (first_to_put p.0 p.1 p.2).room
 
-    pub put_lacks_cell : PutsPairFrom {T = Unit {0}} old mid height top key value (Err NoMemory)
-    put_lacks_cell = record {
-      call = memory_lacks old mid end (descended_call old mid height top key end descent);
-      put = λ o d s h. tt;
-      lookups = λ o d s h. let whole = path_within d s (suc top) h.high (omega arith) in omega (arith, (descent.observed o).lookups d s h.holds h.high);
-    }
+    module _ (new : PagesState) (own : List Cell) where
+      pub put_not_set : (fault : Fault) → SetsCells old new top first key own (Err fault) → PutsPairFrom {T = Unit {0}} old new top first key value (Err fault)
+      put_not_set fault set = record {
+        call = failed_call old new fault set.call;
+        put = λ o d s h. tt;
+        lookups = λ o d s h. omega (
+          arith,
+          cost_of_first old new top first key d s h.holds h.leads (within d s old.pages top first key value h is_key is_value) (λ cells holds. set.lookups o cells holds),
+          levels_within d s key top top (omega arith),
+        );
+      }
 
-    -- what reading that group costs with the levels above
-    pub cost_to : (new : PagesState) (o : IsObservable old) (d : Draw) (s : List Pair) → HoldsPairs d s old.pages → height ≡ d.height → ((cells : List Cell) → HoldsGroup mid.pages top (lead_of end.lead) cells → new.lookups ≤ mid.lookups + group_cost top cells)
-        → new.lookups ≤ old.lookups + levels_cost d s key top (height - top)
-    cost_to new o d s holds high more =
-        omega (arith, more (group_of_place d top (not_above key s) (above key s)) (group_held o d s holds high), (descent.observed o).lookups d s holds high, cost_of_level d s key top height holds.pairs within)
-
-    pub put_not_set : (new : PagesState) (own : List Cell) (fault : Fault) → SetsCells mid new top (lead_of end.lead) key own (Err fault) → PutsPairFrom {T = Unit {0}} old new height top key value (Err fault)
-    put_not_set new own fault set = record {
-      call = fails_behind old mid new end fault (descended_call old mid height top key end descent) set.call;
-      put = λ o d s h. tt;
-      lookups = λ o d s h.
-          let cost = cost_to new o d s h.holds h.high (λ cells holds. set.lookups (descent.observed o).observable cells holds) in
-          let whole = path_within d s top h.high (omega arith) in
-          omega arith;
-    }
-
-    module _ (is_key : IsKey key) (is_value : IsValue value) where
-      pub first_to_put : (o : IsObservable old) (d : Draw) (s : List Pair) (h : IsPutting d s old.pages height top key) → SetsAt mid.pages d top (lead_of end.lead) s (put key_cmp key value s) key (cell_on top (key, value) ∷ []) (below key s)
-      first_to_put o d s h =
-          subst (λ l. SetsAt mid.pages d top l s (put key_cmp key value s) key (cell_on top (key, value) ∷ []) (below key s)) (sym (descended o d s h.holds h.high))
-          (put_first d s old.pages height top key value h is_key is_value mid.pages
-          ((descent.observed o).unchanged ∙ h.holds.map_is ∙ ap map_of_pages (sym (put_begins d s old.pages height top key value h is_key is_value))))
-
-      pub room_for_first : (IsObservable old → (d : Draw) × (s : List Pair) × IsPutting d s old.pages height top key) → IsObservable mid → HasRoom mid.pages top (lead_of end.lead)
-      room_for_first place o = let p = place (descent.hidden o) in (first_to_put (descent.hidden o) p.0 p.1 p.2).room
-
-      pub put_starts : (new : PagesState) (own : List Cell) (lead : declared.Lead) → own ≡ cell_on top (key, value) ∷ [] → SetsCells mid new top (lead_of end.lead) key own (Ok lead) → PutDown new top lead
-      put_starts new own lead own_is set = record {
-        call = record { faults = set.call.faults ∙ descent.faults; lookups_kept = omega (arith, set.call.lookups_kept, descent.lookups_kept); hidden = λ o. descent.hidden (set.call.hidden o); observable = λ o. set.call.observable (descent.observed o).observable };
+      pub put_starts : (next : declared.Lead) → own ≡ cell_on top (key, value) ∷ [] → SetsCells old new top first key own (Ok next) → PutDown new top next
+      put_starts next own_is set = record {
+        call = record { faults = set.call.faults; lookups_kept = set.call.lookups_kept; hidden = set.call.hidden; observable = set.call.observable };
         down = λ o d s h.
-            let at = first_to_put o d s h in
-            let seen = (descent.observed o).observable in
-            let done = (subst (λ cells. SetsCells mid new top (lead_of end.lead) key cells (Ok lead)) own_is set).set seen at.cells at.front at.back at.setting in
+            let at = first_to_put d s h in
+            let done = (subst (λ cells. SetsCells old new top first key cells (Ok next)) own_is set).set o at.cells at.front at.back at.setting in
             record {
               pages_are = done.pages_are ∙ ap map_of_pages at.after;
               leads = λ lower is. done.next_is ∙ sym (at.next lower is);
-              lookups = cost_to new o d s h.holds h.high (λ cells holds. set.lookups seen cells holds);
+              lookups = cost_of_first old new top first key d s h.holds h.leads (within d s old.pages top first key value h is_key is_value) (λ cells holds. set.lookups o cells holds);
             };
       }
 
-  module _ (now : PagesState) (level : ℕ) (lead : declared.Lead) (w : PutDown now (suc level) lead) (lower : level < top) (within : top < height) (is_key : IsKey key) (is_value : IsValue value) where
-    pub next_to_put : (o : IsObservable old) (d : Draw) (s : List Pair) (h : IsPutting d s old.pages height top key) → SplitsAt now.pages d level (lead_of lead) s (put key_cmp key value s) key (cell_on level (key, value) ∷ []) (below key s) (above key s)
+  module _ (now : PagesState) (level : ℕ) (lead : declared.Lead) (w : PutDown now (suc level) lead) (lower : level < top) (is_key : IsKey key) (is_value : IsValue value) where
+    pub next_to_put : (o : IsObservable old) (d : Draw) (s : List Pair) (h : IsPutting d s old.pages top first key) → SplitsAt now.pages d level (lead_of lead) s (put key_cmp key value s) key (cell_on level (key, value) ∷ []) (below key s) (above key s)
     next_to_put o d s h =
         let n = w.down o d s h in
         let next : suc level ≡ level + 1 = omega arith in
         subst (λ l. SplitsAt now.pages d level l s (put key_cmp key value s) key (cell_on level (key, value) ∷ []) (below key s) (above key s)) (sym (n.leads level refl))
-        (put_below d s old.pages height top key value h is_key is_value now.pages level lower (n.pages_are ∙ ap (λ k. map_of_pages (pages_between d s (put key_cmp key value s) k)) next))
+        (put_below d s old.pages top first key value h is_key is_value now.pages level lower (n.pages_are ∙ ap (λ k. map_of_pages (pages_between d s (put key_cmp key value s) k)) next))
 
-    pub room_for_next : (IsObservable old → (d : Draw) × (s : List Pair) × IsPutting d s old.pages height top key) → IsObservable now → HasRoom now.pages level (lead_of lead)
+    pub room_for_next : (IsObservable old → (d : Draw) × (s : List Pair) × IsPutting d s old.pages top first key) → IsObservable now → HasRoom now.pages level (lead_of lead)
     room_for_next place o = let p = place (w.call.hidden o) in (next_to_put (w.call.hidden o) p.0 p.1 p.2).room
 
-    pub cost_down : (new : PagesState) (o : IsObservable old) (d : Draw) (s : List Pair) (h : IsPutting d s old.pages height top key) → ((cells : List Cell) → HoldsGroup now.pages level (lead_of lead) cells → new.lookups ≤ now.lookups + group_cost level cells)
-        → new.lookups ≤ old.lookups + levels_cost d s key level (height - level)
+    pub cost_down : (new : PagesState) (o : IsObservable old) (d : Draw) (s : List Pair) (h : IsPutting d s old.pages top first key) → ((cells : List Cell) → HoldsGroup now.pages level (lead_of lead) cells → new.lookups ≤ now.lookups + group_cost level cells)
+        → new.lookups ≤ old.lookups + levels_cost d s key level (suc top - level)
     cost_down new o d s h more =
         let at = next_to_put o d s h in
-        let floor = floor_below d s old.pages height top key value h is_key is_value level lower in
+        let floor = floor_below d s old.pages top first key value h is_key is_value level lower in
         let same : group_cost level at.cells ≡ group_cost level (group_of_place d level (not_above key s) (above key s)) = ap (group_cost level) (at.cells_are ∙ ap (λ low. group_of_place d level low (above key s)) (sym floor)) in
-        omega (arith, more at.cells at.splitting.holds, same, (w.down o d s h).lookups, cost_of_level d s key level height h.holds.pairs (omega arith))
+        omega (arith, more at.cells at.splitting.holds, same, (w.down o d s h).lookups, cost_of_level d s key level (suc top) h.holds.pairs (omega arith))
 
-    pub put_not_split : (new : PagesState) (own : List Cell) (fault : Fault) → SplitsGroup now new level (lead_of lead) key own (Err fault) → PutsPairFrom {T = Unit {0}} old new height top key value (Err fault)
+    pub put_not_split : (new : PagesState) (own : List Cell) (fault : Fault) → SplitsGroup now new level (lead_of lead) key own (Err fault) → PutsPairFrom {T = Unit {0}} old new top first key value (Err fault)
     put_not_split new own fault split = record {
       call = fails_behind old now new (tt {0}) fault w.call split.call;
       put = λ o d s h. tt;
       lookups = λ o d s h.
-          let cost = cost_down new o d s h (λ cells holds. split.lookups (w.call.observable o) cells holds) in
-          let whole = path_within d s level h.high (omega arith) in
-          omega arith;
+          omega (arith, cost_down new o d s h (λ cells holds. split.lookups (w.call.observable o) cells holds), levels_within d s key level top (omega arith));
     }
 
     pub put_goes_on : (new : PagesState) (own : List Cell) (next : declared.Lead) → own ≡ cell_on level (key, value) ∷ [] → SplitsGroup now new level (lead_of lead) key own (Ok next) → PutDown new level next
@@ -183,11 +160,11 @@ module _ (old : PagesState) (height top : ℕ) (key value : List ℕ) where
           };
     }
 
-  pub put_ends : (now : PagesState) (level : ℕ) (lead : declared.Lead) → PutDown now level lead → level ≡ 0 → PutsPairFrom {T = Unit {0}} old now height top key value (Ok (tt {0}))
+  pub put_ends : (now : PagesState) (level : ℕ) (lead : declared.Lead) → PutDown now level lead → level ≡ 0 → PutsPairFrom {T = Unit {0}} old now top first key value (Ok (tt {0}))
   put_ends now level lead w is_0 = record {
     call = w.call;
     put = λ o d s h. (w.down o d s h).pages_are ∙ ap (λ k. map_of_pages (pages_between d s (put key_cmp key value s) k)) is_0 ∙ ap map_of_pages (all_changed d s (put key_cmp key value s));
-    lookups = λ o d s h. let n = (w.down o d s h).lookups in let whole = path_within d s level h.high (omega arith) in omega arith;
+    lookups = λ o d s h. omega (arith, (w.down o d s h).lookups, levels_within d s key level top (omega arith));
   }
 
 -- ---- a pair taken out
@@ -199,74 +176,63 @@ cost_at d s key level = group_cost level (group_at_or_below d s level key)
 abbrev cost_below : Draw → List Pair → List ℕ → ℕ → ℕ
 cost_below d s key level = group_cost level (group_below d s level key)
 
-module _ (old : PagesState) (height top : ℕ) (key : List ℕ) where
-  -- the levels from one on cost no more than both search paths
-  paths_within : (d : Draw) (s : List Pair) (level : ℕ) → height ≡ d.height → level ≤ height
-      → levels_cost d s key level (height - level) + costs_from (cost_below d s key) level (height - level) ≤ path_cost d s key + path_cost_below d s key
-  paths_within d s level high within =
-      let at : costs_from (cost_at d s key) 0 height ≡ path_cost d s key = ap (costs_from (cost_at d s key) 0) high in
-      let under : costs_from (cost_below d s key) 0 height ≡ path_cost_below d s key = ap (costs_from (cost_below d s key) 0) high in
-      omega (arith, at, under, costs_within (cost_at d s key) level height within, costs_within (cost_below d s key) level height within)
+module _ (old : PagesState) (top : ℕ) (first : Lead) (key : List ℕ) where
+  -- what the levels from one on cost, up to this one at or below the key, and strictly below it
+  abbrev cost_of_both : Draw → List Pair → ℕ → ℕ
+  cost_of_both d s level = levels_cost d s key level (suc top - level) + costs_from (cost_below d s key) level (d.height - level)
+
+  both_within : (d : Draw) (s : List Pair) (level : ℕ) → level ≤ top → top < d.height → cost_of_both d s level ≤ levels_cost d s key 0 (suc top) + path_cost_below d s key
+  both_within d s level low within = omega (arith, levels_within d s key level top (omega arith), costs_within (cost_below d s key) level d.height (omega arith))
 
   pub record IsTakenDown (now : PagesState) (level : ℕ) (lead : declared.Lead) (d : Draw) (s : List Pair) : Type 0 where
     pub pages_are : now.pages ≡ map_of_pages (pages_between d s (without key s) level)
     pub leads : (lower : ℕ) → level ≡ suc lower → lead_of lead ≡ leader_behind d lower (below key s)
-    pub lookups : now.lookups ≤ old.lookups + (levels_cost d s key level (height - level) + costs_from (cost_below d s key) level (height - level))
+    pub lookups : now.lookups ≤ old.lookups + cost_of_both d s level
 
   pub record TakenDown (now : PagesState) (level : ℕ) (lead : declared.Lead) : Type 0 where
     pub call : IsPagesCall {T = Unit {0}} old now (Ok (tt {0}))
-    pub down : IsObservable old → (d : Draw) (s : List Pair) → IsTaking d s old.pages height top key → IsTakenDown now level lead d s
+    pub down : IsObservable old → (d : Draw) (s : List Pair) → IsTaking d s old.pages top first key → IsTakenDown now level lead d s
 
-  pub take_no_path : (mid : PagesState) (fault : Fault) → top < height → IsDescent old mid height top key (Err fault) → TakesPairFrom {T = Unit {0}} old mid height top key (Err fault)
-  take_no_path mid fault within descent = record {
-    call = descent_call old mid height top key fault descent;
-    taken = λ o d s h. tt;
-    lookups = λ o d s h. let whole = paths_within d s (suc top) h.high (omega arith) in omega (arith, (descent.observed o).lookups d s h.holds h.high);
-  }
+  pub first_to_take : (d : Draw) (s : List Pair) (h : IsTaking d s old.pages top first key) → SetsAt old.pages d top first s (without key s) key [] (below key s)
+  first_to_take d s h =
+      subst (λ l. SetsAt old.pages d top l s (without key s) key [] (below key s)) (sym h.leads)
+      (take_first d s old.pages top first key h old.pages (h.holds.map_is ∙ ap map_of_pages (sym (take_begins d s old.pages top first key h))))
 
-  module _ (mid : PagesState) (end : PathEnd) (descent : IsDescent old mid height top key (Ok end)) (within : top < height) where
-    pub take_not_set : (new : PagesState) (own : List Cell) (fault : Fault) → SetsCells mid new top (lead_of end.lead) key own (Err fault) → TakesPairFrom {T = Unit {0}} old new height top key (Err fault)
-    take_not_set new own fault set = record {
-      call = fails_behind old mid new end fault (descended_call old mid height top key end descent) set.call;
+  pub room_to_take : (IsObservable old → (d : Draw) × (s : List Pair) × IsTaking d s old.pages top first key) → IsObservable old → HasRoom old.pages top first
+  room_to_take place o = let p = place o in (first_to_take p.0 p.1 p.2).room
+
+  module _ (new : PagesState) (own : List Cell) where
+    pub take_not_set : (fault : Fault) → SetsCells old new top first key own (Err fault) → TakesPairFrom {T = Unit {0}} old new top first key (Err fault)
+    take_not_set fault set = record {
+      call = failed_call old new fault set.call;
       taken = λ o d s h. tt;
       lookups = λ o d s h.
-          let cost = cost_to old height top key [] mid end descent within new o d s h.holds h.high (λ cells holds. set.lookups (descent.observed o).observable cells holds) in
-          let whole = paths_within d s top h.high (omega arith) in
-          omega arith;
+          let within = take_within d s old.pages top first key h in
+          omega (arith, cost_of_first old new top first key d s h.holds h.leads within (λ cells holds. set.lookups o cells holds), both_within d s top (omega arith) within);
     }
 
-    pub first_to_take : (o : IsObservable old) (d : Draw) (s : List Pair) (h : IsTaking d s old.pages height top key) → SetsAt mid.pages d top (lead_of end.lead) s (without key s) key [] (below key s)
-    first_to_take o d s h =
-        subst (λ l. SetsAt mid.pages d top l s (without key s) key [] (below key s)) (sym ((descent.observed o).lead d s h.holds h.high))
-        (take_first d s old.pages height top key h mid.pages ((descent.observed o).unchanged ∙ h.holds.map_is ∙ ap map_of_pages (sym (take_begins d s old.pages height top key h))))
-
-    pub room_to_take : (IsObservable old → (d : Draw) × (s : List Pair) × IsTaking d s old.pages height top key) → IsObservable mid → HasRoom mid.pages top (lead_of end.lead)
-    room_to_take place o = let p = place (descent.hidden o) in (first_to_take (descent.hidden o) p.0 p.1 p.2).room
-
-    pub take_starts : (new : PagesState) (own : List Cell) (lead : declared.Lead) → own ≡ [] → SetsCells mid new top (lead_of end.lead) key own (Ok lead) → TakenDown new top lead
-    take_starts new own lead own_is set = record {
-      call = record { faults = set.call.faults ∙ descent.faults; lookups_kept = omega (arith, set.call.lookups_kept, descent.lookups_kept); hidden = λ o. descent.hidden (set.call.hidden o); observable = λ o. set.call.observable (descent.observed o).observable };
+    pub take_starts : (next : declared.Lead) → own ≡ [] → SetsCells old new top first key own (Ok next) → TakenDown new top next
+    take_starts next own_is set = record {
+      call = record { faults = set.call.faults; lookups_kept = set.call.lookups_kept; hidden = set.call.hidden; observable = set.call.observable };
       down = λ o d s h.
-          let at = first_to_take o d s h in
-          let done = (subst (λ cells. SetsCells mid new top (lead_of end.lead) key cells (Ok lead)) own_is set).set (descent.observed o).observable at.cells at.front at.back at.setting in
+          let at = first_to_take d s h in
+          let done = (subst (λ cells. SetsCells old new top first key cells (Ok next)) own_is set).set o at.cells at.front at.back at.setting in
           record {
             pages_are = done.pages_are ∙ ap map_of_pages at.after;
             leads = λ lower is. done.next_is ∙ sym (at.next lower is);
-            lookups =
-                let cost = cost_to old height top key [] mid end descent within new o d s h.holds h.high (λ cells holds. set.lookups (descent.observed o).observable cells holds) in
-                omega arith;
+            lookups = omega (arith, cost_of_first old new top first key d s h.holds h.leads (take_within d s old.pages top first key h) (λ cells holds. set.lookups o cells holds));
           };
     }
 
-  module _ (now : PagesState) (level : ℕ) (lead : declared.Lead) (w : TakenDown now (suc level) lead) (lower : level < top) (within : top < height) where
-    pub next_to_take : (o : IsObservable old) (d : Draw) (s : List Pair) (h : IsTaking d s old.pages height top key) → JoinsAt now.pages d level (lead_of lead) s (without key s) key (below key s) (above key s) (key, h.value)
+  module _ (now : PagesState) (level : ℕ) (lead : declared.Lead) (w : TakenDown now (suc level) lead) (lower : level < top) where
+    pub next_to_take : (o : IsObservable old) (d : Draw) (s : List Pair) (h : IsTaking d s old.pages top first key) → JoinsAt now.pages d level (lead_of lead) s (without key s) key (below key s) (above key s) (key, h.value)
     next_to_take o d s h =
         let n = w.down o d s h in
         let next : suc level ≡ level + 1 = omega arith in
         subst (λ l. JoinsAt now.pages d level l s (without key s) key (below key s) (above key s) (key, h.value)) (sym (n.leads level refl))
-        (take_below d s old.pages height top key h now.pages level lower (n.pages_are ∙ ap (λ k. map_of_pages (pages_between d s (without key s) k)) next))
+        (take_below d s old.pages top first key h now.pages level lower (n.pages_are ∙ ap (λ k. map_of_pages (pages_between d s (without key s) k)) next))
 
-    module _ (place : IsObservable old → (d : Draw) × (s : List Pair) × IsTaking d s old.pages height top key) where
+    module _ (place : IsObservable old → (d : Draw) × (s : List Pair) × IsTaking d s old.pages top first key) where
       pub room_to_join_low : IsObservable now → HasRoom now.pages level (lead_of lead)
       room_to_join_low o = let p = place (w.call.hidden o) in (next_to_take (w.call.hidden o) p.0 p.1 p.2).room
 
@@ -274,13 +240,13 @@ module _ (old : PagesState) (height top : ℕ) (key : List ℕ) where
       room_to_join_own o = let p = place (w.call.hidden o) in (next_to_take (w.call.hidden o) p.0 p.1 p.2).own_room
 
     -- what reading both groups costs with the levels above
-    cost_of_both : (new : PagesState) (o : IsObservable old) (d : Draw) (s : List Pair) (h : IsTaking d s old.pages height top key)
+    with_both : (new : PagesState) (o : IsObservable old) (d : Draw) (s : List Pair) (h : IsTaking d s old.pages top first key)
         → ((low high : List Cell) → HoldsGroup now.pages level (lead_of lead) low → HoldsGroup now.pages level (Leader key) high → new.lookups ≤ now.lookups + (group_cost level low + group_cost level high))
-        → new.lookups ≤ old.lookups + (levels_cost d s key level (height - level) + costs_from (cost_below d s key) level (height - level))
-    cost_of_both new o d s h more =
+        → new.lookups ≤ old.lookups + cost_of_both d s level
+    with_both new o d s h more =
         let at = next_to_take o d s h in
         let under : level < d.level key = omega (arith, h.own) in
-        let there = pair_there d s old.pages height top key h in
+        let there = pair_there d s old.pages top first key h in
         let low : group_cost level at.lows ≡ cost_below d s key level = ap (group_cost level) (at.lows_are ∙ low_group d level key h.value s there h.holds.pairs under) in
         let high : group_cost level at.highs ≡ cost_at d s key level = ap (group_cost level) (at.highs_are ∙ high_group d level key h.value s there h.holds.pairs under) in
         omega (
@@ -289,18 +255,16 @@ module _ (old : PagesState) (height top : ℕ) (key : List ℕ) where
           low,
           high,
           (w.down o d s h).lookups,
-          costs_down (cost_at d s key) level height (omega arith),
-          costs_down (cost_below d s key) level height (omega arith),
+          costs_down (cost_at d s key) level (suc top) (omega arith),
+          costs_down (cost_below d s key) level d.height (omega (arith, take_within d s old.pages top first key h)),
         )
 
-    pub take_not_joined : (new : PagesState) (fault : Fault) → JoinsGroups now new level (lead_of lead) key (Err fault) → TakesPairFrom {T = Unit {0}} old new height top key (Err fault)
+    pub take_not_joined : (new : PagesState) (fault : Fault) → JoinsGroups now new level (lead_of lead) key (Err fault) → TakesPairFrom {T = Unit {0}} old new top first key (Err fault)
     take_not_joined new fault join = record {
       call = fails_behind old now new (tt {0}) fault w.call join.call;
       taken = λ o d s h. tt;
       lookups = λ o d s h.
-          let cost = cost_of_both new o d s h (λ low high a b. join.lookups (w.call.observable o) low high a b) in
-          let whole = paths_within d s level h.high (omega arith) in
-          omega arith;
+          omega (arith, with_both new o d s h (λ low high a b. join.lookups (w.call.observable o) low high a b), both_within d s level (omega arith) (take_within d s old.pages top first key h));
     }
 
     pub take_goes_on : (new : PagesState) (next : declared.Lead) → JoinsGroups now new level (lead_of lead) key (Ok next) → TakenDown new level next
@@ -312,13 +276,13 @@ module _ (old : PagesState) (height top : ℕ) (key : List ℕ) where
           record {
             pages_are = done.pages_are ∙ ap map_of_pages at.after;
             leads = λ lower is. done.next_is ∙ sym (at.next lower is);
-            lookups = cost_of_both new o d s h (λ low high a b. join.lookups (w.call.observable o) low high a b);
+            lookups = with_both new o d s h (λ low high a b. join.lookups (w.call.observable o) low high a b);
           };
     }
 
-  pub take_ends : (now : PagesState) (level : ℕ) (lead : declared.Lead) → TakenDown now level lead → level ≡ 0 → TakesPairFrom {T = Unit {0}} old now height top key (Ok (tt {0}))
+  pub take_ends : (now : PagesState) (level : ℕ) (lead : declared.Lead) → TakenDown now level lead → level ≡ 0 → TakesPairFrom {T = Unit {0}} old now top first key (Ok (tt {0}))
   take_ends now level lead w is_0 = record {
     call = w.call;
     taken = λ o d s h. (w.down o d s h).pages_are ∙ ap (λ k. map_of_pages (pages_between d s (without key s) k)) is_0 ∙ ap map_of_pages (all_changed d s (without key s));
-    lookups = λ o d s h. let n = (w.down o d s h).lookups in let whole = paths_within d s level h.high (omega arith) in omega arith;
+    lookups = λ o d s h. omega (arith, (w.down o d s h).lookups, both_within d s level (omega arith) (take_within d s old.pages top first key h));
   }

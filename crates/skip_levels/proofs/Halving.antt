@@ -52,7 +52,7 @@ goes_past key (c ∷ cells) (suc i) cell rising at passes =
     key_at (x ∷ xs) zero h at = subst (λ (y : Cell). key_cmp c.key y.key ≡ Less) (same_cell x cell at) h.0
     key_at (x ∷ xs) (suc j) h at = key_at xs j h.1 at
 
-cell_at : (cells : List Cell) (i : ℕ) → i < length cells → (cell : Cell) × (slice_get cells i ≡ Some cell)
+pub cell_at : (cells : List Cell) (i : ℕ) → i < length cells → (cell : Cell) × (slice_get cells i ≡ Some cell)
 cell_at [] i below = absurd (omega arith)
 cell_at (c ∷ cells) zero below = (c, refl)
 cell_at (c ∷ cells) (suc i) below = cell_at cells i (omega arith)

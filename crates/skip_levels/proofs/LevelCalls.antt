@@ -1,5 +1,6 @@
 -- The calls that change one level: read, merged and written, a group after another.
 use Rattle.std.proofs.Common.{◌≡◌, ℕ, ◌+◌, ◌<◌, ◌≤◌, List, [], ◌++◌, length, Ok, refl, sym, ap, subst, ◌∙◌, append_assoc, arith}
+use Rattle.std.proofs.Math.Path.{subst₂}
 use Rattle.std.specs.FinMap as maps
 use Rattle.store_base.specs.declared.label.Lead as declared
 use Rattle.store_model.specs.Labels.{Lead}
@@ -18,24 +19,25 @@ use Rattle.skip_levels.proofs.GroupReads.{few_group_pages}
 pub no_group_pages : (level : ℕ) (lead : Lead) → group_pages level lead [] ≡ []
 no_group_pages level lead = sym (all_pages level lead []) ∙ no_page level lead 0 [] refl
 
--- what merging the cells of two lists of pages makes
-abbrev pub Merges : ℕ → Lead → List ℕ → List Cell → List Page → List Page → declared.Lead → List Cell → Type 0
-Merges level lead key own low high next cells = (lows highs : List Cell) (low_lead high_lead : Lead) → low ≡ group_pages level low_lead lows → high ≡ group_pages level high_lead highs → AreCells level (merged key lows own highs)
-    → IsMerged lead key lows own highs (next, cells)
+-- the cells of pages, if these are those of a group
+abbrev pub Joins : List Page → List Cell → Type 0
+Joins pages joined = (level : ℕ) (lead : Lead) (cells : List Cell) → pages ≡ group_pages level lead cells → joined ≡ cells
 
-abbrev pub MergesFew : ℕ → List Cell → List Page → List Page → List Cell → Type 0
-MergesFew level own low high cells = (lows highs : List Cell) (low_lead high_lead : Lead) → low ≡ group_pages level low_lead lows → high ≡ group_pages level high_lead highs → length cells ≤ length lows + (length own + length highs)
+-- what merging cells makes
+abbrev pub Merges : ℕ → Lead → List ℕ → List Cell → List Cell → List Cell → declared.Lead → List Cell → Type 0
+Merges level lead key own low high next cells = AreCells level (merged key low own high) → IsMerged lead key low own high (next, cells)
+
+abbrev pub MergesFew : List Cell → List Cell → List Cell → List Cell → Type 0
+MergesFew own low high cells = length cells ≤ length low + (length own + length high)
 
 -- ---- the room for what is written
 
-module _ (old mid : PagesState) (level : ℕ) (lead : Lead) (olds : List Page) (read : IsGroupRead old mid level lead (Ok olds)) (room : IsObservable old → HasRoom old.pages level lead) where
+module _ (old mid : PagesState) (level : ℕ) (lead : Lead) (olds : List Page) (joined : List Cell) (read : IsGroupRead old mid level lead (Ok olds)) (join : Joins olds joined) (room : IsObservable old → HasRoom old.pages level lead) where
   -- the pages read are few
   record Few : Type 0 where
     olds_few : length olds ≤ 8388608
     all_few : maps.len mid.pages ≤ 2147483648
-    cells : List Cell
-    few : length cells ≤ 8388608
-    olds_are : olds ≡ group_pages level lead cells
+    few : length joined ≤ 8388608
 
   few_read : IsObservable mid → Few
   few_read o =
@@ -45,25 +47,20 @@ module _ (old mid : PagesState) (level : ℕ) (lead : Lead) (olds : List Page) (
       record {
         olds_few = omega (arith, ap length are, few_group_pages level lead h.cells, h.few);
         all_few = omega (arith, ap maps.len r.unchanged, h.room);
-        cells = h.cells;
-        few = h.few;
-        olds_are = are;
+        few = omega (arith, ap length (join level lead h.cells are), h.few);
       }
 
-  pub room_to_set : (own cells : List Cell) → length own ≤ 1 → MergesFew level own olds olds cells → IsObservable mid → maps.len mid.pages + (length olds + length cells) < most_pages
-  room_to_set own cells one merge o = let f = few_read o in omega (arith, f.olds_few, f.all_few, f.few, merge f.cells f.cells lead lead f.olds_are f.olds_are)
+  pub room_to_set : (own cells : List Cell) → length own ≤ 1 → MergesFew own joined joined cells → IsObservable mid → maps.len mid.pages + (length olds + length cells) < most_pages
+  room_to_set own cells one merge o = let f = few_read o in omega (arith, f.olds_few, f.all_few, f.few, merge)
 
-  pub room_to_split : (none : List Page) (cells : List Cell) → none ≡ [] → MergesFew level [] olds none cells → IsObservable mid → maps.len mid.pages + (length olds + length cells) < most_pages
-  room_to_split none cells is merge o =
-      let f = few_read o in
-      omega (arith, f.olds_few, f.all_few, f.few, merge f.cells [] lead lead f.olds_are (is ∙ sym (no_group_pages level lead)))
+  pub room_to_split : (cells : List Cell) → MergesFew [] joined [] cells → IsObservable mid → maps.len mid.pages + (length olds + length cells) < most_pages
+  room_to_split cells merge o = let f = few_read o in omega (arith, f.olds_few, f.all_few, f.few, merge)
 
-  pub room_behind : {T : Type 0} (next : PagesState) (unit : T) (none : List Page) (own low high : List Cell) → none ≡ [] → length own ≤ 1 → MergesFew level [] olds none low → MergesFew level own none olds high → IsGroupChange mid next olds (group_pages level lead low) (Ok unit)
+  pub room_behind : {T : Type 0} (next : PagesState) (unit : T) (none : List Page) (own low high : List Cell) → none ≡ [] → length own ≤ 1 → MergesFew [] joined [] low → MergesFew own [] joined high → IsGroupChange mid next olds (group_pages level lead low) (Ok unit)
       → IsObservable next → maps.len next.pages + (length none + length high) < most_pages
   room_behind next unit none own low high is one low_merge high_merge write o =
       let f = few_read (write.hidden o) in
       let w = write.observed (write.hidden o) in
-      let empty = is ∙ sym (no_group_pages level lead) in
       omega (
         arith,
         f.olds_few,
@@ -72,14 +69,14 @@ module _ (old mid : PagesState) (level : ℕ) (lead : Lead) (olds : List Page) (
         ap length is,
         few_group_pages level lead low,
         w.room,
-        low_merge f.cells [] lead lead f.olds_are empty,
-        high_merge [] f.cells lead lead empty f.olds_are,
+        low_merge,
+        high_merge,
       )
 
 -- ---- the cells of a key set
 
-module _ (old mid new : PagesState) (level : ℕ) (lead : Lead) (key : List ℕ) (own : List Cell) (olds : List Page) (next : declared.Lead) (cells : List Cell) where
-  pub cells_set : {T : Type 0} (unit : T) → IsGroupRead old mid level lead (Ok olds) → Merges level lead key own olds olds next cells → IsGroupChange mid new olds (group_pages level lead cells) (Ok unit) → SetsCells old new level lead key own (Ok next)
+module _ (old mid new : PagesState) (level : ℕ) (lead : Lead) (key : List ℕ) (own : List Cell) (olds : List Page) (joined : List Cell) (join : Joins olds joined) (next : declared.Lead) (cells : List Cell) where
+  pub cells_set : {T : Type 0} (unit : T) → IsGroupRead old mid level lead (Ok olds) → Merges level lead key own joined joined next cells → IsGroupChange mid new olds (group_pages level lead cells) (Ok unit) → SetsCells old new level lead key own (Ok next)
   cells_set unit read merge write = record {
     call = record {
       faults = write.faults ∙ read.faults;
@@ -90,7 +87,7 @@ module _ (old mid new : PagesState) (level : ℕ) (lead : Lead) (key : List ℕ)
     set = λ o group front back h.
         let r = read.observed o in
         let olds_are : olds ≡ group_pages level lead group = r.found group h.holds h.few in
-        let made = merge group group lead lead olds_are olds_are h.valid in
+        let made = subst (λ xs. Merges level lead key own xs xs next cells) (join level lead group olds_are) merge h.valid in
         let change : IsChange level lead front back olds (group_pages level lead cells) =
         subst (λ ps. IsChange level lead front back ps (group_pages level lead cells)) (sym olds_are) (subst (λ xs. IsChange level lead front back (group_pages level lead group) (group_pages level lead xs)) (sym made.cells) h.change) in
         record {
@@ -103,8 +100,8 @@ module _ (old mid new : PagesState) (level : ℕ) (lead : Lead) (key : List ℕ)
 
 -- ---- a group cut in two
 
-module _ (old mid between new : PagesState) (level : ℕ) (lead : Lead) (key : List ℕ) (own : List Cell) (olds none : List Page) (next : declared.Lead) (low high : List Cell) where
-  pub group_split : {T : Type 0} (unit unit' : T) (other : declared.Lead) (other_lead : Lead) → none ≡ [] → IsGroupRead old mid level lead (Ok olds) → Merges level lead key [] olds none next low → Merges level other_lead key own none olds other high
+module _ (old mid between new : PagesState) (level : ℕ) (lead : Lead) (key : List ℕ) (own : List Cell) (olds none : List Page) (joined : List Cell) (join : Joins olds joined) (next : declared.Lead) (low high : List Cell) where
+  pub group_split : {T : Type 0} (unit unit' : T) (other : declared.Lead) (other_lead : Lead) → none ≡ [] → IsGroupRead old mid level lead (Ok olds) → Merges level lead key [] joined [] next low → Merges level other_lead key own [] joined other high
       → IsGroupChange mid between olds (group_pages level lead low) (Ok unit) → IsGroupChange between new none (group_pages level (Leader key) high) (Ok unit') → SplitsGroup old new level lead key own (Ok next)
   group_split unit unit' other other_lead empty read low_merge high_merge write write' = record {
     call = record {
@@ -118,9 +115,9 @@ module _ (old mid between new : PagesState) (level : ℕ) (lead : Lead) (key : L
         let w = write.observed r.observable in
         let w' = write'.observed w.observable in
         let olds_are : olds ≡ group_pages level lead group = r.found group h.holds h.few in
-        let none_are : none ≡ group_pages level lead [] = empty ∙ sym (no_group_pages level lead) in
-        let lows = low_merge group [] lead lead olds_are none_are h.low_valid in
-        let highs = high_merge [] group lead lead none_are olds_are h.high_valid in
+        let joined_are = join level lead group olds_are in
+        let lows = subst (λ xs. Merges level lead key [] xs [] next low) joined_are low_merge h.low_valid in
+        let highs = subst (λ xs. Merges level other_lead key own [] xs other high) joined_are high_merge h.high_valid in
         let low_pages = group_pages level lead (merged key group [] []) in
         let low_are : group_pages level lead low ≡ low_pages = ap (group_pages level lead) lows.cells in
         let high_are = ap (group_pages level (Leader key)) highs.cells in
@@ -141,9 +138,9 @@ module _ (old mid between new : PagesState) (level : ℕ) (lead : Lead) (key : L
 
 -- ---- two groups joined
 
-module _ (old mid read_all between new : PagesState) (level : ℕ) (lead : Lead) (key : List ℕ) (lows highs : List Page) (next : declared.Lead) (none cells : List Cell)
+module _ (old mid read_all between new : PagesState) (level : ℕ) (lead : Lead) (key : List ℕ) (lows highs : List Page) (low_cells high_cells : List Cell) (join : Joins lows low_cells) (join' : Joins highs high_cells) (next : declared.Lead) (none cells : List Cell)
     (read : IsGroupRead old mid level lead (Ok lows)) (read' : IsGroupRead mid read_all level (Leader key) (Ok highs)) where
-  pub groups_joined : {T : Type 0} (unit unit' : T) → none ≡ [] → Merges level lead key [] lows highs next cells → IsGroupChange read_all between highs (group_pages level (Leader key) none) (Ok unit) → IsGroupChange between new lows (group_pages level lead cells) (Ok unit')
+  pub groups_joined : {T : Type 0} (unit unit' : T) → none ≡ [] → Merges level lead key [] low_cells high_cells next cells → IsGroupChange read_all between highs (group_pages level (Leader key) none) (Ok unit) → IsGroupChange between new lows (group_pages level lead cells) (Ok unit')
       → JoinsGroups old new level lead key (Ok next)
   groups_joined unit unit' empty merge write write' = record {
     call = record {
@@ -161,7 +158,7 @@ module _ (old mid read_all between new : PagesState) (level : ℕ) (lead : Lead)
         let high_pages = group_pages level (Leader key) high in
         let lows_are : lows ≡ low_pages = r.found low h.low_holds h.low_few in
         let highs_are : highs ≡ high_pages = r'.found high (subst (λ m. HoldsGroup m level (Leader key) high) (sym r.unchanged) h.high_holds) h.high_few in
-        let made = merge low high lead (Leader key) lows_are highs_are h.valid in
+        let made = subst₂ (λ xs ys. Merges level lead key [] xs ys next cells) (join level lead low lows_are) (join' level (Leader key) high highs_are) merge h.valid in
         let none_are : group_pages level (Leader key) none ≡ [] = ap (group_pages level (Leader key)) empty ∙ no_group_pages level (Leader key) in
         let made_are = ap (group_pages level lead) made.cells in
         let first : IsChange level (Leader key) (front ++ low_pages) back highs (group_pages level (Leader key) none) =
@@ -189,12 +186,8 @@ module _ (old mid read_all between new : PagesState) (level : ℕ) (lead : Lead)
       lows_few : length lows ≤ 8388608
       highs_few : length highs ≤ 8388608
       all_few : maps.len read_all.pages ≤ 2147483648
-      low : List Cell
-      high : List Cell
-      low_few : length low ≤ 8388608
-      high_few : length high ≤ 8388608
-      lows_are : lows ≡ group_pages level lead low
-      highs_are : highs ≡ group_pages level (Leader key) high
+      low_few : length low_cells ≤ 8388608
+      high_few : length high_cells ≤ 8388608
 
     few_joined : IsObservable read_all → FewJoined
     few_joined o =
@@ -209,19 +202,15 @@ module _ (old mid read_all between new : PagesState) (level : ℕ) (lead : Lead)
           lows_few = omega (arith, ap length lows_are, few_group_pages level lead h.cells, h.few);
           highs_few = omega (arith, ap length highs_are, few_group_pages level (Leader key) h'.cells, h'.few);
           all_few = omega (arith, ap maps.len r'.unchanged, ap maps.len r.unchanged, h.room);
-          low = h.cells;
-          high = h'.cells;
-          low_few = h.few;
-          high_few = h'.few;
-          lows_are = lows_are;
-          highs_are = highs_are;
+          low_few = omega (arith, ap length (join level lead h.cells lows_are), h.few);
+          high_few = omega (arith, ap length (join' level (Leader key) h'.cells highs_are), h'.few);
         }
 
     pub room_to_drop : none ≡ [] → IsObservable read_all → maps.len read_all.pages + (length highs + length none) < most_pages
     room_to_drop empty o = let f = few_joined o in omega (arith, f.highs_few, f.all_few, ap length empty)
 
-    pub room_to_join : {T : Type 0} (unit : T) → none ≡ [] → MergesFew level [] lows highs cells → IsGroupChange read_all between highs (group_pages level (Leader key) none) (Ok unit) → IsObservable between → maps.len between.pages + (length lows + length cells) < most_pages
+    pub room_to_join : {T : Type 0} (unit : T) → none ≡ [] → MergesFew [] low_cells high_cells cells → IsGroupChange read_all between highs (group_pages level (Leader key) none) (Ok unit) → IsObservable between → maps.len between.pages + (length lows + length cells) < most_pages
     room_to_join unit empty merge write o =
         let f = few_joined (write.hidden o) in
         let w = write.observed (write.hidden o) in
-        omega (arith, f.lows_few, f.highs_few, f.all_few, f.low_few, f.high_few, ap length empty, few_group_pages level (Leader key) none, w.room, merge f.low f.high lead (Leader key) f.lows_are f.highs_are)
+        omega (arith, f.lows_few, f.highs_few, f.all_few, f.low_few, f.high_few, ap length empty, few_group_pages level (Leader key) none, w.room, merge)

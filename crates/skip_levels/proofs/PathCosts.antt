@@ -7,7 +7,7 @@ use Rattle.store_model.specs.Draws.{Draw}
 use Rattle.store_model.specs.Pairs.{Pair, IsPairs}
 use Rattle.store_model.proofs.ListsLemmas.{rising_from_is_sorted}
 use Rattle.store_model.specs.Paths.{key_cmp}
-use Rattle.skip_levels.specs.SearchPath.{above, group_at_or_below, group_cost, levels_cost, not_above}
+use Rattle.skip_levels.specs.SearchPath.{above, group_at_or_below, group_cost, levels_cost, path_cost, not_above}
 use Rattle.skip_levels.proofs.LedGroups.{led_by_place}
 use Rattle.skip_levels.proofs.PathLemmas.{sides_of}
 use Rattle.skip_levels.proofs.PlaceGroups.{group_of_place}
@@ -26,19 +26,21 @@ module _ (d : Draw) (s : List Pair) (key : List ℕ) where
   unfolding numbers_from
   no_level most = omega arith
 
+  -- levels and those behind them
+  pub levels_joined : (first n m : ℕ) → levels_cost d s key first n + levels_cost d s key (first + n) m ≡ levels_cost d s key first (n + m)
+  unfolding numbers_from
+  levels_joined first zero m =
+      let here : first + 0 ≡ first = omega arith in
+      let all : 0 + m ≡ m = omega arith in
+      omega (arith, ap (λ k. levels_cost d s key k m) here, ap (levels_cost d s key first) all)
+  levels_joined first (suc n) m =
+      let place : first + suc n ≡ suc first + n = omega arith in
+      let more : suc n + m ≡ suc (n + m) = omega arith in
+      omega (arith, cost_step first n, cost_step first (n + m), levels_joined (suc first) n m, ap (λ k. levels_cost d s key k m) place, ap (levels_cost d s key first) more)
+
   -- levels further on cost no more
   further : (n first count : ℕ) → levels_cost d s key (first + n) count ≤ levels_cost d s key first (n + count)
-  further zero first count =
-      let here : first + 0 ≡ first = omega arith in
-      let all : 0 + count ≡ count = omega arith in
-      let same : levels_cost d s key (first + 0) count ≡ levels_cost d s key first (0 + count) = ap (λ k. levels_cost d s key k count) here ∙ sym (ap (levels_cost d s key first) all) in
-      omega (arith, same)
-  further (suc n) first count =
-      let place : first + suc n ≡ suc first + n = omega arith in
-      let more : suc n + count ≡ suc (n + count) = omega arith in
-      let from : levels_cost d s key (first + suc n) count ≡ levels_cost d s key (suc first + n) count = ap (λ k. levels_cost d s key k count) place in
-      let whole : levels_cost d s key first (suc n + count) ≡ levels_cost d s key first (suc (n + count)) = ap (levels_cost d s key first) more in
-      omega (arith, from, whole, cost_step first (n + count), further n (suc first) count)
+  further n first count = omega (arith, levels_joined first n count)
 
   -- the levels from one on cost no more than those from a lower one on
   pub cost_within : (low level height : ℕ) → low ≤ level → level ≤ height → levels_cost d s key level (height - level) ≤ levels_cost d s key low (height - low)
@@ -47,6 +49,24 @@ module _ (d : Draw) (s : List Pair) (key : List ℕ) where
       let count : (level - low) + (height - level) ≡ height - low = omega arith in
       subst (λ n. levels_cost d s key level (height - level) ≤ levels_cost d s key low n) count
       (subst (λ k. levels_cost d s key k (height - level) ≤ levels_cost d s key low ((level - low) + (height - level))) place (further (level - low) low (height - level)))
+
+  -- and no more than the whole path
+  pub path_within : (level height : ℕ) → height ≡ d.height → level ≤ height → levels_cost d s key level (height - level) ≤ path_cost d s key
+  path_within level height high within =
+      let all : height - 0 ≡ d.height = omega (arith, high) in
+      subst (λ n. levels_cost d s key level (height - level) ≤ levels_cost d s key 0 n) all (cost_within 0 level height (omega arith) within)
+
+  -- the levels up to one cost no less than those from a lower one on
+  pub levels_within : (level top : ℕ) → level ≤ suc top → levels_cost d s key level (suc top - level) ≤ levels_cost d s key 0 (suc top)
+  levels_within level top within =
+      let all : suc top - 0 ≡ suc top = omega arith in
+      subst (λ n. levels_cost d s key level (suc top - level) ≤ levels_cost d s key 0 n) all (cost_within 0 level (suc top) (omega arith) within)
+
+  -- fewer levels cost no more
+  pub levels_up_to : (low top : ℕ) → low ≤ top → levels_cost d s key 0 (suc low) ≤ levels_cost d s key 0 (suc top)
+  levels_up_to low top within =
+      let all : suc low + (top - low) ≡ suc top = omega arith in
+      omega (arith, levels_joined 0 (suc low) (top - low), ap (levels_cost d s key 0) all)
 
   -- the group of a level, and the levels above
   pub cost_of_level : (level height : ℕ) → IsPairs s → level < height

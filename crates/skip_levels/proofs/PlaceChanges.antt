@@ -6,7 +6,7 @@ use Rattle.store_model.specs.Lists.{runs}
 use Rattle.store_model.specs.Draws.{Draw}
 use Rattle.store_model.specs.Labels.{Lead, IsLead}
 use Rattle.store_model.specs.Pairs.{Pair}
-use Rattle.store_model.specs.Pages.{Cell, Page, IsPage, cell_on, level_list, leads_group, page_room, group_pages}
+use Rattle.store_model.specs.Pages.{Cell, Page, IsPage, cell_on, level_list, level_pages, leads_group, page_room, group_pages}
 use Rattle.store_model.proofs.ListsLemmas.{all_append, all_front, all_back}
 use Rattle.store_model.proofs.PagesLemmasOrder.{cell_cmp, rising_level_list}
 use Rattle.store_model.proofs.PagesLemmasSizes.{IsPairList, level_pages_are_pages}
@@ -94,6 +94,28 @@ module _ (d : Draw) (level : ℕ) (low high : List Pair) (y : Pair) where
       ap (λ ps. lower ++ ps) (append_assoc before (group ++ behind) higher ∙ ap (λ ps. before ++ ps) (append_assoc group behind higher))
       ∙ sym (append_assoc lower before (group ++ (behind ++ higher)))
 
+  -- one group of the level changed between pages that stay
+  pub group_changed : (s t : List Pair) (olds news : List Page) → IsPairList s → IsPairList t → (less : IsPairList (low ++ high)) (narrow : d.height ≤ 256) (within : level < d.height) → IsNumbered level (leader_behind d level low) olds → IsNumbered level (leader_behind d level low) news
+      → level_pages d s level ≡ here ++ (olds ++ there) → level_pages d t level ≡ here ++ (news ++ there) → ChangesLevel d level (leader_behind d level low) s t olds news
+  group_changed s t olds news s_list t_list less narrow within old_numbered new_numbered s_pages t_pages =
+      let lead = leader_behind d level low in
+      let lowers = lower_pages d s t level in
+      let highers = higher_pages d s t (level + 1) in
+      record {
+        front = lowers ++ here;
+        back = there ++ highers;
+        change = record {
+          low = omega arith;
+          led = led less narrow within;
+          front_apart = apart_both level lead lowers here (lower_apart d s t level within lead narrow s_list) (here_apart less narrow within);
+          back_apart = apart_both level lead there highers (there_apart less narrow within) (higher_apart d s t level within lead narrow t_list);
+          old_pages = old_numbered;
+          new_pages = new_numbered;
+        };
+        before = before_level d s t level within ∙ ap (λ ps. lowers ++ (ps ++ highers)) s_pages ∙ around lowers highers here olds there;
+        behind = behind_level d s t level within ∙ ap (λ ps. lowers ++ (ps ++ highers)) t_pages ∙ around lowers highers here news there;
+      }
+
   module _ (less : IsPairList (low ++ high)) (more : IsPairList (low ++ y ∷ high)) (narrow : d.height ≤ 256) (within : level < d.height) (own : d.level y.0 ≡ level) where
     valid_more : AllByRecursion IsPage (here ++ (pages_with_one ++ there))
     valid_more = subst (AllByRecursion IsPage) (pages_on_its_level d level low high y own) (level_pages_are_pages d (low ++ y ∷ high) level (omega arith) more)
@@ -101,44 +123,11 @@ module _ (d : Draw) (level : ℕ) (low high : List Pair) (y : Pair) where
     pub more_numbered : IsNumbered level (leader_behind d level low) pages_with_one
     more_numbered = group_is_numbered level (leader_behind d level low) (part ++ cell_on level y ∷ mid) (all_front IsPage pages_with_one there (all_back IsPage here (pages_with_one ++ there) valid_more))
 
-    -- the pair put
+    -- the pair put, and taken out
     pub put_on_its_level : ChangesLevel d level (leader_behind d level low) (low ++ high) (low ++ y ∷ high) pages_with_none pages_with_one
     put_on_its_level =
-        let s = low ++ high in
-        let t = low ++ y ∷ high in
-        let lead = leader_behind d level low in
-        record {
-          front = lower_pages d s t level ++ here;
-          back = there ++ higher_pages d s t (level + 1);
-          change = record {
-            low = omega arith;
-            led = led less narrow within;
-            front_apart = apart_both level lead (lower_pages d s t level) here (lower_apart d s t level within lead narrow less) (here_apart less narrow within);
-            back_apart = apart_both level lead there (higher_pages d s t (level + 1)) (there_apart less narrow within) (higher_apart d s t level within lead narrow more);
-            old_pages = less_numbered less narrow within;
-            new_pages = more_numbered;
-          };
-          before = before_level d s t level within ∙ ap (λ ps. lower_pages d s t level ++ (ps ++ higher_pages d s t (level + 1))) (pages_without d level low high y) ∙ around (lower_pages d s t level) (higher_pages d s t (level + 1)) here pages_with_none there;
-          behind = behind_level d s t level within ∙ ap (λ ps. lower_pages d s t level ++ (ps ++ higher_pages d s t (level + 1))) (pages_on_its_level d level low high y own) ∙ around (lower_pages d s t level) (higher_pages d s t (level + 1)) here pages_with_one there;
-        }
+        group_changed (low ++ high) (low ++ y ∷ high) pages_with_none pages_with_one less more less narrow within (less_numbered less narrow within) more_numbered (pages_without d level low high y) (pages_on_its_level d level low high y own)
 
-    -- the pair taken out
     pub taken_on_its_level : ChangesLevel d level (leader_behind d level low) (low ++ y ∷ high) (low ++ high) pages_with_one pages_with_none
     taken_on_its_level =
-        let s = low ++ y ∷ high in
-        let t = low ++ high in
-        let lead = leader_behind d level low in
-        record {
-          front = lower_pages d s t level ++ here;
-          back = there ++ higher_pages d s t (level + 1);
-          change = record {
-            low = omega arith;
-            led = led less narrow within;
-            front_apart = apart_both level lead (lower_pages d s t level) here (lower_apart d s t level within lead narrow more) (here_apart less narrow within);
-            back_apart = apart_both level lead there (higher_pages d s t (level + 1)) (there_apart less narrow within) (higher_apart d s t level within lead narrow less);
-            old_pages = more_numbered;
-            new_pages = less_numbered less narrow within;
-          };
-          before = before_level d s t level within ∙ ap (λ ps. lower_pages d s t level ++ (ps ++ higher_pages d s t (level + 1))) (pages_on_its_level d level low high y own) ∙ around (lower_pages d s t level) (higher_pages d s t (level + 1)) here pages_with_one there;
-          behind = behind_level d s t level within ∙ ap (λ ps. lower_pages d s t level ++ (ps ++ higher_pages d s t (level + 1))) (pages_without d level low high y) ∙ around (lower_pages d s t level) (higher_pages d s t (level + 1)) here pages_with_none there;
-        }
+        group_changed (low ++ y ∷ high) (low ++ high) pages_with_one pages_with_none more less less narrow within more_numbered (less_numbered less narrow within) (pages_on_its_level d level low high y own) (pages_without d level low high y)

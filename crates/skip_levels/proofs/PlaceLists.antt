@@ -3,6 +3,7 @@ use Rattle.std.proofs.Common.{◌≡◌, inl, inr, ℕ, zero, suc, ◌+◌, ◌-
 use Rattle.std.specs.FinMap.{find, put}
 use Rattle.store_base.specs.Keys.{IsKey}
 use Rattle.store_model.specs.Paths.{key_cmp}
+use Rattle.store_model.specs.Labels.{Lead}
 use Rattle.store_model.specs.Draws.{Draw}
 use Rattle.store_model.specs.Pairs.{Pair, IsValue}
 use Rattle.store_model.specs.Pages.{Cell, cell_on, level_list, level_pages, pages_of_pairs}
@@ -63,7 +64,7 @@ same_above d low high key old new (suc level) some =
 
 -- ---- a value put under a key
 
-module _ (d : Draw) (s : List Pair) (start : PageMap) (height top : ℕ) (key value : List ℕ) (h : IsPutting d s start height top key) (is_key : IsKey key) (is_value : IsValue value) where
+module _ (d : Draw) (s : List Pair) (start : PageMap) (top : ℕ) (lead : Lead) (key value : List ℕ) (h : IsPutting d s start top lead key) (is_key : IsKey key) (is_value : IsValue value) where
   abbrev pub t : List Pair
   t = put key_cmp key value s
 
@@ -92,7 +93,7 @@ module _ (d : Draw) (s : List Pair) (start : PageMap) (height top : ℕ) (key va
   over_few : (old : List ℕ) → find key_cmp key s ≡ Some old → length t ≤ 8388608
   over_few old some = let a = has old some in omega (arith, ap length (a.put value), ap length a.sides, length-append low ((key, value) ∷ high), length-append low ((key, old) ∷ high), h.room)
 
-  within : top < d.height
+  pub within : top < d.height
   within = elim h.place [
     | inl new ↦ let below_height = h.holds.lawful.level_in_range key in let is = new.own in omega arith
     | inr there ↦ let below_height = h.holds.lawful.level_in_range key in let is = there.lowest in omega arith
@@ -169,7 +170,7 @@ module _ (d : Draw) (s : List Pair) (start : PageMap) (height top : ℕ) (key va
 
 -- ---- a pair taken out
 
-module _ (d : Draw) (s : List Pair) (start : PageMap) (height top : ℕ) (key : List ℕ) (h : IsTaking d s start height top key) where
+module _ (d : Draw) (s : List Pair) (start : PageMap) (top : ℕ) (lead : Lead) (key : List ℕ) (h : IsTaking d s start top lead key) where
   abbrev pub rest : List Pair
   rest = without key s
 
@@ -192,7 +193,7 @@ module _ (d : Draw) (s : List Pair) (start : PageMap) (height top : ℕ) (key : 
     new_few = subst (λ xs. length xs ≤ 8388608) pair_there.taken rest_few;
   }
 
-  take_within : top < d.height
+  pub take_within : top < d.height
   take_within = let range = h.holds.lawful.level_in_range key in omega (arith, h.own)
 
   pub take_begins : pages_between d s rest (top + 1) ≡ pages_of_pairs d s

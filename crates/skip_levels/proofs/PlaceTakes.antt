@@ -1,5 +1,5 @@
 -- A pair taken out of a list, level after level, and a value put in the place of another.
-use Rattle.std.proofs.Common.{◌≡◌, ◌⊎◌, inl, inr, ℕ, zero, suc, ◌+◌, ◌<◌, ◌≤◌, List, [], ◌∷◌, ◌++◌, map, filter, length, cond, nat_lt, Less, Equal, Greater, refl, sym, ap, subst, ◌∙◌, append_assoc, length-append, arith, lt-ltb}
+use Rattle.std.proofs.Common.{◌≡◌, ◌⊎◌, inl, inr, ℕ, zero, suc, ◌+◌, ◌<◌, ◌≤◌, List, [], ◌∷◌, ◌++◌, map, filter, length, cond, nat_lt, Less, Equal, refl, sym, ap, subst, ◌∙◌, append_assoc, length-append, arith, lt-ltb}
 use Rattle.std.specs.List.{AllByRecursion}
 use Rattle.std.specs.Cmp.{tied_itself}
 use Rattle.std.specs.Cmp.Lexicographic.{nat_list_cmp_total}
@@ -26,11 +26,11 @@ use Rattle.skip_levels.proofs.LevelChanges.{pages_between, lower_pages, higher_p
 use Rattle.skip_levels.proofs.PageCounts.{few_between}
 use Rattle.skip_levels.proofs.Parted.{pages_without, pages_on_its_level, pages_below}
 use Rattle.skip_levels.proofs.PathLemmas.{few_in_group}
-use Rattle.skip_levels.proofs.PlaceChanges.{part, mid, here, there, apart_both, here_apart, there_apart, around, led, less_numbered, more_numbered, taken_on_its_level}
+use Rattle.skip_levels.proofs.PlaceChanges.{ChangesLevel, part, mid, here, there, around, less_numbered, more_numbered, group_changed, taken_on_its_level}
 use Rattle.skip_levels.proofs.PlaceGroups.{group_of_place, group_labels}
 use Rattle.skip_levels.proofs.PlaceMerges.{AreAround, low_side, high_side, merged_are, side_all, sides, around_key, rising_place, rising_with_one, are_cells}
 use Rattle.skip_levels.proofs.PlaceSplits as splits
-use Rattle.skip_levels.proofs.PlaceSteps.{AreFew, SetsAt, JoinsAt, holds_olds, next_of_part}
+use Rattle.skip_levels.proofs.PlaceSteps.{AreFew, SetsAt, JoinsAt, holds_olds, next_of_part, sets_group}
 
 -- the last of some keys has what all have
 last_lead_has : (P : List ℕ → Type 0) (keys : List (List ℕ)) (key : List ℕ) → AllByRecursion P keys → last_lead keys ≡ Leader key → P key
@@ -86,24 +86,8 @@ module _ (m : PageMap) (d : Draw) (level : ℕ) (low high : List Pair) (y : Pair
       let cells = p ++ (own ++ q) in
       let below = low_side y.0 p own q b in
       let made : merged y.0 cells [] cells ≡ p ++ q = merged_are y.0 cells [] cells p [] q below refl (high_side y.0 p own q b) in
-      let pages = is ∙ ap map_of_pages c.before in
-      let news : group_pages level lead (p ++ q) ≡ group_pages level lead (merged y.0 cells [] cells) = ap (group_pages level lead) (sym made) in
-      let holds = holds_olds m level lead cells c.front c.back (group_pages level lead (p ++ q)) c.change pages in
-      record {
-        cells = cells;
-        front = c.front;
-        back = c.back;
-        setting = record {
-          change = subst (IsChange level lead c.front c.back (group_pages level lead cells)) news c.change;
-          valid = subst (AreCells level) (sym made) (are_cells d level lead (p ++ q) c.change.new_pages.valid (rising_place d level low high y less));
-          holds = holds;
-          few = omega (arith, few_with);
-          pages_are = pages;
-        };
-        after = ap (λ ps. c.front ++ (ps ++ c.back)) (sym news) ∙ sym c.behind;
-        next = next_of_part d level low high y (side Less y.0 cells) below;
-        room = record { cells = cells; holds = holds; few = few_with; room = few_between m d (low ++ y ∷ high) (low ++ high) (level + 1) f.narrow f.old_few f.new_few (omega arith) is };
-      }
+      sets_group m d level lead (low ++ y ∷ high) (low ++ high) y.0 [] cells (p ++ q) low c made (are_cells d level lead (p ++ q) c.change.new_pages.valid (rising_place d level low high y less))
+      few_with f within is (next_of_part d level low high y (side Less y.0 cells) below)
 
   -- on a lower level two groups are joined
   pub joins_taken : level < d.level y.0 → m ≡ map_of_pages (pages_between d (low ++ y ∷ high) (low ++ high) (level + 1)) → JoinsAt m d level lead (low ++ y ∷ high) (low ++ high) y.0 low high y
@@ -218,51 +202,22 @@ module _ (m : PageMap) (d : Draw) (low high : List Pair) (key old new : List ℕ
       let few = few_in_group d 0 low high in
       omega (arith, f.old_few, few, length-append ls (o ∷ hs), length-append ls hs, length-append low ((key, old) ∷ high), length-append low high)
 
-  -- the record of the change, once its pages are known
-  sets_over : (lead : Lead) (cells front_cells : List Cell) (front back : List Page) → cells ≡ front_cells ++ (o ∷ hs) → AreAround key front_cells (o ∷ []) hs → AreAround key front_cells (n ∷ []) hs → length cells ≤ 8388608
-      → IsChange 0 lead front back (group_pages 0 lead (front_cells ++ (o ∷ hs))) (group_pages 0 lead (front_cells ++ (n ∷ hs))) → AreCells 0 (front_cells ++ (n ∷ hs))
-      → pages_between d s t (0 + 1) ≡ front ++ (group_pages 0 lead (front_cells ++ (o ∷ hs)) ++ back) → pages_between d s t 0 ≡ front ++ (group_pages 0 lead (front_cells ++ (n ∷ hs)) ++ back)
-      → (under : List Pair) → SetsAt m d 0 lead s t key (n ∷ []) under
-  sets_over lead cells fs front back cells_are around_old around_new few change valid before behind under =
+  -- the change of a group in which the value stands behind these cells
+  sets_over : (lead : Lead) (fs : List Cell) → AreAround key fs (o ∷ []) hs → AreAround key fs (n ∷ []) hs → length (fs ++ (o ∷ hs)) ≤ 8388608 → AreCells 0 (fs ++ (n ∷ hs))
+      → ChangesLevel d 0 lead s t (group_pages 0 lead (fs ++ (o ∷ hs))) (group_pages 0 lead (fs ++ (n ∷ hs))) → (under : List Pair) → SetsAt m d 0 lead s t key (n ∷ []) under
+  sets_over lead fs around_old around_new few valid c under =
+      let cells = fs ++ (o ∷ hs) in
       let made : merged key cells (n ∷ []) cells ≡ fs ++ (n ∷ hs) =
-      merged_are key cells (n ∷ []) cells fs (n ∷ []) hs (ap (side Less key) cells_are ∙ low_side key fs (o ∷ []) hs around_old) (side_all Equal key (n ∷ []) around_new.same) (ap (side Greater key) cells_are ∙ high_side key fs (o ∷ []) hs around_old) in
-      let olds : group_pages 0 lead (fs ++ (o ∷ hs)) ≡ group_pages 0 lead cells = ap (group_pages 0 lead) (sym cells_are) in
-      let news : group_pages 0 lead (fs ++ (n ∷ hs)) ≡ group_pages 0 lead (merged key cells (n ∷ []) cells) = ap (group_pages 0 lead) (sym made) in
-      let whole : IsChange 0 lead front back (group_pages 0 lead cells) (group_pages 0 lead (merged key cells (n ∷ []) cells)) =
-      subst (IsChange 0 lead front back (group_pages 0 lead cells)) news (subst (λ ps. IsChange 0 lead front back ps (group_pages 0 lead (fs ++ (n ∷ hs)))) olds change) in
-      let pages = is ∙ ap map_of_pages (before ∙ ap (λ ps. front ++ (ps ++ back)) olds) in
-      let holds = holds_olds m 0 lead cells front back (group_pages 0 lead (merged key cells (n ∷ []) cells)) whole pages in
-      record {
-        cells = cells;
-        front = front;
-        back = back;
-        setting = record { change = whole; valid = subst (AreCells 0) (sym made) valid; holds = holds; few = omega arith; pages_are = pages };
-        after = ap (λ ps. front ++ (ps ++ back)) (sym news) ∙ sym behind;
-        next = λ lower at. absurd (omega arith);
-        room = record { cells = cells; holds = holds; few = few; room = few_between m d s t (0 + 1) f.narrow f.old_few f.new_few (omega arith) is };
-      }
+      merged_are key cells (n ∷ []) cells fs (n ∷ []) hs (low_side key fs (o ∷ []) hs around_old) (side_all Equal key (n ∷ []) around_new.same) (high_side key fs (o ∷ []) hs around_old) in
+      sets_group m d 0 lead s t key (n ∷ []) cells (fs ++ (n ∷ hs)) under c made valid few f within is (λ lower at. absurd (omega arith))
 
   -- the key stands on level 0 alone
   over_own : d.level key ≡ 0 → (under : List Pair) → SetsAt m d 0 (leader_behind d 0 low) s t key (n ∷ []) under
   over_own own under =
-      let lead = leader_behind d 0 low in
-      let lowers = lower_pages d s t 0 in
-      let highers = higher_pages d s t (0 + 1) in
-      let before = here d 0 low high (key, old) in
-      let behind = there d 0 low high (key, old) in
-      let change : IsChange 0 lead (lowers ++ before) (behind ++ highers) (group_pages 0 lead (ls ++ (o ∷ hs))) (group_pages 0 lead (ls ++ (n ∷ hs))) = record {
-        low = omega arith;
-        led = led d 0 low high (key, old) less f.narrow within;
-        front_apart = apart_both 0 lead lowers before (apart_below lead) (here_apart d 0 low high (key, old) less f.narrow within);
-        back_apart = apart_both 0 lead behind highers (there_apart d 0 low high (key, old) less f.narrow within) (apart_above lead);
-        old_pages = more_numbered d 0 low high (key, old) less more f.narrow within own;
-        new_pages = more_numbered d 0 low high (key, new) less more' f.narrow within own;
-      } in
-      sets_over lead (ls ++ (o ∷ hs)) ls (lowers ++ before) (behind ++ highers) refl (around_key d 0 low high (key, old) more) (around_key d 0 low high (key, new) more') over_few change
-      (are_cells d 0 lead (ls ++ (n ∷ hs)) change.new_pages.valid (rising_with_one d 0 low high (key, new) (omega arith) more'))
-      (before_level d s t 0 within ∙ ap (λ ps. lowers ++ (ps ++ highers)) (pages_on_its_level d 0 low high (key, old) own) ∙ around d 0 low high (key, old) lowers highers before (group_pages 0 lead (ls ++ (o ∷ hs))) behind)
-      (behind_level d s t 0 within ∙ ap (λ ps. lowers ++ (ps ++ highers)) (pages_on_its_level d 0 low high (key, new) own) ∙ around d 0 low high (key, new) lowers highers before (group_pages 0 lead (ls ++ (n ∷ hs))) behind)
-      under
+      let c = group_changed d 0 low high (key, old) s t (group_pages 0 (leader_behind d 0 low) (ls ++ (o ∷ hs))) (group_pages 0 (leader_behind d 0 low) (ls ++ (n ∷ hs))) more more' less f.narrow within (more_numbered d 0 low high (key, old) less more f.narrow within own)
+      (more_numbered d 0 low high (key, new) less more' f.narrow within own) (pages_on_its_level d 0 low high (key, old) own) (pages_on_its_level d 0 low high (key, new) own) in
+      sets_over (leader_behind d 0 low) ls (around_key d 0 low high (key, old) more) (around_key d 0 low high (key, new) more') over_few
+      (are_cells d 0 (leader_behind d 0 low) (ls ++ (n ∷ hs)) c.change.new_pages.valid (rising_with_one d 0 low high (key, new) (omega arith) more')) c under
 
   -- it leads a group there
   over_led : 0 < d.level key → (under : List Pair) → SetsAt m d 0 (Leader key) s t key (n ∷ []) under
@@ -290,10 +245,15 @@ module _ (m : PageMap) (d : Draw) (low high : List Pair) (key old new : List ℕ
       around d 0 low high (key, old) lowers highers before lp (ps ++ behind) ∙ ap (λ qs. (lowers ++ before) ++ (lp ++ qs)) (append_assoc ps behind highers) ∙ sym (append_assoc (lowers ++ before) lp (ps ++ (behind ++ highers))) in
       let count = length-append ls (o ∷ hs) in
       let few = over_few in
-      sets_over (Leader key) (o ∷ hs) [] front back refl (record { below = tt; same = first.same; above = first.above }) (record { below = tt; same = second.same; above = second.above }) (omega arith) change
+      sets_over (Leader key) [] (record { below = tt; same = first.same; above = first.above }) (record { below = tt; same = second.same; above = second.above }) (omega arith)
       (are_cells d 0 (Leader key) (n ∷ hs) change.new_pages.valid (rising_back cell_cmp ls (n ∷ hs) (rising_with_one d 0 low high (key, new) (omega arith) more')))
-      (before_level d s t 0 within ∙ ap (λ ps. lowers ++ (ps ++ highers)) (pages_below d 0 low high (key, old) lower) ∙ regroup (group_pages 0 (Leader key) (o ∷ hs)))
-      (behind_level d s t 0 within ∙ ap (λ ps. lowers ++ (ps ++ highers)) (pages_below d 0 low high (key, new) lower) ∙ regroup (group_pages 0 (Leader key) (n ∷ hs)))
+      (record {
+        front = front;
+        back = back;
+        change = change;
+        before = before_level d s t 0 within ∙ ap (λ ps. lowers ++ (ps ++ highers)) (pages_below d 0 low high (key, old) lower) ∙ regroup (group_pages 0 (Leader key) (o ∷ hs));
+        behind = behind_level d s t 0 within ∙ ap (λ ps. lowers ++ (ps ++ highers)) (pages_below d 0 low high (key, new) lower) ∙ regroup (group_pages 0 (Leader key) (n ∷ hs));
+      })
       under
 
   -- the group in which the value stands is that on the search path of the key, at or below it

@@ -1,11 +1,13 @@
 -- A search for the value of a key: a descent, and then the lowest group on the search path.
-use Rattle.std.proofs.Common.{◌≡◌, ℕ, zero, suc, ◌+◌, ◌-◌, ◌≤◌, List, Option, Result, Ok, Err, refl, sym, ap, subst, ◌∙◌, arith}
+use Rattle.std.proofs.Common.{◌≡◌, ℕ, zero, suc, ◌+◌, ◌-◌, ◌<◌, ◌≤◌, List, Option, Result, Ok, Err, refl, sym, ap, subst, ◌∙◌, arith}
 use Rattle.store_base.specs.declared.store_fault.Fault.{Fault}
 use Rattle.store_base.specs.declared.store_fault.Fault.TheVariants.{Disk, NoMemory}
 use Rattle.skip_levels.specs.declared.search.Neighbours.{Neighbours}
 use Rattle.skip_levels.specs.declared.search.PathEnd.{PathEnd}
+use Rattle.skip_levels.specs.declared.search.KeyPlace.{KeyPlace}
 use Rattle.store_base.specs.Faults.{disk_faults_after}
 use Rattle.store_base.specs.Leads.{lead_of}
+use Rattle.std.specs.FinMap.{find}
 use Rattle.store_model.specs.Paths.{key_cmp}
 use Rattle.store_model.specs.Draws.{Draw}
 use Rattle.store_model.specs.Pairs.{Pair}
@@ -15,10 +17,10 @@ use Rattle.skip_levels.specs.Floors.{value_at}
 use Rattle.skip_levels.specs.Groups.{HoldsGroup}
 use Rattle.skip_levels.specs.SearchPath.{above, not_above, levels_cost, path_cost}
 use Rattle.skip_levels.specs.Searches.{FindsNeighbours, ReadsGroup, IsGroupSearch}
-use Rattle.skip_levels.specs.Descent.{HoldsPairs, FindsPathEnd, IsDescent, IsValueSearch}
+use Rattle.skip_levels.specs.Descent.{HoldsPairs, FindsPathEnd, IsDescent, IsValueSearch, IsKeySearch}
 use Rattle.skip_levels.proofs.PlaceGroups.{group_of_place}
 use Rattle.skip_levels.proofs.PathLemmas.{holds_path, few_on_path}
-use Rattle.skip_levels.proofs.PathCosts.{cost_within, cost_of_level, no_level}
+use Rattle.skip_levels.proofs.PathCosts.{cost_within, path_within, cost_of_level, no_level}
 use Rattle.skip_levels.proofs.Found.{value_of_floor}
 
 pub same_count : (S T : Type 0) (count : ℕ) (f : Fault) → disk_faults_after {T = S} count (Err f) ≡ disk_faults_after {T = T} count (Err f)
@@ -35,14 +37,6 @@ module _ (old mid : PagesState) (height : ℕ) (key : List ℕ) where
       by_height (suc n) is =
           let all : suc n - 0 ≡ d.height = omega (arith, is) in
           subst (λ k. levels_cost d s key 1 (suc n - 1) ≤ levels_cost d s key 0 k) all (cost_within d s key 0 1 (suc n) (omega arith) (omega arith))
-
-  pub no_descent : (fault : Fault) → IsDescent old mid height 0 key (Err fault) → IsValueSearch old mid height key (Err fault)
-  no_descent fault h = record {
-    faults = h.faults ∙ same_count PathEnd (Option (List ℕ)) old.faults fault;
-    lookups_kept = h.lookups_kept;
-    hidden = h.hidden;
-    observed = λ o. let n = h.observed o in record { observable = n.observable; unchanged = n.unchanged; found = λ d s holds high. tt; lookups = λ d s holds high. omega (arith, n.lookups d s holds high, whole_path d s holds high) };
-  }
 
   module _ (new : PagesState) (end : PathEnd) (h : IsDescent old mid height 0 key (Ok end)) where
     -- what the search of the lowest group makes
@@ -68,16 +62,54 @@ module _ (old mid : PagesState) (height : ℕ) (key : List ℕ) where
       observed = λ o. let n = h.observed o in let g = search.observed n.observable in record { observable = g.observable; unchanged = g.unchanged ∙ n.unchanged; found = λ d s holds high. tt; lookups = path_searched n g some };
     }
 
+    -- what the floor of that group tells
+    value_told : (near : Neighbours) (value : Option (List ℕ)) → value ≡ value_at key near.floor → FindsPathEnd old mid height 0 key (Ok end) → ReadsGroup mid new 0 (lead_of end.lead) key (Ok near) → 1 ≤ height
+        → (d : Draw) (s : List Pair) → HoldsPairs d s old.pages → height ≡ d.height → value ≡ find key_cmp key s
+    value_told near value is n g some d s holds high =
+        is ∙ ap (value_at key) (lowest_searched n g some d s holds high).found.floor ∙ value_of_floor d key s (rising_from_is_sorted key_cmp s holds.pairs.sorted)
+
     pub value_found : (near : Neighbours) (value : Option (List ℕ)) → 1 ≤ height → IsGroupSearch mid new 0 (lead_of end.lead) key (Ok near) → value ≡ value_at key near.floor → IsValueSearch old new height key (Ok value)
     value_found near value some search is = record {
       faults = search.faults ∙ h.faults;
       lookups_kept = omega (arith, h.lookups_kept, search.lookups_kept);
       hidden = λ o. h.hidden (search.hidden o);
-      observed = λ o. let n = h.observed o in let g = search.observed n.observable in record {
-        observable = g.observable;
-        unchanged = g.unchanged ∙ n.unchanged;
-        found = λ d s holds high.
-            is ∙ ap (value_at key) (lowest_searched n g some d s holds high).found.floor ∙ value_of_floor d key s (rising_from_is_sorted key_cmp s holds.pairs.sorted);
-        lookups = path_searched n g some;
-      };
+      observed = λ o. let n = h.observed o in let g = search.observed n.observable in record { observable = g.observable; unchanged = g.unchanged ∙ n.unchanged; found = value_told near value is n g some; lookups = path_searched n g some };
     }
+
+-- ---- the place of a key
+
+module _ (old : PagesState) (height top : ℕ) (key : List ℕ) where
+  pub no_way_down : (mid : PagesState) (bottom : ℕ) (fault : Fault) → bottom < height → IsDescent old mid height bottom key (Err fault) → IsKeySearch old mid height top key (Err fault)
+  no_way_down mid bottom fault within h = record {
+    faults = h.faults ∙ same_count PathEnd KeyPlace old.faults fault;
+    lookups_kept = h.lookups_kept;
+    hidden = h.hidden;
+    observed = λ o. let n = h.observed o in record {
+      observable = n.observable;
+      unchanged = n.unchanged;
+      found = λ d s holds high. tt;
+      lookups = λ d s holds high. omega (arith, n.lookups d s holds high, path_within d s key (suc bottom) height high (omega arith));
+    };
+  }
+
+  pub no_value_search : (new : PagesState) (fault : Fault) → IsValueSearch old new height key (Err fault) → IsKeySearch old new height top key (Err fault)
+  no_value_search new fault search = record {
+    faults = search.faults ∙ same_count (Option (List ℕ)) KeyPlace old.faults fault;
+    lookups_kept = search.lookups_kept;
+    hidden = search.hidden;
+    observed = λ o. let n = search.observed o in record { observable = n.observable; unchanged = n.unchanged; found = λ d s holds high. tt; lookups = n.lookups };
+  }
+
+  pub place_found : (mid low new : PagesState) (upper end : PathEnd) (value : Option (List ℕ)) → IsDescent old mid height top key (Ok upper) → IsDescent old low height 0 key (Ok end) → IsValueSearch old new height key (Ok value)
+      → IsKeySearch old new height top key (Ok (record { lead = upper.lead; low = end; value = value }))
+  place_found mid low new upper end value first second search = record {
+    faults = search.faults;
+    lookups_kept = search.lookups_kept;
+    hidden = search.hidden;
+    observed = λ o. let n = search.observed o in record {
+      observable = n.observable;
+      unchanged = n.unchanged;
+      found = λ d s holds high. record { lead = (first.observed o).lead d s holds high; low = record { lead = (second.observed o).lead d s holds high; next = (second.observed o).next d s holds high }; value = n.found d s holds high };
+      lookups = n.lookups;
+    };
+  }

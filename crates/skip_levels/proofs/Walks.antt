@@ -1,7 +1,7 @@
 -- A walk over the pages of a group, from page to page, up to the first cell that fails a test.
-use Rattle.std.proofs.Common.{◌≡◌, ℕ, zero, suc, ◌+◌, ◌-◌, ◌<◌, ◌≤◌, List, [], ◌∷◌, ◌++◌, length, take, drop, Bool, true, false, not, cond, Option, Some, None, refl, sym, ap, subst, ◌∙◌, arith, append_assoc, length-append}
+use Rattle.std.proofs.Common.{◌≡◌, ◌⊎◌, inl, inr, ℕ, zero, suc, ◌+◌, ◌-◌, ◌*◌, ◌<◌, ◌≤◌, List, [], ◌∷◌, ◌++◌, length, take, drop, Bool, true, false, not, cond, Option, Some, None, refl, sym, ap, subst, ◌∙◌, arith, append_assoc, length-append}
 use Rattle.std.specs.List.{AllByRecursion, find, prefix_len, take_while, slice_get}
-use Rattle.std.proofs.lemmas.List.{take-append-drop, append-nil, take_all, drop-drop}
+use Rattle.std.proofs.lemmas.List.{take-append-drop, append-nil, take_all, drop-drop, drop_all, length-take}
 use Rattle.store_model.specs.Labels.{Lead}
 use Rattle.store_model.specs.Pages.{Cell, Page, page_room, group_pages}
 use Rattle.store_model.proofs.ListsLemmas.{all_append}
@@ -60,6 +60,17 @@ prefix_within p (x ∷ xs) ys below = by_test (p x) (λ less. prefix_within p xs
         ap (λ n. take n (x ∷ (xs ++ ys))) more ∙ ap (λ zs. x ∷ zs) (rest (omega arith)) ∙ ap (λ n. take n (x ∷ xs)) fewer
     by_test false rest h = refl
 
+-- where nothing stands behind the front, its first that fails is that of the whole
+fails_first : {X : Type 0} (p : X → Bool) (xs : List X) → find (λ x. not (p x)) xs ≡ slice_get xs (prefix_len p xs)
+fails_first p [] = refl
+fails_first p (x ∷ xs) = by_test (p x) (fails_first p xs)
+  where
+    by_test : (b : Bool) → find (λ y. not (p y)) xs ≡ slice_get xs (prefix_len p xs) → cond (not b) (Some x) (find (λ y. not (p y)) xs) ≡ slice_get (x ∷ xs) (cond b (1 + prefix_len p xs) 0)
+    by_test true rest =
+        let fewer : suc (prefix_len p xs) ≡ 1 + prefix_len p xs = omega arith in
+        rest ∙ ap (slice_get (x ∷ xs)) fewer
+    by_test false rest = refl
+
 all_pass : {X : Type 0} (p : X → Bool) (xs : List X) → length xs ≤ prefix_len p xs → AllByRecursion (λ x. p x ≡ true) xs
 all_pass p [] h = tt
 all_pass p (x ∷ xs) h = by_test (p x) refl (λ more. all_pass p xs more) h
@@ -73,11 +84,6 @@ slice_get-drop [] zero = refl
 slice_get-drop [] (suc i) = refl
 slice_get-drop (x ∷ xs) zero = refl
 slice_get-drop (x ∷ xs) (suc i) = slice_get-drop xs i
-
-slice_get-within : {X : Type 0} (xs : List X) (i : ℕ) (x : X) → slice_get xs i ≡ Some x → i < length xs
-slice_get-within [] i x e = absurd (cc)
-slice_get-within (y ∷ ys) zero x e = omega arith
-slice_get-within (y ∷ ys) (suc i) x e = let rest = slice_get-within ys i x e in omega arith
 
 some_at : {X : Type 0} (xs : List X) (i : ℕ) → i < length xs → (x : X) × (slice_get xs i ≡ Some x)
 some_at [] i below = absurd (omega arith)
@@ -103,13 +109,17 @@ module _ (p : Cell → Bool) (level : ℕ) (lead : Lead) (cells : List Cell) whe
     pub whole : cells ≡ front ++ rest
     pub passes : AllByRecursion (λ cell. p cell ≡ true) front
     pub pages : drop index (group_pages level lead cells) ≡ pages_from level lead index rest
-    pub counted : index ≤ length (group_pages level lead cells)
-    pub long : index ≤ length front
+    pub full : page_room level * index ≤ length front
     pub last_is : last ≡ last_of front
 
   pub walk_start : Walked 0 None
   unfolding last_of
-  walk_start = record { front = []; rest = cells; whole = refl; passes = tt; pages = sym (all_pages level lead cells); counted = omega arith; long = omega arith; last_is = refl }
+  walk_start = record { front = []; rest = cells; whole = refl; passes = tt; pages = sym (all_pages level lead cells); full = omega arith; last_is = refl }
+
+  -- what stands next to the first cell that fails
+  pub record Ends (floor after : Option Cell) : Type 0 where
+    pub floor_is : floor ≡ last_of (take_while p cells)
+    pub after_is : after ≡ find (λ c. not (p c)) cells
 
   -- the page at the walk's place
   first_of : (index : ℕ) (last : Option Cell) (w : Walked index last) → slice_get (group_pages level lead cells) index ≡ slice_get (pages_from level lead index w.rest) 0
@@ -125,12 +135,13 @@ module _ (p : Cell → Bool) (level : ℕ) (lead : Lead) (cells : List Cell) whe
           let is = sym none ∙ first_of index last w ∙ ap (λ ps. slice_get ps 0) (ap (pages_from level lead index) e ∙ next_page level lead index (x ∷ r) (omega arith)) in
           absurd (cc)
 
-  pub walk_none : (index : ℕ) (last : Option Cell) → Walked index last → slice_get (group_pages level lead cells) index ≡ None → last ≡ last_of (take_while p cells)
+  pub walk_none : (index : ℕ) (last : Option Cell) → Walked index last → slice_get (group_pages level lead cells) index ≡ None → Ends last None
   walk_none index last w none =
-      w.last_is ∙ ap last_of (sym (ap (take_while p) (w.whole ∙ ap (λ r. w.front ++ r) (no_rest index last w none)) ∙ prefix_past p w.front [] w.passes ∙ append-nil w.front))
-
-  pub walk_none_fails : (index : ℕ) (last : Option Cell) → Walked index last → slice_get (group_pages level lead cells) index ≡ None → None ≡ find (λ c. not (p c)) cells
-  walk_none_fails index last w none = sym (ap (find (λ c. not (p c))) (w.whole ∙ ap (λ r. w.front ++ r) (no_rest index last w none)) ∙ fails_past p w.front [] w.passes)
+      let all : cells ≡ w.front ++ [] = w.whole ∙ ap (λ r. w.front ++ r) (no_rest index last w none) in
+      record {
+        floor_is = w.last_is ∙ ap last_of (sym (ap (take_while p) all ∙ prefix_past p w.front [] w.passes ∙ append-nil w.front));
+        after_is = sym (ap (find (λ c. not (p c))) all ∙ fails_past p w.front [] w.passes);
+      }
 
   -- the page of the run at the walk's place
   record AtPage (index : ℕ) (rest : List Cell) (page : Page) : Type 0 where
@@ -153,39 +164,55 @@ module _ (p : Cell → Bool) (level : ℕ) (lead : Lead) (cells : List Cell) whe
   split_rest : (index : ℕ) (last : Option Cell) (page : Page) (w : Walked index last) → AtPage index w.rest page → w.rest ≡ page.cells ++ drop (page_room level) w.rest
   split_rest index last page w at = sym (take-append-drop (page_room level) w.rest) ∙ ap (λ run. run ++ drop (page_room level) w.rest) (sym at.cells_are)
 
-  -- a cell of the page fails: the walk is at its end
-  pub walk_stop : (index : ℕ) (last next : Option Cell) (page : Page) (count : ℕ) → Walked index last → slice_get (group_pages level lead cells) index ≡ Some page → count ≡ prefix_len p page.cells → count < length page.cells
-      → (count ≡ 0 → next ≡ last) → (0 < count → next ≡ slice_get page.cells (count - 1)) → next ≡ last_of (take_while p cells)
-  walk_stop index last next page count w at counted below none some =
+  -- the walk ends in a page of which a cell fails, and in one with room, behind which there is no cell
+  abbrev pub IsEnd : Page → ℕ → Type 0
+  IsEnd page count = (count < length page.cells) ⊎ (length page.cells < page_room level)
+
+  record EndsHere (page : Page) (count : ℕ) (behind : List Cell) : Type 0 where
+    passing : take_while p (page.cells ++ behind) ≡ take count page.cells
+    failing : find (λ c. not (p c)) (page.cells ++ behind) ≡ slice_get page.cells count
+
+  ends_here : (index : ℕ) (page : Page) (count : ℕ) (rest : List Cell) → AtPage index rest page → count ≡ prefix_len p page.cells → IsEnd page count → EndsHere page count (drop (page_room level) rest)
+  ends_here index page count rest at counted (inl below) =
+      let within = subst (λ n. n < length page.cells) counted below in
+      record {
+        passing = prefix_within p page.cells (drop (page_room level) rest) within ∙ ap (λ n. take n page.cells) (sym counted);
+        failing = fails_within p page.cells (drop (page_room level) rest) within ∙ ap (slice_get page.cells) (sym counted);
+      }
+  ends_here index page count rest at counted (inr short) =
+      let none : drop (page_room level) rest ≡ [] = drop_all (page_room level) rest (omega (arith, ap length at.cells_are, length-take (page_room level) rest)) in
+      let alone : page.cells ++ drop (page_room level) rest ≡ page.cells = ap (λ xs. page.cells ++ xs) none ∙ append-nil page.cells in
+      record {
+        passing = ap (take_while p) alone ∙ ap (λ n. take n page.cells) (sym counted);
+        failing = ap (find (λ c. not (p c))) alone ∙ fails_first p page.cells ∙ ap (slice_get page.cells) (sym counted);
+      }
+
+  pub walk_stop : (index : ℕ) (last next after : Option Cell) (page : Page) (count : ℕ) → Walked index last → slice_get (group_pages level lead cells) index ≡ Some page → count ≡ prefix_len p page.cells → count ≤ length page.cells → IsEnd page count
+      → (count ≡ 0 → next ≡ last) → (0 < count → next ≡ slice_get page.cells (count - 1)) → after ≡ slice_get page.cells count → Ends next after
+  walk_stop index last next after page count w at counted within end none some is =
       let run = at_page index last page w at in
+      let behind = drop (page_room level) w.rest in
+      let here = ends_here index page count w.rest run counted end in
+      let all : cells ≡ w.front ++ (page.cells ++ behind) = w.whole ∙ ap (λ r. w.front ++ r) (split_rest index last page w run) in
       let prefix : take_while p cells ≡ w.front ++ take count page.cells =
-      ap (take_while p) (w.whole ∙ ap (λ r. w.front ++ r) (split_rest index last page w run)) ∙ prefix_past p w.front (page.cells ++ drop (page_room level) w.rest) w.passes
-      ∙ ap (λ r. w.front ++ r) (prefix_within p page.cells (drop (page_room level) w.rest) (subst (λ n. n < length page.cells) counted below) ∙ ap (λ n. take n page.cells) (sym counted)) in
-      last_after w.front page.cells count last next (omega arith) w.last_is none some ∙ ap last_of (sym prefix)
+      ap (take_while p) all ∙ prefix_past p w.front (page.cells ++ behind) w.passes ∙ ap (λ r. w.front ++ r) here.passing in
+      record {
+        floor_is = last_after w.front page.cells count last next within w.last_is none some ∙ ap last_of (sym prefix);
+        after_is = is ∙ sym (ap (find (λ c. not (p c))) all ∙ fails_past p w.front (page.cells ++ behind) w.passes ∙ here.failing);
+      }
 
-  -- and this one fails
-  pub walk_stop_fails : (index : ℕ) (last after : Option Cell) (page : Page) (count : ℕ) → Walked index last → slice_get (group_pages level lead cells) index ≡ Some page → count ≡ prefix_len p page.cells → count < length page.cells
-      → slice_get page.cells count ≡ after → after ≡ find (λ c. not (p c)) cells
-  walk_stop_fails index last after page count w at counted below is =
-      let run = at_page index last page w at in
-      let rest = drop (page_room level) w.rest in
-      sym (ap (find (λ c. not (p c))) (w.whole ∙ ap (λ r. w.front ++ r) (split_rest index last page w run)) ∙ fails_past p w.front (page.cells ++ rest) w.passes
-      ∙ fails_within p page.cells rest (subst (λ n. n < length page.cells) counted below) ∙ ap (slice_get page.cells) (sym counted) ∙ is)
-
-  -- all cells of the page pass: the walk goes on
-  pub walk_on : (index : ℕ) (last next : Option Cell) (page : Page) (count : ℕ) → Walked index last → slice_get (group_pages level lead cells) index ≡ Some page → count ≡ prefix_len p page.cells → count ≤ length page.cells → length page.cells ≤ count → 1 ≤ length page.cells
+  -- all cells of a full page pass: the walk goes on
+  pub walk_on : (index : ℕ) (last next : Option Cell) (page : Page) (count : ℕ) → Walked index last → slice_get (group_pages level lead cells) index ≡ Some page → count ≡ prefix_len p page.cells → count ≤ length page.cells → length page.cells ≤ count → page_room level ≤ length page.cells
       → (count ≡ 0 → next ≡ last) → (0 < count → next ≡ slice_get page.cells (count - 1)) → Walked (index + 1) next
-  walk_on index last next page count w at counted within all some_cell none some =
+  walk_on index last next page count w at counted within all whole_page none some =
       let run = at_page index last page w at in
-      let there = slice_get-within (group_pages level lead cells) index page at in
       record {
         front = w.front ++ page.cells;
         rest = drop (page_room level) w.rest;
         whole = w.whole ∙ ap (λ r. w.front ++ r) (split_rest index last page w run) ∙ sym (append_assoc w.front page.cells (drop (page_room level) w.rest));
         passes = all_append (λ cell. p cell ≡ true) w.front page.cells w.passes (all_pass p page.cells (subst (λ n. length page.cells ≤ n) counted all));
         pages = next_pages run.some;
-        counted = omega arith;
-        long = let l = w.long in omega (arith, length-append w.front page.cells);
+        full = let f = w.full in omega (arith, length-append w.front page.cells);
         last_is = last_after w.front page.cells count last next within w.last_is none some ∙ ap (λ xs. last_of (w.front ++ xs)) (take_all count page.cells all);
       }
     where

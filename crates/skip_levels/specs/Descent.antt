@@ -1,12 +1,16 @@
 -- What a descent from level to level on the search path of a key does.
-use Rattle.std.specs.Prelude.{◌≡◌, ℕ, suc, ◌+◌, ◌-◌, ◌≤◌, List, length, Option, Result, IfOk}
+use Rattle.std.specs.Prelude.{◌≡◌, ℕ, suc, ◌+◌, ◌-◌, ◌<◌, ◌≤◌, List, length, Bool, true, Option, Some, None, Result, IfOk}
 use Rattle.std.specs.FinMap.{find}
 use Rattle.store_base.specs.declared.store_fault.Fault.{Fault}
-use Rattle.store_base.specs.declared.label.Lead.{Lead}
+use Rattle.store_base.specs.declared.label.Lead as declared
 use Rattle.skip_levels.specs.declared.search.PathEnd.{PathEnd}
+use Rattle.skip_levels.specs.declared.search.KeyPlace.{KeyPlace}
 use Rattle.store_base.specs.Faults.{disk_faults_after}
 use Rattle.store_base.specs.Leads.{lead_of}
+use Rattle.std.specs.Ordering.{is_le, is_lt}
 use Rattle.store_model.specs.Paths.{key_cmp}
+use Rattle.store_model.specs.Labels.{Lead}
+use Rattle.store_model.specs.Labels.Lead.{Start, Leader}
 use Rattle.store_model.specs.Draws.{Draw, IsLawful}
 use Rattle.store_model.specs.Pairs.{Pair, IsPairs}
 use Rattle.store_model.specs.Pages.{pages_of_pairs}
@@ -24,12 +28,60 @@ pub record HoldsPairs (d : Draw) (s : List Pair) (m : PageMap) : Type 0 where
   pub map_is : m ≡ map_of_pages (pages_of_pairs d s)
 
 -- the lead is that of a level's group on the search path of the key, whatever list the map holds
-abbrev pub LeadsPath : PagesState → ℕ → ℕ → List ℕ → Lead → Type 0
+abbrev pub LeadsPath : PagesState → ℕ → ℕ → List ℕ → declared.Lead → Type 0
 LeadsPath pages height level key lead = (d : Draw) (s : List Pair) → HoldsPairs d s pages.pages → height ≡ d.height → lead_of lead ≡ leader_behind d level (not_above key s)
 
 -- the key is the first above that leads a group of a level, whatever list the map holds
 abbrev pub LeadsAhead : PagesState → ℕ → ℕ → List ℕ → Option (List ℕ) → Type 0
 LeadsAhead pages height level key next = (d : Draw) (s : List Pair) → HoldsPairs d s pages.pages → height ≡ d.height → next ≡ leader_ahead d level (above key s)
+
+-- what is known at a level on the search path of a key: what leads the group of the level, and the next one of that level
+pub record IsPlace (d : Draw) (s : List Pair) (level : ℕ) (key : List ℕ) (place : PathEnd) : Type 0 where
+  pub lead : lead_of place.lead ≡ leader_behind d level (not_above key s)
+  pub next : place.next ≡ leader_ahead d level (above key s)
+
+-- whether a key is at or above what leads a group, and below the next leader
+abbrev pub is_from : Lead → List ℕ → Bool
+is_from Start key = true
+is_from (Leader leader) key = is_le (key_cmp leader key)
+
+abbrev pub is_before : Option (List ℕ) → List ℕ → Bool
+is_before None key = true
+is_before (Some leader) key = is_lt (key_cmp key leader)
+
+-- a key lies in a group of level 0, or would lie there
+pub record LiesIn (place : PathEnd) (key : List ℕ) : Type 0 where
+  pub from : is_from (lead_of place.lead) key ≡ true
+  pub before : is_before place.next key ≡ true
+
+-- what is known of a group of level 0, if anything is: that it is the place of each key that lies in it
+abbrev pub IsKnown : Draw → List Pair → Option PathEnd → Type 0
+IsKnown d s None = Unit {0}
+IsKnown d s (Some place) = (key : List ℕ) → LiesIn place key → IsPlace d s 0 key place
+
+-- it is known of whatever list the map holds
+abbrev pub IsKnownIn : ℕ → PageMap → Option PathEnd → Type 0
+IsKnownIn height m known = (d : Draw) (s : List Pair) → HoldsPairs d s m → height ≡ d.height → IsKnown d s known
+
+-- the map is that of the pages of a list, and this is the place of the key at a level of it
+pub record IsWayFrom (d : Draw) (s : List Pair) (m : PageMap) (top : ℕ) (key : List ℕ) (from : PathEnd) : Type 0 where
+  pub holds : HoldsPairs d s m
+  pub within : top < d.height
+  pub place : IsPlace d s top key from
+
+-- what going down from one level to another leaves of observable pages
+pub record GoesDown (old new : PagesState) (top : ℕ) (from : PathEnd) (bottom : ℕ) (key : List ℕ) (result : Result PathEnd Fault) : Type 0 where
+  pub observable : IsObservable new
+  pub unchanged : new.pages ≡ old.pages
+  pub found : (d : Draw) (s : List Pair) → IsWayFrom d s old.pages top key from → IfOk result (IsPlace d s bottom key)
+  pub lookups : (d : Draw) (s : List Pair) → IsWayFrom d s old.pages top key from → new.lookups ≤ old.lookups + levels_cost d s key (suc bottom) (top - bottom)
+
+-- going down from one level to another on the search path of the key
+pub record IsWayDown (old new : PagesState) (top : ℕ) (from : PathEnd) (bottom : ℕ) (key : List ℕ) (result : Result PathEnd Fault) : Type 0 where
+  pub faults : new.faults ≡ disk_faults_after old.faults result
+  pub lookups_kept : old.lookups ≤ new.lookups
+  pub hidden : IsObservable new → IsObservable old
+  pub observed : IsObservable old → GoesDown old new top from bottom key result
 
 -- what the descent leaves of observable pages
 pub record FindsPathEnd (old new : PagesState) (height bottom : ℕ) (key : List ℕ) (result : Result PathEnd Fault) : Type 0 where
@@ -59,3 +111,23 @@ pub record IsValueSearch (old new : PagesState) (height : ℕ) (key : List ℕ) 
   pub lookups_kept : old.lookups ≤ new.lookups
   pub hidden : IsObservable new → IsObservable old
   pub observed : IsObservable old → FindsValue old new height key result
+
+-- the groups of two levels on the search path of a key, and its value
+pub record IsKeyPlace (d : Draw) (s : List Pair) (top : ℕ) (key : List ℕ) (place : KeyPlace) : Type 0 where
+  pub lead : lead_of place.lead ≡ leader_behind d top (not_above key s)
+  pub low : IsPlace d s 0 key place.low
+  pub value : place.value ≡ find key_cmp key s
+
+-- what a search for the place of a key leaves of observable pages
+pub record FindsKeyPlace (old new : PagesState) (height top : ℕ) (key : List ℕ) (result : Result KeyPlace Fault) : Type 0 where
+  pub observable : IsObservable new
+  pub unchanged : new.pages ≡ old.pages
+  pub found : (d : Draw) (s : List Pair) → HoldsPairs d s old.pages → height ≡ d.height → IfOk result (IsKeyPlace d s top key)
+  pub lookups : (d : Draw) (s : List Pair) → HoldsPairs d s old.pages → height ≡ d.height → new.lookups ≤ old.lookups + path_cost d s key
+
+-- a search for the place of a key, in pages of lists of this height
+pub record IsKeySearch (old new : PagesState) (height top : ℕ) (key : List ℕ) (result : Result KeyPlace Fault) : Type 0 where
+  pub faults : new.faults ≡ disk_faults_after old.faults result
+  pub lookups_kept : old.lookups ≤ new.lookups
+  pub hidden : IsObservable new → IsObservable old
+  pub observed : IsObservable old → FindsKeyPlace old new height top key result

@@ -1,5 +1,5 @@
 -- The cells of one group, and what a change of one key makes of them.
-use Rattle.std.specs.Prelude.{◌≡◌, ℕ, List, ◌++◌, map, filter, Bool, true, Option, Some, None, ◌==◌}
+use Rattle.std.specs.Prelude.{◌≡◌, ℕ, suc, ◌≤◌, List, ◌++◌, map, filter, length, take, drop, Bool, true, Option, Some, None, Result, MatchResult, ◌==◌}
 use Rattle.std.specs.List.{AllByRecursion}
 use Rattle.std.specs.List.Sorted.{IsStrictlySortedBy}
 use Rattle.std.specs.Option.{option_map}
@@ -43,3 +43,20 @@ merged key low own high = (side Less key low ++ side Equal key own) ++ side Grea
 pub record IsMerged (lead : Lead) (key : List ℕ) (low own high : List Cell) (made : declared.Lead × List Cell) : Type 0 where
   pub next : leads.lead_of made.0 ≡ lead_from (last_of (side Less key low)) lead
   pub cells : made.1 ≡ merged key low own high
+
+-- the cells from one place up to another are those of a key, between the cells below it and those above it
+pub record AreBetween (key : List ℕ) (cells : List Cell) (at past : ℕ) : Type 0 where
+  pub within : past ≤ length cells
+  pub low : take at cells ≡ side Less key cells
+  pub high : drop past cells ≡ side Greater key cells
+
+-- the place of the cell of a key, or the place where its cell would stand
+abbrev pub IsCellPlace : List ℕ → List Cell → Result ℕ ℕ → Type 0
+IsCellPlace key cells result = MatchResult result (λ at. AreBetween key cells at (suc at)) (λ at. AreBetween key cells at at)
+
+-- cells of a level without that of a key, and the place where it would stand
+pub record IsGap (level : ℕ) (key : List ℕ) (cells : List Cell) (at : ℕ) : Type 0 where
+  pub valid : AreCells level cells
+  pub within : at ≤ length cells
+  pub below : AllByRecursion (λ c. key_cmp c.key key ≡ Less) (take at cells)
+  pub above : AllByRecursion (λ c. key_cmp c.key key ≡ Greater) (drop at cells)

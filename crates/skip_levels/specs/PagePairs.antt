@@ -16,7 +16,8 @@ use Rattle.store_model.specs.PageMaps.{PageMap, pages_of_map}
 use Rattle.node_pages.specs.PagesState.{PagesState, IsObservable}
 use Rattle.skip_levels.specs.PairsState.{PairsState}
 use Rattle.skip_levels.specs.ValidPairs.{IsPairs-prop}
-use Rattle.skip_levels.specs.Descent.{HoldsPairs}
+use Rattle.skip_levels.specs.Descent.{HoldsPairs, IsPlace, IsKnown, IsKnownIn}
+use Rattle.skip_levels.specs.declared.search.PathEnd.{PathEnd}
 
 -- the pair of a cell, if it has a value
 abbrev pub pairs_with : List ℕ → Option (List ℕ) → List Pair
@@ -66,6 +67,17 @@ cell_code = coded_via (coded× (coded_list coded_ℕ) (coded_option (coded_list 
 
 page_code : Coded Page
 page_code = coded_via (coded× label_code (coded_list cell_code)) (λ p. (p.label, p.cells)) (λ a b e i. record { label = (e i).0; cells = (e i).1 })
+
+IsPlace-prop : (d : Draw) (s : List Pair) (level : ℕ) (key : List ℕ) (place : PathEnd) → IsProp (IsPlace d s level key place)
+IsPlace-prop d s level key place = hlevel (Coded-set lead_code, Coded-set (coded_option (coded_list coded_ℕ)))
+
+IsKnown-prop : (d : Draw) (s : List Pair) (known : Option PathEnd) → IsProp (IsKnown d s known)
+IsKnown-prop d s None = hlevel props
+IsKnown-prop d s (Some place) = hlevel (IsPlace-prop)
+
+-- that a place is known is one fact
+pub IsKnownIn-prop : (pages : PagesState) (height : ℕ) (m : PageMap) (known : Option PathEnd) → IsProp (IsObservable pages → IsKnownIn height m known)
+IsKnownIn-prop pages height m known = hlevel (IsKnown-prop)
 
 pub HoldsPairs-prop : (d : Draw) (s : List Pair) (m : PageMap) → IsProp (HoldsPairs d s m)
 HoldsPairs-prop d s m = hlevel (props, IsPairs-prop, Coded-set (maps.code {R = key_cmp} (coded_list coded_ℕ) page_code))

@@ -1,9 +1,10 @@
 -- A pair put into the pages of a list or taken out of them, level after level from the highest one that it stands on.
-use Rattle.std.specs.Prelude.{◌≡◌, ◌⊎◌, ℕ, ◌+◌, ◌*◌, ◌<◌, ◌≤◌, List, length, Option, Some, None, Result, IfOk, OnOk}
+use Rattle.std.specs.Prelude.{◌≡◌, ◌⊎◌, ℕ, suc, ◌+◌, ◌<◌, ◌≤◌, List, length, Option, Some, None, Result, IfOk, OnOk}
 use Rattle.std.specs.FinMap.{find, put}
 use Rattle.store_base.specs.declared.store_fault.Fault.{Fault}
 use Rattle.store_model.specs.Paths.{key_cmp}
 use Rattle.store_model.specs.Draws.{Draw}
+use Rattle.store_model.specs.Labels.{Lead}
 use Rattle.store_model.specs.Pairs.{Pair}
 use Rattle.store_model.specs.Pages.{pages_of_pairs}
 use Rattle.store_model.specs.PageMaps.{PageMap, map_of_pages}
@@ -12,7 +13,7 @@ use Rattle.skip_levels.specs.CellChanges.{IsPagesCall}
 use Rattle.skip_levels.specs.Descent.{HoldsPairs}
 use Rattle.skip_levels.specs.PagePairs.{pairs_of_map}
 use Rattle.skip_levels.specs.PairsState.{most_pairs, without}
-use Rattle.skip_levels.specs.SearchPath.{path_cost, path_cost_below}
+use Rattle.skip_levels.specs.SearchPath.{leader_behind, not_above, levels_cost, path_cost, path_cost_below, low_cost}
 
 -- a new key is put on its level first
 pub record IsNew (d : Draw) (s : List Pair) (key : List ℕ) (top : ℕ) : Type 0 where
@@ -25,42 +26,42 @@ pub record IsThere (s : List Pair) (key : List ℕ) (top : ℕ) : Type 0 where
   pub has : find key_cmp key s ≡ Some value
   pub lowest : top ≡ 0
 
--- the map is that of the pages of a list with room, and from this level on a value is to be put under the key
-pub record IsPutting (d : Draw) (s : List Pair) (m : PageMap) (height top : ℕ) (key : List ℕ) : Type 0 where
+-- the map is that of the pages of a list with room, and from this level on, in the group of that lead, a value is to be put under the key
+pub record IsPutting (d : Draw) (s : List Pair) (m : PageMap) (top : ℕ) (lead : Lead) (key : List ℕ) : Type 0 where
   pub holds : HoldsPairs d s m
-  pub high : height ≡ d.height
+  pub leads : lead ≡ leader_behind d top (not_above key s)
   pub room : length s < most_pairs
   pub place : IsNew d s key top ⊎ IsThere s key top
 
 -- a value put under a key
-pub record PutsPairFrom {T : Type 0} (old new : PagesState) (height top : ℕ) (key value : List ℕ) (result : Result T Fault) : Type 0 where
+pub record PutsPairFrom {T : Type 0} (old new : PagesState) (top : ℕ) (lead : Lead) (key value : List ℕ) (result : Result T Fault) : Type 0 where
   pub call : IsPagesCall old new result
-  pub put : IsObservable old → (d : Draw) (s : List Pair) → IsPutting d s old.pages height top key → OnOk result (new.pages ≡ map_of_pages (pages_of_pairs d (put key_cmp key value s)))
-  pub lookups : IsObservable old → (d : Draw) (s : List Pair) → IsPutting d s old.pages height top key → new.lookups ≤ old.lookups + path_cost d s key
+  pub put : IsObservable old → (d : Draw) (s : List Pair) → IsPutting d s old.pages top lead key → OnOk result (new.pages ≡ map_of_pages (pages_of_pairs d (put key_cmp key value s)))
+  pub lookups : IsObservable old → (d : Draw) (s : List Pair) → IsPutting d s old.pages top lead key → new.lookups ≤ old.lookups + levels_cost d s key 0 (suc top)
 
--- the map is that of the pages of a list that has the key, whose pair is to be taken out from this level on
-pub record IsTaking (d : Draw) (s : List Pair) (m : PageMap) (height top : ℕ) (key : List ℕ) : Type 0 where
+-- the map is that of the pages of a list that has the key, whose pair is to be taken out from this level on, in the group of that lead
+pub record IsTaking (d : Draw) (s : List Pair) (m : PageMap) (top : ℕ) (lead : Lead) (key : List ℕ) : Type 0 where
   pub holds : HoldsPairs d s m
-  pub high : height ≡ d.height
+  pub leads : lead ≡ leader_behind d top (not_above key s)
   pub value : List ℕ
   pub has : find key_cmp key s ≡ Some value
   pub own : top ≡ d.level key
 
 -- the pair of a key taken out
-pub record TakesPairFrom {T : Type 0} (old new : PagesState) (height top : ℕ) (key : List ℕ) (result : Result T Fault) : Type 0 where
+pub record TakesPairFrom {T : Type 0} (old new : PagesState) (top : ℕ) (lead : Lead) (key : List ℕ) (result : Result T Fault) : Type 0 where
   pub call : IsPagesCall old new result
-  pub taken : IsObservable old → (d : Draw) (s : List Pair) → IsTaking d s old.pages height top key → OnOk result (new.pages ≡ map_of_pages (pages_of_pairs d (without key s)))
-  pub lookups : IsObservable old → (d : Draw) (s : List Pair) → IsTaking d s old.pages height top key → new.lookups ≤ old.lookups + (path_cost d s key + path_cost_below d s key)
+  pub taken : IsObservable old → (d : Draw) (s : List Pair) → IsTaking d s old.pages top lead key → OnOk result (new.pages ≡ map_of_pages (pages_of_pairs d (without key s)))
+  pub lookups : IsObservable old → (d : Draw) (s : List Pair) → IsTaking d s old.pages top lead key → new.lookups ≤ old.lookups + (levels_cost d s key 0 (suc top) + path_cost_below d s key)
 
 -- a value put under a key of the list that the pages hold
 pub record PutsPairIn {T : Type 0} (d : Draw) (old new : PagesState) (key value : List ℕ) (result : Result T Fault) : Type 0 where
   pub call : IsPagesCall old new result
   pub put : IsObservable old → OnOk result (new.pages ≡ map_of_pages (pages_of_pairs d (put key_cmp key value (pairs_of_map old.pages))))
-  pub lookups : IsObservable old → new.lookups ≤ old.lookups + 2 * path_cost d (pairs_of_map old.pages) key
+  pub lookups : IsObservable old → new.lookups ≤ old.lookups + (path_cost d (pairs_of_map old.pages) key + low_cost d (pairs_of_map old.pages) key)
 
 -- the pair of a key taken out of the list that the pages hold, with its value as the answer
 pub record TakesPairIn (d : Draw) (old new : PagesState) (key : List ℕ) (result : Result (Option (List ℕ)) Fault) : Type 0 where
   pub call : IsPagesCall old new result
   pub found : IsObservable old → IfOk result (λ value. value ≡ find key_cmp key (pairs_of_map old.pages))
   pub taken : IsObservable old → OnOk result (new.pages ≡ map_of_pages (pages_of_pairs d (without key (pairs_of_map old.pages))))
-  pub lookups : IsObservable old → new.lookups ≤ old.lookups + (2 * path_cost d (pairs_of_map old.pages) key + path_cost_below d (pairs_of_map old.pages) key)
+  pub lookups : IsObservable old → new.lookups ≤ old.lookups + (path_cost d (pairs_of_map old.pages) key + (low_cost d (pairs_of_map old.pages) key + path_cost_below d (pairs_of_map old.pages) key))

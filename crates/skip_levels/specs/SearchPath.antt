@@ -1,8 +1,8 @@
 -- The search path of a key: on each level the group in which it stands or would stand, and what reading these groups costs.
-use Rattle.std.specs.Prelude.{ℕ, ◌+◌, List, [], ◌∷◌, map, filter, length, nat_lt, not, unwrap_or, Option, slice_get}
+use Rattle.std.specs.Prelude.{ℕ, suc, ◌+◌, ◌/◌, List, [], ◌∷◌, map, filter, length, nat_lt, not, unwrap_or, Option, slice_get}
 use Rattle.std.specs.List.{sum, find}
 use Rattle.std.specs.Ordering.{is_le, is_lt}
-use Rattle.store_model.specs.Lists.{same_bytes, numbers_below, numbers_from, runs}
+use Rattle.store_model.specs.Lists.{same_bytes, numbers_below, numbers_from}
 use Rattle.store_model.specs.Paths.{key_cmp}
 use Rattle.store_model.specs.Labels.{Lead, lead_bytes}
 use Rattle.store_model.specs.Labels.Lead.{Start, Leader}
@@ -47,9 +47,9 @@ group_at_or_below d s level key = group_led_by d s level (leader_behind d level 
 abbrev pub group_below : Draw → List Pair → ℕ → List ℕ → List Cell
 group_below d s level key = group_led_by d s level (leader_behind d level (below key s))
 
--- what reading a group costs: a lookup for each of its pages, and one that finds none
+-- what reading a group costs: a lookup for each full page, and one that finds a page with room, or none
 abbrev pub group_cost : ℕ → List Cell → ℕ
-group_cost level cells = length (runs (page_room level) cells) + 1
+group_cost level cells = length cells / page_room level + 1
 
 -- what reading the groups of so many levels of the search path costs, from a level on, at or below the key
 abbrev pub levels_cost : Draw → List Pair → List ℕ → ℕ → ℕ → ℕ
@@ -59,6 +59,10 @@ levels_cost d s key first count = sum (map (λ level. group_cost level (group_at
 abbrev pub path_cost : Draw → List Pair → List ℕ → ℕ
 path_cost d s key = levels_cost d s key 0 d.height
 
--- the same strictly below the key
+-- the same up to the key's own level
+abbrev pub low_cost : Draw → List Pair → List ℕ → ℕ
+low_cost d s key = levels_cost d s key 0 (suc (d.level key))
+
+-- what reading the groups of the whole search path strictly below the key costs
 abbrev pub path_cost_below : Draw → List Pair → List ℕ → ℕ
 path_cost_below d s key = sum (map (λ level. group_cost level (group_below d s level key)) (numbers_below d.height))

@@ -1,19 +1,18 @@
 //! The cells of one group, and how a change of one key leaves them.
 
-ghost use Rattle.std.specs.Prelude.{◌≡◌, ◌↔◌, ◌+◌, ◌≤◌, ◌++◌, [], ◌∷◌, List, length, IsTrue, IfOk, OnOk};
-ghost use Rattle.store_model.specs.Labels.{Lead as ModelLead};
-ghost use Rattle.store_model.specs.Pages.{Cell as ModelCell, IsCell, group_pages};
+ghost use Rattle.std.specs.Prelude.{◌≡◌, ◌↔◌, ◌+◌, ◌≤◌, ◌++◌, [], ◌∷◌, length, IsTrue, IfOk, OnOk};
+ghost use Rattle.store_model.specs.Pages.{IsCell};
 ghost use Rattle.store_base.specs.Leads.{lead_of};
 ghost use Rattle.skip_levels.specs.Floors.{last_of, lead_from};
 ghost use Rattle.skip_levels.specs.GroupCells.{AreCells, IsMerged, last_key_of, is_behind, side, merged};
 
-use node_pages::{Cell, Cells, PageList, join_group};
+use node_pages::{Cell, Cells};
 use std::alloc::Global;
 use std::cmp::Ordering;
 use store_base::{Key, Lead, NoMemory};
 
 /// Whether a cell is one of the level: a value is there at level 0 alone.
-fn is_cell(level: u8, cell: &Cell) -> bool
+pub fn is_cell(level: u8, cell: &Cell) -> bool
     ensures { IsTrue result ↔ IsCell level cell.now }
 {
     let _ = cell.key.as_bytes();
@@ -37,7 +36,7 @@ fn last_key(cells: &Cells) -> Option<Key>
 }
 
 /// Whether a key is above the last one, if there is one.
-fn is_above(key: &Key, last: Option<Key>) -> bool
+pub fn is_above(key: &Key, last: Option<Key>) -> bool
     ensures { result ≡ is_behind key.now last }
 {
     match last {
@@ -70,7 +69,7 @@ fn push_rising(cells: &mut Cells, level: u8, cell: Cell) -> Result<(), NoMemory>
 }
 
 /// A copy of a cell.
-fn copy_of(cell: &Cell) -> Result<Cell, NoMemory>
+pub fn copy_of(cell: &Cell) -> Result<Cell, NoMemory>
     ensures { IfOk result (λ copy. copy ≡ cell.now) }
 {
     match &cell.value {
@@ -106,30 +105,25 @@ fn append_side(
     Ok(())
 }
 
-/// The cells of some pages that are below the key, its own, and those of other pages that are above it, with what leads
-/// the next lower group of the search path. Of pages that are those of a group, as the pages of a list are, no cell is
-/// left out.
+/// The cells that are below the key, its own, and others that are above it, with what leads the next lower group of the
+/// search path. Of cells that rise, as those of a group do, none is left out.
 pub fn merge_cells(
     alloc: Global,
     level: u8,
     lead: &Lead,
-    low: &PageList,
+    low: &[Cell],
     key: &Key,
     own: &[Cell],
-    high: &PageList,
+    high: &[Cell],
 ) -> Result<(Lead, Cells), NoMemory>
     ensures valid { IfOk result (λ made. AreCells level made.1) }
-    ensures groups { (lows highs : List ModelCell) (low_lead high_lead : ModelLead) → low.now ≡ group_pages level low_lead lows → high.now ≡ group_pages level high_lead highs
-        → AreCells level (merged key.now lows own.now highs) → IfOk result (IsMerged (lead_of lead.now) key.now lows own.now highs) }
-    ensures few { (lows highs : List ModelCell) (low_lead high_lead : ModelLead) → low.now ≡ group_pages level low_lead lows → high.now ≡ group_pages level high_lead highs
-        → IfOk result (λ made. length made.1 ≤ length lows + (length own.now + length highs)) }
+    ensures merged { AreCells level (merged key.now low.now own.now high.now) → IfOk result (IsMerged (lead_of lead.now) key.now low.now own.now high.now) }
+    ensures few { IfOk result (λ made. length made.1 ≤ length low.now + (length own.now + length high.now)) }
 {
-    let lows = join_group(alloc, low)?;
-    let highs = join_group(alloc, high)?;
     let mut cells = Cells::new(alloc);
-    append_side(&mut cells, level, lows.as_slice(), key, Ordering::Less)?;
+    append_side(&mut cells, level, low, key, Ordering::Less)?;
     let next = lead_behind(&cells, lead);
     append_side(&mut cells, level, own, key, Ordering::Equal)?;
-    append_side(&mut cells, level, highs.as_slice(), key, Ordering::Greater)?;
+    append_side(&mut cells, level, high, key, Ordering::Greater)?;
     Ok((next, cells))
 }

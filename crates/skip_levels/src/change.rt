@@ -6,12 +6,16 @@ ghost use Rattle.store_base.specs.Leads.{lead_of};
 ghost use Rattle.node_pages.specs.PagesState.{IsObservable, most_pages};
 ghost use Rattle.skip_levels.specs.GroupChanges.{IsGroupRead, IsPagesChange, IsGroupChange};
 
+use crate::group::{is_last, label_in_group};
 use node_pages::{PageList, Pages};
 use std::alloc::Global;
-use store_base::{Fault, Label, Lead};
+use store_base::{Fault, Lead};
+
+/// Most groups have no more pages.
+const FEW_PAGES: u32 = 4;
 
 /// The pages of the group that `lead` leads on the level; none where it is not there. Each page is asked for once, and
-/// one page more. After a fault the pages are as they were.
+/// none behind a page with room. After a fault the pages are as they were.
 pub fn read_group<P: Pages>(
     alloc: Global,
     pages: &mut P,
@@ -21,18 +25,16 @@ pub fn read_group<P: Pages>(
     ensures call { IsGroupRead (P.state pages.old) (P.state pages.new) level (lead_of lead.now) result }
     ensures follows { P.follows pages.old pages.new }
 {
-    let _ = lead.key_bytes();
-    let mut group = PageList::new(alloc);
+    let mut group = PageList::with_room(alloc, FEW_PAGES)?;
     for index in 0..u32::MAX {
-        let label = Label {
-            level,
-            lead: *lead,
-            index,
-        };
-        let Some(page) = pages.get(&label)? else {
+        let found = pages.look(&label_in_group(level, lead, index))?;
+        let Some(page) = found else {
             return Ok(group);
         };
-        group.push(page)?;
+        group.push(*page)?;
+        if is_last(level, page) {
+            return Ok(group);
+        }
     }
     Ok(group)
 }

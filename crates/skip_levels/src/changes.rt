@@ -1,21 +1,22 @@
 //! A change of one pair in the pages of a list, level after level from the highest one that changes.
 
 ghost use Rattle.std.specs.Prelude.{◌≡◌, ◌<◌, List, length, IfOk};
+ghost use Rattle.store_base.specs.Leads.{lead_of};
 ghost use Rattle.store_model.specs.Draws as draws;
 ghost use Rattle.store_model.specs.Pairs.{Pair};
 ghost use Rattle.store_model.specs.Pages as model;
 ghost use Rattle.node_pages.specs.PagesState.{IsObservable};
 ghost use Rattle.skip_levels.specs.PairsState.{most_pairs};
-ghost use Rattle.skip_levels.specs.Descent.{HoldsPairs};
+ghost use Rattle.skip_levels.specs.Descent.{HoldsPairs, IsKnownIn};
 ghost use Rattle.skip_levels.specs.PagePairs.{pairs_of_map};
 ghost use Rattle.skip_levels.specs.PairChanges.{IsPutting, IsTaking, PutsPairFrom, TakesPairFrom, PutsPairIn, TakesPairIn};
 
 use crate::levels::{join_groups, set_cells, split_group};
-use crate::search::{find_value, path_end};
+use crate::search::{KeyPlace, PathEnd, find_place};
 use node_pages::{Cell, Pages};
 use seeded_draw::Draw;
 use std::alloc::Global;
-use store_base::{Fault, Key, NoMemory, Value};
+use store_base::{Fault, Key, Lead, NoMemory, Value};
 
 /// The cell of a pair on a level: the value is there at level 0 alone.
 fn cell_on(level: u8, key: &Key, value: &Value) -> Result<Cell, NoMemory>
@@ -28,56 +29,52 @@ fn cell_on(level: u8, key: &Key, value: &Value) -> Result<Cell, NoMemory>
     }
 }
 
-/// Puts the value under the key, from the level `top` down: of a new key that is its own level, and on each lower one the group
-/// is cut in two before the key. A key that is there keeps its levels, and its value stands on level 0 alone. After a fault a
-/// part of the pages is changed.
+/// Puts the value under the key, from the level `top` down, on which `lead` leads the group of its search path: of a new key that
+/// is its own level, and on each lower one the group is cut in two before the key. A key that is there keeps its levels, and its
+/// value stands on level 0 alone. After a fault a part of the pages is changed.
 pub fn put_from<P: Pages>(
     alloc: Global,
     pages: &mut P,
-    height: u8,
     top: u8,
+    lead: &Lead,
     key: &Key,
     value: &Value,
 ) -> Result<(), Fault>
-    requires within { top < height }
-    requires place { IsObservable (P.state pages.old) → (d : draws.Draw) × (s : List Pair) × IsPutting d s (P.state pages.old).pages height top key.now }
-    ensures call { PutsPairFrom (P.state pages.old) (P.state pages.new) height top key.now value.now result }
+    requires { IsObservable (P.state pages.old) → (d : draws.Draw) × (s : List Pair) × IsPutting d s (P.state pages.old).pages top (lead_of lead.now) key.now }
+    ensures call { PutsPairFrom (P.state pages.old) (P.state pages.new) top (lead_of lead.now) key.now value.now result }
     ensures follows { P.follows pages.old pages.new }
 {
     let _ = key.as_bytes();
     let _ = value.as_slice();
-    let end = path_end(pages, height, top, key)?;
     let own = [cell_on(top, key, value)?];
-    let mut lead = set_cells(alloc, pages, top, &end.lead, key, &own)?;
+    let mut next = set_cells(alloc, pages, top, lead, key, &own)?;
     let mut level = top;
     while level > 0 {
         level -= 1;
-        let own = [cell_on(level, key, value)?];
-        lead = split_group(alloc, pages, level, &lead, key, &own)?;
+        let own = cell_on(level, key, value)?;
+        next = split_group(alloc, pages, level, &next, key, own)?;
     }
     Ok(())
 }
 
-/// Takes the pair of a key out, from its own level down: on each lower one the group that it leads is joined to the group before
-/// it. After a fault a part of the pages is changed.
+/// Takes the pair of a key out, from its own level down, on which `lead` leads the group of its search path: on each lower one
+/// the group that it leads is joined to the group before it. After a fault a part of the pages is changed.
 pub fn take_from<P: Pages>(
     alloc: Global,
     pages: &mut P,
-    height: u8,
     top: u8,
+    lead: &Lead,
     key: &Key,
 ) -> Result<(), Fault>
-    requires within { top < height }
-    requires place { IsObservable (P.state pages.old) → (d : draws.Draw) × (s : List Pair) × IsTaking d s (P.state pages.old).pages height top key.now }
-    ensures call { TakesPairFrom (P.state pages.old) (P.state pages.new) height top key.now result }
+    requires { IsObservable (P.state pages.old) → (d : draws.Draw) × (s : List Pair) × IsTaking d s (P.state pages.old).pages top (lead_of lead.now) key.now }
+    ensures call { TakesPairFrom (P.state pages.old) (P.state pages.new) top (lead_of lead.now) key.now result }
     ensures follows { P.follows pages.old pages.new }
 {
-    let end = path_end(pages, height, top, key)?;
-    let mut lead = set_cells(alloc, pages, top, &end.lead, key, &[])?;
+    let mut next = set_cells(alloc, pages, top, lead, key, &[])?;
     let mut level = top;
     while level > 0 {
         level -= 1;
-        lead = join_groups(alloc, pages, level, &lead, key)?;
+        next = join_groups(alloc, pages, level, &next, key)?;
     }
     Ok(())
 }
@@ -87,18 +84,25 @@ pub fn put_pair<P: Pages, W: Draw>(
     alloc: Global,
     pages: &mut P,
     draw: &W,
+    known: &Option<PathEnd>,
     key: &Key,
     value: &Value,
 ) -> Result<(), Fault>
+    requires known { IsObservable (P.state pages.old) → IsKnownIn (W.drawn draw.now).height (P.state pages.old).pages known.now }
     requires whole { IsObservable (P.state pages.old) → HoldsPairs (W.drawn draw.now) (pairs_of_map (P.state pages.old).pages) (P.state pages.old).pages }
     requires room { IsObservable (P.state pages.old) → length (pairs_of_map (P.state pages.old).pages) < most_pairs }
     ensures call { PutsPairIn (W.drawn draw.now) (P.state pages.old) (P.state pages.new) key.now value.now result }
     ensures follows { P.follows pages.old pages.new }
 {
-    let height = draw.height();
-    match find_value(pages, height, key)? {
-        Some(_) => put_from(alloc, pages, height, 0, key, value),
-        None => put_from(alloc, pages, height, draw.level(key), key, value),
+    let top = draw.level(key);
+    let KeyPlace {
+        lead,
+        low,
+        value: found,
+    } = find_place(pages, known, draw.height(), top, key)?;
+    match found {
+        Some(_) => put_from(alloc, pages, 0, &low.lead, key, value),
+        None => put_from(alloc, pages, top, &lead, key, value),
     }
 }
 
@@ -108,16 +112,19 @@ pub fn take_pair<P: Pages, W: Draw>(
     alloc: Global,
     pages: &mut P,
     draw: &W,
+    known: &Option<PathEnd>,
     key: &Key,
 ) -> Result<Option<Value>, Fault>
+    requires known { IsObservable (P.state pages.old) → IsKnownIn (W.drawn draw.now).height (P.state pages.old).pages known.now }
     requires whole { IsObservable (P.state pages.old) → HoldsPairs (W.drawn draw.now) (pairs_of_map (P.state pages.old).pages) (P.state pages.old).pages }
     ensures call { TakesPairIn (W.drawn draw.now) (P.state pages.old) (P.state pages.new) key.now result }
     ensures follows { P.follows pages.old pages.new }
 {
-    let height = draw.height();
-    let Some(value) = find_value(pages, height, key)? else {
+    let top = draw.level(key);
+    let KeyPlace { lead, value, .. } = find_place(pages, known, draw.height(), top, key)?;
+    let Some(value) = value else {
         return Ok(None);
     };
-    take_from(alloc, pages, height, draw.level(key), key)?;
+    take_from(alloc, pages, top, &lead, key)?;
     Ok(Some(value))
 }

@@ -4,6 +4,8 @@
 mod cells;
 mod change;
 mod changes;
+mod group;
+mod in_place;
 mod levels;
 mod map;
 mod next;

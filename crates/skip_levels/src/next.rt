@@ -2,11 +2,14 @@
 
 ghost use Rattle.std.specs.Prelude.{◌≡◌, ◌≤◌};
 ghost use Rattle.std.specs.Option.{option_or};
+ghost use Rattle.node_pages.specs.PagesState.{IsObservable};
+ghost use Rattle.skip_levels.specs.Descent.{IsKnownIn};
 ghost use Rattle.skip_levels.specs.NextSearch.{pair_in, pair_at, IsFirstPair, IsNextSearch};
 
-use crate::search::{Neighbours, neighbours_in_group, path_end};
+use crate::group::label_in_group;
+use crate::search::{Neighbours, PathEnd, neighbours_in_group, path_end_from};
 use node_pages::{Cell, Pages};
-use store_base::{Fault, Key, Label, Lead, Value};
+use store_base::{Fault, Key, Lead, Value};
 
 /// The pair of a cell of level 0.
 fn pair_of(cell: Option<Cell>) -> Option<(Key, Value)>
@@ -41,13 +44,8 @@ fn first_pair<P: Pages>(pages: &mut P, leader: Key) -> Result<Option<(Key, Value
     ensures call { IsFirstPair (P.state pages.old) (P.state pages.new) leader result }
     ensures follows { P.follows pages.old pages.new }
 {
-    let _ = leader.as_bytes();
-    let label = Label {
-        level: 0,
-        lead: Lead::Key(leader),
-        index: 0,
-    };
-    let Some(page) = pages.get(&label)? else {
+    let found = pages.look(&label_in_group(0, &Lead::Key(leader), 0))?;
+    let Some(page) = found else {
         return Ok(None);
     };
     let _ = page.len();
@@ -59,14 +57,16 @@ fn first_pair<P: Pages>(pages: &mut P, leader: Key) -> Result<Option<(Key, Value
 /// a fault the pages are as they were.
 pub fn find_next<P: Pages>(
     pages: &mut P,
+    known: &Option<PathEnd>,
     height: u8,
     key: &Key,
 ) -> Result<Option<(Key, Value)>, Fault>
-    requires { 1 ≤ height }
+    requires some { 1 ≤ height }
+    requires known { IsObservable (P.state pages.old) → IsKnownIn height (P.state pages.old).pages known.now }
     ensures call { IsNextSearch (P.state pages.old) (P.state pages.new) height key.now result }
     ensures follows { P.follows pages.old pages.new }
 {
-    let end = path_end(pages, height, 0, key)?;
+    let end = path_end_from(pages, known, height, 0, key)?;
     let near = neighbours_in_group(pages, 0, &end.lead, key)?;
     let here = pair_from(near, key);
     let Some(leader) = end.next else {

@@ -1,14 +1,16 @@
 //! The search for a key in the pages of one group.
 
-ghost use Rattle.std.specs.Prelude.{◌≡◌, ◌-◌, ◌<◌, ◌≤◌, length, slice_get};
+ghost use Rattle.std.specs.Prelude.{◌≡◌, ◌-◌, ◌<◌, ◌≤◌, length, slice_get, ◌↔◌, IsTrue};
 ghost use Rattle.std.specs.List.{prefix_len};
 ghost use Rattle.store_base.specs.Leads.{lead_of};
+ghost use Rattle.node_pages.specs.PagesState.{IsObservable};
 ghost use Rattle.skip_levels.specs.Floors.{is_not_above, lead_from, key_ahead, value_at};
-ghost use Rattle.skip_levels.specs.Descent.{IsDescent, IsValueSearch};
+ghost use Rattle.skip_levels.specs.Descent.{LiesIn, IsKnownIn, IsWayDown, IsDescent, IsKeySearch};
 ghost use Rattle.skip_levels.specs.Searches.{IsGroupSearch};
 
+use crate::group::{is_last, label_in_group};
 use node_pages::{Cell, Page, Pages};
-use store_base::{Fault, Key, Label, Lead, Value};
+use store_base::{Fault, Key, Lead, Value};
 
 /// How many cells of a page have keys that are not above the given one, by halving.
 fn count_not_above(page: &Page, key: &Key) -> u32
@@ -41,6 +43,17 @@ fn last_of_first(page: &Page, count: u32, last: Option<Cell>) -> Option<Cell>
     }
 }
 
+/// The cell of a page with this number, the first being 0; `None` where it has no more.
+fn cell_at(page: &Page, index: u32) -> Option<Cell>
+    ensures { result ≡ slice_get page.now.cells index }
+{
+    if index < page.len() {
+        Some(page.cell(index))
+    } else {
+        None
+    }
+}
+
 /// The cells next to a key in a group.
 #[derive(Debug, Drop)]
 pub struct Neighbours {
@@ -60,7 +73,7 @@ pub struct PathEnd {
 }
 
 /// The cells next to a key in the group that `lead` leads on the level. Each page of the group is asked for once at most,
-/// and one page more.
+/// and none behind a page with room.
 pub fn neighbours_in_group<P: Pages>(
     pages: &mut P,
     level: u8,
@@ -70,26 +83,21 @@ pub fn neighbours_in_group<P: Pages>(
     ensures call { IsGroupSearch (P.state pages.old) (P.state pages.new) level (lead_of lead.now) key.now result }
     ensures follows { P.follows pages.old pages.new }
 {
-    let _ = lead.key_bytes();
     let mut last = None;
     for index in 0..u32::MAX {
-        let label = Label {
-            level,
-            lead: *lead,
-            index,
-        };
-        let Some(page) = pages.get(&label)? else {
+        let found = pages.look(&label_in_group(level, lead, index))?;
+        let Some(page) = found else {
             return Ok(Neighbours {
                 floor: last,
                 after: None,
             });
         };
-        let count = count_not_above(&page, key);
-        last = last_of_first(&page, count, last);
-        if count < page.len() {
+        let count = count_not_above(page, key);
+        last = last_of_first(page, count, last);
+        if count < page.len() || is_last(level, page) {
             return Ok(Neighbours {
                 floor: last,
-                after: Some(page.cell(count)),
+                after: cell_at(page, count),
             });
         }
     }
@@ -120,6 +128,31 @@ fn next_ahead(found: Option<Cell>, next: Option<Key>) -> Option<Key>
     }
 }
 
+/// Goes down on the search path of a key from the level `top`, of which `from` tells the place, to the level `bottom`, by one
+/// group of each level above it.
+fn go_down<P: Pages>(
+    pages: &mut P,
+    top: u8,
+    from: &PathEnd,
+    bottom: u8,
+    key: &Key,
+) -> Result<PathEnd, Fault>
+    requires { bottom ≤ top }
+    ensures call { IsWayDown (P.state pages.old) (P.state pages.new) top from.now bottom key.now result }
+    ensures follows { P.follows pages.old pages.new }
+{
+    let mut lead = from.lead;
+    let mut next = from.next;
+    let mut level = top;
+    while level > bottom {
+        let near = neighbours_in_group(pages, level, &lead, key)?;
+        lead = next_lead(near.floor, lead);
+        next = next_ahead(near.after, next);
+        level -= 1;
+    }
+    Ok(PathEnd { lead, next })
+}
+
 /// What leads the group of the level `bottom` on the search path of a key, and the next group of that level, found by one
 /// group of each level above, from the highest on.
 pub fn path_end<P: Pages>(
@@ -132,16 +165,50 @@ pub fn path_end<P: Pages>(
     ensures call { IsDescent (P.state pages.old) (P.state pages.new) height bottom key.now result }
     ensures follows { P.follows pages.old pages.new }
 {
-    let mut lead = Lead::Start;
-    let mut next = None;
-    let mut level = height - 1;
-    while level > bottom {
-        let near = neighbours_in_group(pages, level, &lead, key)?;
-        lead = next_lead(near.floor, lead);
-        next = next_ahead(near.after, next);
-        level -= 1;
+    let start = PathEnd {
+        lead: Lead::Start,
+        next: None,
+    };
+    go_down(pages, height - 1, &start, bottom, key)
+}
+
+/// Whether a key lies in the group of level 0 of this place: from what leads it on, and below the next leader.
+fn lies_in(place: &PathEnd, key: &Key) -> bool
+    ensures { IsTrue result ↔ LiesIn place.now key.now }
+{
+    let is_from = match &place.lead {
+        Lead::Start => true,
+        Lead::Key(leader) => leader.cmp(key).is_le(),
+    };
+    let is_before = match &place.next {
+        Some(leader) => key.cmp(leader).is_lt(),
+        None => true,
+    };
+    is_from && is_before
+}
+
+/// As `path_end`. Where a group of level 0 is known in which the key lies, no page is asked for.
+pub fn path_end_from<P: Pages>(
+    pages: &mut P,
+    known: &Option<PathEnd>,
+    height: u8,
+    bottom: u8,
+    key: &Key,
+) -> Result<PathEnd, Fault>
+    requires within { bottom < height }
+    requires known { IsObservable (P.state pages.old) → IsKnownIn height (P.state pages.old).pages known.now }
+    ensures call { IsDescent (P.state pages.old) (P.state pages.new) height bottom key.now result }
+    ensures follows { P.follows pages.old pages.new }
+{
+    if let Some(place) = known {
+        if bottom == 0 && lies_in(place, key) {
+            return Ok(PathEnd {
+                lead: place.lead,
+                next: place.next,
+            });
+        }
     }
-    Ok(PathEnd { lead, next })
+    path_end(pages, height, bottom, key)
 }
 
 /// The value of the key, where the cell found is the key's.
@@ -156,15 +223,37 @@ fn value_in(found: Option<Cell>, key: &Key) -> Option<Value>
     }
 }
 
-/// The value of a key in the pages of a list of this height; `None` exactly where the list lacks the key. The groups of
-/// one search path are read: one page is asked for per page of these groups at most, and one per group. After a fault
-/// the pages are as they were.
-pub fn find_value<P: Pages>(pages: &mut P, height: u8, key: &Key) -> Result<Option<Value>, Fault>
-    requires { 1 ≤ height }
-    ensures call { IsValueSearch (P.state pages.old) (P.state pages.new) height key.now result }
+/// Where a key stands in a list, or would stand.
+#[derive(Debug, Drop)]
+pub struct KeyPlace {
+    /// What leads the group of the key's own level on its search path.
+    pub lead: Lead,
+    /// Its place on level 0.
+    pub low: PathEnd,
+    /// The value of the key, if the list has it.
+    pub value: Option<Value>,
+}
+
+/// The place of a key, whose own level is `top`, in the pages of a list of this height. The groups of one search path are
+/// read, or that of level 0 alone where it is known. After a fault the pages are as they were.
+pub fn find_place<P: Pages>(
+    pages: &mut P,
+    known: &Option<PathEnd>,
+    height: u8,
+    top: u8,
+    key: &Key,
+) -> Result<KeyPlace, Fault>
+    requires within { top < height }
+    requires known { IsObservable (P.state pages.old) → IsKnownIn height (P.state pages.old).pages known.now }
+    ensures call { IsKeySearch (P.state pages.old) (P.state pages.new) height top key.now result }
     ensures follows { P.follows pages.old pages.new }
 {
-    let end = path_end(pages, height, 0, key)?;
+    let upper = path_end_from(pages, known, height, top, key)?;
+    let end = go_down(pages, top, &upper, 0, key)?;
     let near = neighbours_in_group(pages, 0, &end.lead, key)?;
-    Ok(value_in(near.floor, key))
+    Ok(KeyPlace {
+        lead: upper.lead,
+        low: end,
+        value: value_in(near.floor, key),
+    })
 }

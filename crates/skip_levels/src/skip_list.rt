@@ -3,13 +3,13 @@
 ghost use Rattle.std.specs.Prelude.{◌≡◌};
 ghost use Rattle.store_model.specs.Pairs as model;
 ghost use Rattle.node_pages.specs.PagesState as pages_state;
-ghost use Rattle.skip_levels.specs.Descent.{HoldsPairs};
-ghost use Rattle.skip_levels.specs.PagePairs.{pairs_of_map, list_over, IsWhole, IsWhole-prop};
+ghost use Rattle.skip_levels.specs.Descent.{HoldsPairs, IsKnownIn};
+ghost use Rattle.skip_levels.specs.PagePairs.{pairs_of_map, list_over, IsWhole, IsWhole-prop, IsKnownIn-prop};
 
 use crate::changes::{put_pair, take_pair};
 use crate::next::find_next;
 use crate::ordered::OrderedPairs;
-use crate::search::find_value;
+use crate::search::{KeyPlace, PathEnd, find_place};
 use node_pages::Pages;
 use seeded_draw::Draw;
 use std::alloc::Global;
@@ -20,12 +20,16 @@ use store_base::{Fault, Key, Value};
 ///
 /// It is observable where its pages are and no `put` or `take` of it failed. One of which a change failed is spent: its pages are
 /// given back by `into_pages`, and a further `put` or `take` answers `NoMemory` and changes nothing.
+///
+/// It knows the group of level 0 to which the last `get` came, until a `put` or a `take`: a key that lies there needs no descent.
 #[derive(Drop)]
 pub struct SkipList<P: Pages, W: Draw> {
     alloc: Global,
     pages: P,
     draw: W,
     is_whole: bool,
+    known: Option<PathEnd>,
+    pub ghost place: { pages_state.IsObservable (P.state pages) → IsKnownIn (W.drawn draw).height (P.state pages).pages known } by { IsKnownIn-prop (P.state pages) (W.drawn draw).height (P.state pages).pages known },
     pub ghost whole: { IsWhole (W.drawn draw) (list_over is_whole (P.state pages)) (P.state pages).pages } by { IsWhole-prop (W.drawn draw) (list_over is_whole (P.state pages)) (P.state pages).pages },
 }
 
@@ -45,6 +49,7 @@ impl<P: Pages, W: Draw + Drop> SkipList<P, W> {
             pages,
             draw,
             is_whole: true,
+            known: None,
         }
     }
 
@@ -58,10 +63,10 @@ impl<P: Pages, W: Draw + Drop> SkipList<P, W> {
 }
 
 impl<P: Pages, W: Draw + Drop> OrderedPairs for SkipList<P, W> {
-    ghost use Rattle.std.specs.Prelude.{refl, ◌+◌, ◌*◌, ◌<◌, ◌≤◌, length};
+    ghost use Rattle.std.specs.Prelude.{refl, ◌+◌, ◌<◌, ◌≤◌, length};
     ghost use Rattle.std.proofs.Common.{◌∙◌};
     ghost use Rattle.skip_levels.specs.PairsState.{IsObservable, IsPairGet, IsPairPut, IsPairTake, IsNextPair, most_pairs};
-    ghost use Rattle.skip_levels.specs.SearchPath.{path_cost, path_cost_below};
+    ghost use Rattle.skip_levels.specs.SearchPath.{path_cost, path_cost_below, low_cost};
 
     ghost state = { λ list. list_over list.is_whole (P.state list.pages) };
 
@@ -75,22 +80,24 @@ impl<P: Pages, W: Draw + Drop> OrderedPairs for SkipList<P, W> {
 
     ghost follows_trans = { λ a b c first second. (P.follows_trans a.pages b.pages c.pages first.0 second.0, second.1 ∙ first.1) };
 
-    /// The groups of one search path are read: at most a lookup for each of their pages, and one for each group.
+    /// The groups of one search path are read: at most a lookup for each of their full pages, and one for each group.
     fn get(&mut self, key: &Key) -> Result<Option<Value>, Fault>
         ensures call { IsPairGet (⟦<SkipList<P, W> as OrderedPairs>⟧.state self.old) (⟦<SkipList<P, W> as OrderedPairs>⟧.state self.new) key.now result }
         ensures follows { ⟦<SkipList<P, W> as OrderedPairs>⟧.follows self.old self.new }
         ensures lookups { IsObservable (⟦<SkipList<P, W> as OrderedPairs>⟧.state self.old) → (P.state self.new.pages).lookups ≤ (P.state self.old.pages).lookups + path_cost (W.drawn self.old.draw) (pairs_of_map (P.state self.old.pages).pages) key.now }
     {
         let height = self.draw.height();
-        find_value(&mut self.pages, height, key)
+        let KeyPlace { low, value, .. } = find_place(&mut self.pages, &self.known, height, 0, key)?;
+        self.known = Some(low);
+        Ok(value)
     }
 
-    /// The groups of the search path are read twice, once to find the key and once to change them.
+    /// The groups of the search path are read to find the key, and those from its own level down once more to change them.
     fn put(&mut self, key: Key, value: Value) -> Result<(), Fault>
         requires { IsObservable (⟦<SkipList<P, W> as OrderedPairs>⟧.state self.old) → length (⟦<SkipList<P, W> as OrderedPairs>⟧.state self.old).pairs < most_pairs }
         ensures call { IsPairPut (⟦<SkipList<P, W> as OrderedPairs>⟧.state self.old) (⟦<SkipList<P, W> as OrderedPairs>⟧.state self.new) key value result }
         ensures follows { ⟦<SkipList<P, W> as OrderedPairs>⟧.follows self.old self.new }
-        ensures lookups { IsObservable (⟦<SkipList<P, W> as OrderedPairs>⟧.state self.old) → (P.state self.new.pages).lookups ≤ (P.state self.old.pages).lookups + 2 * path_cost (W.drawn self.old.draw) (pairs_of_map (P.state self.old.pages).pages) key }
+        ensures lookups { IsObservable (⟦<SkipList<P, W> as OrderedPairs>⟧.state self.old) → (P.state self.new.pages).lookups ≤ (P.state self.old.pages).lookups + (path_cost (W.drawn self.old.draw) (pairs_of_map (P.state self.old.pages).pages) key + low_cost (W.drawn self.old.draw) (pairs_of_map (P.state self.old.pages).pages) key) }
     {
         let _ = key.as_bytes();
         let _ = value.as_slice();
@@ -98,22 +105,31 @@ impl<P: Pages, W: Draw + Drop> OrderedPairs for SkipList<P, W> {
             return Err(Fault::NoMemory);
         }
         self.is_whole = false;
-        put_pair(self.alloc, &mut self.pages, &self.draw, &key, &value)?;
+        let known = self.known.take();
+        put_pair(
+            self.alloc,
+            &mut self.pages,
+            &self.draw,
+            &known,
+            &key,
+            &value,
+        )?;
         self.is_whole = true;
         Ok(())
     }
 
-    /// The groups of the search path are read twice, as in `put`, and those of the search path strictly below the key besides.
+    /// The groups of the search path are read as in `put`, and those of the search path strictly below the key besides.
     fn take(&mut self, key: &Key) -> Result<Option<Value>, Fault>
         ensures call { IsPairTake (⟦<SkipList<P, W> as OrderedPairs>⟧.state self.old) (⟦<SkipList<P, W> as OrderedPairs>⟧.state self.new) key.now result }
         ensures follows { ⟦<SkipList<P, W> as OrderedPairs>⟧.follows self.old self.new }
-        ensures lookups { IsObservable (⟦<SkipList<P, W> as OrderedPairs>⟧.state self.old) → (P.state self.new.pages).lookups ≤ (P.state self.old.pages).lookups + (2 * path_cost (W.drawn self.old.draw) (pairs_of_map (P.state self.old.pages).pages) key.now + path_cost_below (W.drawn self.old.draw) (pairs_of_map (P.state self.old.pages).pages) key.now) }
+        ensures lookups { IsObservable (⟦<SkipList<P, W> as OrderedPairs>⟧.state self.old) → (P.state self.new.pages).lookups ≤ (P.state self.old.pages).lookups + (path_cost (W.drawn self.old.draw) (pairs_of_map (P.state self.old.pages).pages) key.now + (low_cost (W.drawn self.old.draw) (pairs_of_map (P.state self.old.pages).pages) key.now + path_cost_below (W.drawn self.old.draw) (pairs_of_map (P.state self.old.pages).pages) key.now)) }
     {
         if !self.is_whole {
             return Err(Fault::NoMemory);
         }
         self.is_whole = false;
-        let taken = take_pair(self.alloc, &mut self.pages, &self.draw, key)?;
+        let known = self.known.take();
+        let taken = take_pair(self.alloc, &mut self.pages, &self.draw, &known, key)?;
         self.is_whole = true;
         Ok(taken)
     }
@@ -125,6 +141,6 @@ impl<P: Pages, W: Draw + Drop> OrderedPairs for SkipList<P, W> {
         ensures lookups { IsObservable (⟦<SkipList<P, W> as OrderedPairs>⟧.state self.old) → (P.state self.new.pages).lookups ≤ (P.state self.old.pages).lookups + path_cost (W.drawn self.old.draw) (pairs_of_map (P.state self.old.pages).pages) key.now + 1 }
     {
         let height = self.draw.height();
-        find_next(&mut self.pages, height, key)
+        find_next(&mut self.pages, &self.known, height, key)
     }
 }

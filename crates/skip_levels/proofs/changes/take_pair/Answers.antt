@@ -1,13 +1,19 @@
-use Rattle.std.proofs.Common.{[], arith}
-use Rattle.skip_levels.proofs.PairCalls.{none_to_take}
+use Rattle.std.proofs.lemmas.Result.{err_from_is_err_and}
+use Rattle.skip_levels.proofs.PairCalls.{none_to_take, pair_taken, pair_not_taken}
 use Rattle.skip_levels.proofs.changes.take_pair.Goals as goal
-
--- a lawful draw has a level
-pub find_value-requires : goal.find_value-requires
-find_value-requires g c =
-    let below = (g.met.W.Draw.lawful c.args.draw.now).level_in_range [] in
-    omega (arith, below, c.height-height.ensures)
 
 pub returns-in_default-clause-call : goal.returns-in_default-clause-call
 returns-in_default-clause-call g c =
-    none_to_take (g.W.Draw.drawn c.args.draw.now) (g.P.Pages.state c.args.pages.now) (g.P.Pages.state c.find_value.new.pages) c.height-height.result c.args.key.now c.height-height.ensures c.requires.whole (rw c.in_default.is at c.in_ok-value.ensures.call)
+    none_to_take (g.W.Draw.drawn c.args.draw.now) (g.P.Pages.state c.args.pages.now) (g.P.Pages.state c.find_place.new.pages) c.height.result c.level-top.result c.args.key.now c.height.ensures c.level-top.ensures c.requires.whole c.in_ok-lead.field-0 c.in_ok-lead.ensures.call
+    c.in_default.is
+
+pub returns-in_err-take_from-clause-call : goal.returns-in_err-take_from-clause-call
+returns-in_err-take_from-clause-call g c =
+    let p = err_from_is_err_and c.from_residual-in_err-take_from.result c.from_residual-in_err-take_from.ensures.1 in
+    rw (p.1, p.2) (pair_not_taken (g.W.Draw.drawn c.args.draw.now) (g.P.Pages.state c.args.pages.now) (g.P.Pages.state c.find_place.new.pages) c.height.result c.level-top.result c.args.key.now c.height.ensures c.level-top.ensures c.requires.whole c.in_ok-lead.field-0 c.in_ok-lead.ensures.call
+    (g.P.Pages.state c.take_from.new.pages) c.in_err-take_from.field-0.0 c.in-Some.value c.in-Some.is c.in_err-take_from.ensures.call)
+
+pub returns-clause-call : goal.returns-clause-call
+returns-clause-call g c =
+    pair_taken (g.W.Draw.drawn c.args.draw.now) (g.P.Pages.state c.args.pages.now) (g.P.Pages.state c.find_place.new.pages) c.height.result c.level-top.result c.args.key.now c.height.ensures c.level-top.ensures c.requires.whole c.in_ok-lead.field-0 c.in_ok-lead.ensures.call
+    (g.P.Pages.state c.take_from.new.pages) _ c.in-Some.value c.in-Some.is c.in_ok-take_from.ensures.call

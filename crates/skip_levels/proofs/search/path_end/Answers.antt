@@ -1,30 +1,7 @@
 use Rattle.std.proofs.Common.{◌-◌, refl, arith}
-use Rattle.std.proofs.lemmas.Result.{err_from_is_err_and}
-use Rattle.skip_levels.proofs.DescentSteps.{descent_starts, descent_fails, descent_goes_on, descent_ends}
+use Rattle.skip_levels.proofs.DescentSteps.{whole_descent}
 use Rattle.skip_levels.proofs.search.path_end.Goals as goal
-
-pub loop-level-init : goal.loop-level-init
-loop-level-init g c = record {
-  within = omega arith;
-  above = omega arith;
-  descends = descent_starts (g.P.Pages.state c.args.pages.now) c.args.height c.args.key.now _ _ refl (omega arith);
-  follows = g.met.P.Pages.follows_refl c.args.pages.now;
-}
-
-pub returns-in_err-near-clause-call : goal.returns-in_err-near-clause-call
-returns-in_err-near-clause-call g c =
-    let p = err_from_is_err_and c.from_residual.result c.from_residual.ensures.1 in
-    rw (p.1, p.2) (descent_fails (g.P.Pages.state c.args.pages.now) c.args.height c.args.key.now (g.P.Pages.state c.loop-level.pages) (g.P.Pages.state c.neighbours_in_group.new.pages) c.loop-level.level c.loop-level.lead c.loop-level.next c.loop-level.invariant.descends c.in_err-near.field-0.0 c.args.bottom (omega arith) (omega arith) c.in_err-near.ensures.call)
-
-pub loop-level-preserved : goal.loop-level-preserved
-loop-level-preserved g c = record {
-  within = omega arith;
-  above = omega arith;
-  descends = descent_goes_on (g.P.Pages.state c.args.pages.now) c.args.height c.args.key.now (g.P.Pages.state c.loop-level.pages) (g.P.Pages.state c.neighbours_in_group.new.pages) c.loop-level.level c.loop-level.lead c.loop-level.next c.loop-level.invariant.descends
-      c.in_ok-near.near c.next_lead-lead.result c.next_ahead-next.result (c.loop-level.level - 1) (omega arith) (omega arith) c.in_ok-near.ensures.call c.next_lead-lead.ensures c.next_ahead-next.ensures;
-  follows = g.met.P.Pages.follows_trans c.args.pages.now c.loop-level.pages c.neighbours_in_group.new.pages c.loop-level.invariant.follows c.neighbours_in_group.ensures.follows;
-}
 
 pub returns-clause-call : goal.returns-clause-call
 returns-clause-call g c =
-    descent_ends (g.P.Pages.state c.args.pages.now) c.args.height c.args.key.now (g.P.Pages.state c.loop-level.pages) c.loop-level.lead c.loop-level.next c.loop-level.level c.args.bottom (omega arith) c.loop-level.invariant.descends
+    whole_descent (g.P.Pages.state c.args.pages.now) (g.P.Pages.state c.go_down.new.pages) c.args.height (c.args.height - 1) c.args.bottom c.args.key.now _ c.go_down.result refl refl (omega arith) c.go_down.ensures.call

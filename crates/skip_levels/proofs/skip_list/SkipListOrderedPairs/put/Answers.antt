@@ -1,3 +1,5 @@
+use Rattle.std.proofs.Common.{sym, subst}
+use Rattle.skip_levels.specs.Descent.{IsKnown}
 use Rattle.skip_levels.proofs.ListCalls.{whole_behind_put, list_put}
 use Rattle.skip_levels.proofs.skip_list.SkipListOrderedPairs.put.Goals as goal
 
@@ -6,6 +8,7 @@ put_pair-requires-clause-room g c = λ o. c.requires (c.if-not-self.false, o)
 
 pub invariant_of-self-2 : goal.invariant_of-self-2
 invariant_of-self-2 g c = record {
+  place = λ seen d s h high. subst (IsKnown d s) (sym c.take-known.ensures.after) tt;
   whole = λ seen. whole_behind_put (g.W.Draw.drawn c.args.self.now.draw) (g.P.Pages.state c.args.self.now.pages) (g.P.Pages.state c.put_pair.new.pages) c.args.key c.args.self.now.is_whole c.if-not-self.false (λ o. c.args.self.now.whole (c.if-not-self.false, o))
       c.args.value _ c.as_bytes.ensures.valid (c.as_slice.ensures.some, c.as_slice.ensures.fits, c.as_slice.ensures.bytes) (λ o. c.requires (c.if-not-self.false, o)) c.in_ok-put_pair.ensures.call seen.1;
 }

@@ -1,0 +1,31 @@
+use Rattle.std.proofs.Common.{◌-◌, arith}
+use Rattle.std.proofs.lemmas.Result.{err_from_is_err_and}
+use Rattle.skip_levels.proofs.DescentSteps.{way_starts, way_fails, way_goes_on, way_ends}
+use Rattle.skip_levels.proofs.search.go_down.Goals as goal
+
+pub loop-level-init : goal.loop-level-init
+loop-level-init g c = record {
+  below = omega arith;
+  above = omega arith;
+  descends = way_starts (g.P.Pages.state c.args.pages.now) c.args.top c.args.from.now c.args.key.now;
+  follows = g.met.P.Pages.follows_refl c.args.pages.now;
+}
+
+pub returns-in_err-near-clause-call : goal.returns-in_err-near-clause-call
+returns-in_err-near-clause-call g c =
+    let p = err_from_is_err_and c.from_residual.result c.from_residual.ensures.1 in
+    rw (p.1, p.2) (way_fails (g.P.Pages.state c.args.pages.now) c.args.top c.args.from.now c.args.key.now (g.P.Pages.state c.loop-level.pages) (g.P.Pages.state c.neighbours_in_group.new.pages) c.loop-level.level c.loop-level.lead c.loop-level.next c.loop-level.invariant.descends
+    c.loop-level.invariant.below c.in_err-near.field-0.0 c.args.bottom (omega arith) c.in_err-near.ensures.call)
+
+pub loop-level-preserved : goal.loop-level-preserved
+loop-level-preserved g c = record {
+  below = omega (arith, c.loop-level.invariant.below);
+  above = omega arith;
+  descends = way_goes_on (g.P.Pages.state c.args.pages.now) c.args.top c.args.from.now c.args.key.now (g.P.Pages.state c.loop-level.pages) (g.P.Pages.state c.neighbours_in_group.new.pages) c.loop-level.level c.loop-level.lead c.loop-level.next c.loop-level.invariant.descends
+      c.loop-level.invariant.below c.in_ok-near.near c.next_lead-lead.result c.next_ahead-next.result (c.loop-level.level - 1) (omega arith) c.in_ok-near.ensures.call c.next_lead-lead.ensures c.next_ahead-next.ensures;
+  follows = g.met.P.Pages.follows_trans c.args.pages.now c.loop-level.pages c.neighbours_in_group.new.pages c.loop-level.invariant.follows c.neighbours_in_group.ensures.follows;
+}
+
+pub returns-clause-call : goal.returns-clause-call
+returns-clause-call g c =
+    way_ends (g.P.Pages.state c.args.pages.now) c.args.top c.args.from.now c.args.key.now (g.P.Pages.state c.loop-level.pages) c.loop-level.lead c.loop-level.next c.loop-level.level c.args.bottom (omega arith) c.loop-level.invariant.descends
