@@ -59,7 +59,7 @@ module _ (d : Draw) (p : Parameters) (m n : PageMap) (disk : DiskState) (drawn :
     holds = record { pages = valid; fits = fits; slots_are = new_slots };
   }
 
-  -- what recovers to the old image or to the new one represents the one map or the other
+  -- each image that may be left by a crash of the commit represents one of the two maps
   pub either : (image : List ℕ) → journal.RecoversToEither p.slots disk.bytes (journal.with_slots p.slots changes disk.bytes) image → RepresentsPages d p m image ⊎ RepresentsPages d p n image
   either image is = elim is.recovers [
     | inl same ↦ inl (record { length_is = is.same_length ∙ long; layout = subst (IsLayoutOf d p m) (sym same) stands.layout })

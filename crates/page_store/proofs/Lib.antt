@@ -7,6 +7,7 @@ pub mod DifferLemmas
 pub mod FindLemmas
 pub mod LayingLemmas
 pub mod LookupLemmas
+pub mod MemoLemmas
 pub mod OverlayLemmas
 pub mod ScanLemmas
 pub mod SettleLemmas

@@ -1,6 +1,6 @@
 -- Lemmas on what is found of a label.
-use Rattle.std.proofs.Common.{◌≡◌, ℕ, Bool, List, Option, Some, None, Result, Ok, Err, is_some, slice_get, refl, sym, ap, ◌∙◌}
-use Rattle.std.proofs.lemmas.Option.{same_Some}
+use Rattle.std.proofs.Common.{◌≡◌, ◌↔◌, ℕ, Bool, true, false, List, Option, Some, None, IsNone, Result, Ok, Err, is_some, slice_get, refl, sym, ap, ◌∙◌}
+use Rattle.std.proofs.lemmas.Option.{same_Some, none-some}
 use Rattle.std.specs.Map.{lookup}
 use Rattle.std.specs.BTreeMap.{is_at}
 use Rattle.store_model.specs.Labels.{Label, label_bytes, label_cmp}
@@ -36,9 +36,6 @@ staged_is m changes l page staged = ap (λ (o : Option (Option Page)). page_or o
 pub staged_read : (d : Draw) (slots : SlotsState) (changes : Changes) (l : Label) (page : Option Page) → Some page ≡ lookup (is_at (label_cmp l)) changes → ReadsChanged d slots slots changes l (Ok page)
 staged_read d slots changes l page staged = record { calls = AreSlotCalls-none slots page; reads = λ observable. refl; found = λ m observable holds. staged_is m changes l page staged }
 
-pub staged_found : (d : Draw) (slots : SlotsState) (changes : Changes) (l : Label) (page : Option Page) (is_there : Bool) → Some page ≡ lookup (is_at (label_cmp l)) changes → is_there ≡ is_some page → Finds d slots slots changes l (Ok is_there)
-staged_found d slots changes l page is_there staged is = record { calls = AreSlotCalls-none slots is_there; reads = λ observable. refl; found = λ m observable holds. is ∙ ap is_some (staged_is m changes l page staged) }
-
 -- where nothing is
 settled_is : (m : PageMap) (changes : Changes) (l : Label) → None ≡ lookup (is_at (label_cmp l)) changes → page_at m l ≡ page_at (with_changes m changes) l
 settled_is m changes l none = ap (λ (o : Option (Option Page)). page_or o (page_at m l)) none ∙ sym (page_at-with_changes m changes l)
@@ -47,18 +44,20 @@ pub settled_read : (d : Draw) (old new : SlotsState) (changes : Changes) (l : La
 settled_read d old new changes l (Ok page) none read = record { calls = read.calls; reads = read.reads; found = λ m observable holds. read.found m observable holds ∙ settled_is m changes l none }
 settled_read d old new changes l (Err fault) none read = record { calls = read.calls; reads = read.reads; found = λ m observable holds. tt }
 
--- whether there is a page in the slot that was found, if one was
-pub settled_found : (d : Draw) (old new : SlotsState) (changes : Changes) (l : Label) (found : Option ℕ) (is_there : Bool) → None ≡ lookup (is_at (label_cmp l)) changes → Locates d old new l (Ok found) → is_there ≡ is_some found
-    → Finds d old new changes l (Ok is_there)
-settled_found d old new changes l None is_there none located is = record {
-  calls = AreSlotCalls-value old new None is_there located.calls;
+-- whether there is a page, by the page that was read
+pub found_by_read : (d : Draw) (old new : SlotsState) (changes : Changes) (l : Label) (page : Option Page) (is_there : Bool) → ReadsChanged d old new changes l (Ok page) → is_there ≡ is_some page → Finds d old new changes l (Ok is_there)
+found_by_read d old new changes l page is_there read is = record { calls = AreSlotCalls-value old new page is_there read.calls; reads = read.reads; found = λ m observable holds. is ∙ ap is_some (read.found m observable holds) }
+
+-- or by the place where it stands
+same_found : (at : Option ℕ) (page : Option Page) → (IsNone at ↔ (page ≡ None)) → is_some at ≡ is_some page
+same_found None None both = refl
+same_found None (Some page) both = absurd (none-some page (sym (both.0 refl)))
+same_found (Some at) None both = let none : true ≡ false = both.1 refl in absurd (cc)
+same_found (Some at) (Some page) both = refl
+
+pub found_by_place : (d : Draw) (old new : SlotsState) (changes : Changes) (l : Label) (at : Option ℕ) (is_there : Bool) → None ≡ lookup (is_at (label_cmp l)) changes → Locates d old new l (Ok at) → is_there ≡ is_some at → Finds d old new changes l (Ok is_there)
+found_by_place d old new changes l at is_there none located is = record {
+  calls = AreSlotCalls-value old new at is_there located.calls;
   reads = located.reads;
-  found = λ m observable holds. is ∙ ap is_some (sym ((located.found m observable holds).absent.0 refl) ∙ settled_is m changes l none);
-}
-settled_found d old new changes l (Some at) is_there none located is = record {
-  calls = AreSlotCalls-value old new (Some at) is_there located.calls;
-  reads = located.reads;
-  found = λ m observable holds.
-      let there = (located.found m observable holds).slot in
-      is ∙ ap is_some (sym there.in_map ∙ settled_is m changes l none);
+  found = λ m observable holds. is ∙ same_found at (page_at m l) (located.found m observable holds).absent ∙ ap is_some (settled_is m changes l none);
 }

@@ -169,6 +169,19 @@ found_all slots written old now kept found cached scanned = record {
       (λ i start below. ap (λ (o : Option (List ℕ)). bytes_or o (table_slot slots old.bytes i)) (scanned.ahead i start)) (scanned.differ observable);
 }
 
+-- there was no memory for as many slots as were written
+pub none_reserved : (slots : ℕ) (written : List (ℕ × List ℕ)) (disk : DiskState) (kept : Kept) → (IsObservable disk → IsSound disk) → IsCacheOf slots disk kept → FindsChanges slots written disk disk kept (Err causes.NoMemory)
+none_reserved slots written disk kept sound cached =
+    let calls : AreCalls {T = Unit {0}} {E = DiskFault} disk disk (Ok tt) = AreCalls-none disk tt in
+    record {
+      kept = record { size = calls.size; observable = calls.observable; faults = calls.rise; writes = calls.writes; syncs = calls.syncs };
+      cached = cached;
+      faults = calls.faults;
+      reads = λ observable. ReadsOnly-refl disk (sound observable);
+      rise = tt;
+      differ = λ observable. tt;
+    }
+
 -- there was no memory for a slot that differs
 pub none_found : (slots : ℕ) (written : List (ℕ × List ℕ)) (old now new : DiskState) (items rest : List (ℕ × List ℕ)) (at : ℕ) (kept : Kept) (buffer : List ℕ) → IsScanning slots written old now items rest → ReadsSlot slots at now new kept buffer {T = Unit {0}} (Ok tt)
     → FindsChanges slots written old new kept (Err causes.NoMemory)

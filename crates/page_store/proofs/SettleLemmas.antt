@@ -7,7 +7,7 @@ use Rattle.store_base.specs.declared.store_fault.Fault.{Fault}
 use Rattle.store_base.specs.declared.store_fault.Fault.TheVariants as below
 use Rattle.store_model.specs.Parameters.{Parameters, image_len}
 use Rattle.store_model.specs.Draws.{Draw, IsLawful}
-use Rattle.store_model.specs.PageMaps.{PageMap, IsPageMap}
+use Rattle.store_model.specs.PageMaps.{PageMap, page_at, IsPageMap, HoldsPages}
 use Rattle.disk_model.specs.DiskState.{DiskState, IsObservable, IsDurable, IsSound}
 use Rattle.disk_model.specs.DiskCalls.{LeavesOnly}
 use Rattle.disk_model.proofs.Crashes.{LeavesOnly-trans, LeavesOnly-weaken}
@@ -23,6 +23,7 @@ use Rattle.page_store.specs.declared.fault.SettleFault.{SettleFault}
 use Rattle.page_store.specs.declared.fault.SettleFault.TheVariants as causes
 use Rattle.page_store.specs.Differences.{changes_of, AreDifferences}
 use Rattle.page_store.specs.Faults.{settle_faults_after, settle_fault_of}
+use Rattle.page_store.specs.Memos.{Remembered, IsMemoOf, Renews}
 use Rattle.page_store.specs.OverlayState.{overlaid}
 use Rattle.page_store.specs.PageImages.{table_slots, pages_in_table, placed_slot, IsLayoutOf, StandsAt, RepresentsPages, slots_between}
 use Rattle.page_store.specs.Preparing.{FindsSlots}
@@ -31,8 +32,9 @@ use Rattle.page_store.specs.StagedState.{StagedState, staged_state, IsCounted, I
 use Rattle.page_store.specs.Staging.{Changes, with_changes}
 use Rattle.page_store.proofs.CommitLemmas.{becomes, either, counts_commit}
 use Rattle.page_store.proofs.DifferLemmas.{differing-itself}
+use Rattle.page_store.proofs.MemoLemmas.{renewed}
 use Rattle.page_store.proofs.SlotLemmas.{pages_in_held}
-use Rattle.page_store.proofs.StagedLemmas.{read_later, staged_later}
+use Rattle.page_store.proofs.StagedLemmas.{IsReadLater, read_later, staged_later, memo_later}
 
 -- a disk that stands at pages represents them
 represents_at : (d : Draw) (p : Parameters) (m : PageMap) (image : List ℕ) → length image ≡ image_len p.slots → IsLayoutOf d p m image → RepresentsPages d p m image
@@ -82,12 +84,19 @@ module _ {D W : Type 0} {state : D → DiskState} {drawn : W → Draw} {p q : Pa
   same_table : IsObservable (state disk) → pages_in_table q.slots (state mid).bytes ≡ table
   same_table observable = ap₂ (λ (r : Parameters) (bytes : List ℕ). pages_in_table r.slots bytes) at.kept.params (at.kept.reads observable).bytes
 
+  read_again : (later : List (ℕ × List ℕ)) → later ≡ [] → IsReadLater p q (state disk) (state mid) touched later
+  read_again later none =
+      read_later p q (state disk) (state mid) touched later at.kept
+      (λ observable.
+      ap (λ (t : List (ℕ × List ℕ)). (overlaid q.slots t (state mid)).slots) none ∙ ap₂ (λ (r : Parameters) (bytes : List ℕ). table_slots r.slots bytes) at.kept.params (at.kept.reads observable).bytes ∙ sym (counted observable).untouched)
+
   -- the changes stay staged
   pub read_staged : (later : List (ℕ × List ℕ)) → later ≡ [] → IsStaged (drawn draw) q (state mid) later changes used settled is_spent
-  read_staged later none =
-      staged_later (drawn draw) p q (state disk) (state mid) touched later changes used settled is_spent at.staged
-      (read_later p q (state disk) (state mid) touched later at.kept (λ observable.
-      ap (λ (t : List (ℕ × List ℕ)). (overlaid q.slots t (state mid)).slots) none ∙ ap₂ (λ (r : Parameters) (bytes : List ℕ). table_slots r.slots bytes) at.kept.params (at.kept.reads observable).bytes ∙ sym (counted observable).untouched))
+  read_staged later none = staged_later (drawn draw) p q (state disk) (state mid) touched later changes used settled is_spent at.staged (read_again later none)
+
+  -- and what is remembered of the table
+  pub read_memo : (later : List (ℕ × List ℕ)) → later ≡ [] → (memo : Remembered) → IsMemoOf (drawn draw) (overlaid p.slots touched (state disk)) memo → IsMemoOf (drawn draw) (overlaid q.slots later (state mid)) memo
+  read_memo later none memo of = memo_later (drawn draw) p q (state disk) (state mid) touched later memo (read_again later none) of
 
   read_disk : (fault : SettleFault) → IsObservable (state disk) → AnswersFull {T = Unit {0}} (drawn draw) pages (Err fault) → SettlesDisk {T = Unit {0}} (drawn draw) p table pages (state disk) (state mid) false (Err fault)
   read_disk fault observable full =
@@ -264,6 +273,20 @@ module _ {D W : Type 0} {state : D → DiskState} {drawn : W → Draw} {p q : Pa
               untouched = refl;
               settled_is = used_is;
             })));
+      }
+
+      -- what is remembered then is of the new table
+      pub done_memo : (later : List (ℕ × List ℕ)) → later ≡ [] → (memo renewed_memo : Remembered) → IsMemoOf (drawn draw) (overlaid p.slots touched (state disk)) memo → Renews changes memo renewed_memo → IsMemoOf (drawn draw) (overlaid q.slots later (state after)) renewed_memo
+      done_memo later untouched memo renewed_memo of renews = record {
+        tells = λ m observable holds l page is.
+            let before : IsObservable (state disk) = sym (calls.observable ∙ at.kept.observable) ∙ observable in
+            let slots_are : (overlaid q.slots later (state after)).slots ≡ table_slots p.slots (state after).bytes =
+            ap (λ (t : List (ℕ × List ℕ)). (overlaid q.slots t (state after)).slots) untouched ∙ ap (λ (r : Parameters). table_slots r.slots (state after).bytes) at.kept.params in
+            let held = subst (λ (slots : List (List ℕ)). HoldsPages (drawn draw) slots m) slots_are holds in
+            let map_is : m ≡ pages = sym (pages_in_held (drawn draw) (table_slots p.slots (state after).bytes) m law held) ∙ new_table before in
+            let now = counted before in
+            let held_before = subst (λ (slots : List (List ℕ)). HoldsPages (drawn draw) slots table) (sym now.untouched) now.stands.layout.holds in
+            renewed table changes memo renewed_memo l page (of.tells table before held_before l page) renews is ∙ ap (λ (n : PageMap). page_at n l) (sym map_is);
       }
 
       pub done : (no_change : Changes) → no_change ≡ [] → (commit.count ≡ 0 → after ≡ mid) → (IsObservable (state mid) → 0 < commit.count → Makes {E = E} (5 * commit.count + 2) 5 (state mid) (state after) (Ok value))

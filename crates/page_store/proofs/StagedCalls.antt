@@ -1,5 +1,5 @@
 -- The calls that look pages up and stage changes.
-use Rattle.std.proofs.Common.{◌≡◌, ℕ, ◌+◌, ◌-◌, ◌<◌, ◌≤◌, min, Bool, true, false, cond, List, Option, Some, None, IsSome, is_some, Result, Ok, Err, refl, sym, ap, ap₂, subst, ◌∙◌, arith}
+use Rattle.std.proofs.Common.{◌≡◌, ℕ, ◌+◌, ◌-◌, ◌<◌, ◌≤◌, min, Bool, true, false, cond, List, Option, Some, None, IsSome, is_some, Result, Ok, Err, IfOk, refl, sym, ap, ap₂, subst, ◌∙◌, arith}
 use Rattle.std.specs.FinMap as maps
 use Rattle.std.specs.BTreeMap.{insert_entry}
 use Rattle.std.specs.FinMap.{len-insert, len-remove}
@@ -8,18 +8,19 @@ use Rattle.store_model.specs.Parameters.{Parameters}
 use Rattle.store_model.specs.Labels.{Label, label_bytes, label_cmp}
 use Rattle.store_model.specs.Draws.{Draw}
 use Rattle.store_model.specs.Pages.{Page}
-use Rattle.store_model.specs.PageMaps.{PageMap, IsPageMap}
+use Rattle.store_model.specs.PageMaps.{PageMap, IsPageMap, page_at}
 use Rattle.store_base.specs.declared.store_fault.Fault.{Fault}
 use Rattle.store_base.specs.Faults.{disk_faults_after}
 use Rattle.disk_model.specs.DiskState.{DiskState, IsObservable}
+use Rattle.gate_journal.specs.ViewState.{KeepsView}
 use Rattle.node_pages.specs.PagesState.{IsPageGet, most_pages}
 use Rattle.page_store.specs.OverlayState.{overlaid}
 use Rattle.page_store.specs.PageImages.{pages_in_table}
 use Rattle.page_store.specs.Staging.{Changes, with_change, with_changes, used_after}
-use Rattle.page_store.specs.Lookups.{ReadsChanged, Finds}
-use Rattle.page_store.specs.StagedState.{staged_state, IsStaged, IsTold, pages_state}
+use Rattle.page_store.specs.Lookups.{Finds}
+use Rattle.page_store.specs.StagedState.{staged_state, IsStaged, IsTold, Follows, pages_state}
 use Rattle.page_store.specs.Stagings.{Stages}
-use Rattle.page_store.proofs.StagedLemmas.{IsReadLater, staged_later, staged_change, changed_map, same_table, held_over}
+use Rattle.page_store.proofs.StagedLemmas.{IsReadLater, staged_later, staged_change, changed_map, same_table}
 
 -- ---- the count of pages
 
@@ -63,20 +64,27 @@ module _ {D W : Type 0} (state : D → DiskState) (draw : W) (d : Draw) (p q : P
   just_read : IsStaged d q (state after) later changes used settled is_spent
   just_read = staged_later d p q (state disk) (state after) touched later changes used settled is_spent staged read
 
-  -- a page was asked for
-  pub page_got : (l : Label) (n : ℕ) (result : Result (Option Page) Fault) → lookups ≤ n → n ≤ lookups + 1 → ReadsChanged d (overlaid p.slots touched (state disk)) (overlaid q.slots later (state after)) changes l result
-      → IsPageGet (pages_state state (staged_state state p draw disk changes lookups is_spent)) (pages_state state (staged_state state q draw after changes n is_spent)) l result
-  page_got l n result kept most reads = record {
-    faults = reads.calls.faults;
-    lookups_kept = kept;
-    lookups_most = most;
-    hidden = told_before changes n;
-    observed = λ told. record {
-      observable = told_later changes n used just_read told;
-      found = reads.found (pages_in_table p.slots (state disk).bytes) told.disk (held_over d p q (state disk) (state after) touched later changes used settled is_spent staged read told.disk told.runs);
-      unchanged = same_map told.disk;
-    };
-  }
+  -- a page was asked for, and is shown
+  pub page_looked : KeepsView p q (state disk) (state after) → (l : Label) (n : ℕ) (shown : Result (Option Page) Fault) → lookups ≤ n → n ≤ lookups + 1 → (state after).faults ≡ disk_faults_after (state disk).faults shown
+      → (IsTold state (staged_state state q draw after changes n is_spent) → IfOk shown (λ page. page ≡ page_at (with_changes (pages_in_table q.slots (state after).bytes) changes) l))
+      → IsPageGet (pages_state state (staged_state state p draw disk changes lookups is_spent)) (pages_state state (staged_state state q draw after changes n is_spent)) l shown
+      × Follows state (staged_state state p draw disk changes lookups is_spent) (staged_state state q draw after changes n is_spent)
+  page_looked view l n shown kept most faults found = (
+    record {
+      faults = faults;
+      lookups_kept = kept;
+      lookups_most = most;
+      hidden = told_before changes n;
+      observed = λ told.
+          let now = told_later changes n used just_read told in
+          record {
+            observable = now;
+            found = subst (λ (m : PageMap). IfOk shown (λ page. page ≡ page_at m l)) (same_map told.disk) (found now);
+            unchanged = same_map told.disk;
+          };
+    },
+    record { disk = view; draw = refl; runs = refl; table = same_table d p q (state disk) (state after) touched later changes used settled is_spent staged read },
+  )
 
   -- a change was not staged
   pub stage_failed : (l : Label) (change : Option Page) (fault : Fault) (next : Changes) → next ≡ changes → (state after).faults ≡ disk_faults_after {T = Unit {0}} (state disk).faults (Err fault)

@@ -1,7 +1,8 @@
 -- Lemmas on staged pages.
-use Rattle.std.proofs.Common.{◌≡◌, ℕ, Bool, false, List, [], Option, Ok, refl, sym, ap, ap₂, subst, ◌∙◌}
+use Rattle.std.proofs.Common.{◌≡◌, ℕ, Bool, false, List, [], map, Option, Ok, refl, sym, ap, ap₂, subst, ◌∙◌}
 use Rattle.std.specs.FinMap as maps
 use Rattle.std.specs.BTreeMap.{insert_entry}
+use Rattle.store_model.specs.Lists.{numbers_below}
 use Rattle.store_model.specs.Parameters.{Parameters}
 use Rattle.store_model.specs.Labels.{Label, label_bytes, label_cmp}
 use Rattle.store_model.specs.Draws.{Draw}
@@ -10,7 +11,8 @@ use Rattle.store_model.specs.PageMaps.{PageMap, IsPageMap, HoldsPages}
 use Rattle.disk_model.specs.DiskState.{DiskState, IsObservable}
 use Rattle.gate_journal.specs.Places.{ReadsOnly}
 use Rattle.gate_journal.specs.ViewState.{KeepsView}
-use Rattle.page_store.specs.OverlayState.{overlaid}
+use Rattle.page_store.specs.Memos.{Remembered, IsMemoOf}
+use Rattle.page_store.specs.OverlayState.{slot_over, overlaid}
 use Rattle.page_store.specs.PageImages.{table_slots, pages_in_table, IsLayoutOf, StandsAt}
 use Rattle.page_store.specs.Staging.{Changes, with_change, with_changes}
 use Rattle.page_store.specs.Lookups.{Finds}
@@ -59,6 +61,30 @@ pub record IsReadLater (p q : Parameters) (old new : DiskState) (touched later :
 pub read_later : (p q : Parameters) (old new : DiskState) (touched later : List (ℕ × List ℕ)) → KeepsView p q old new → (IsObservable old → (overlaid q.slots later new).slots ≡ (overlaid p.slots touched old).slots) → IsReadLater p q old new touched later
 read_later p q old new touched later kept slots = record { params = kept.params; observable = kept.observable; reads = kept.reads; slots = slots }
 
+-- also where the disk alone is known
+pub read_below : (p : Parameters) (old new : DiskState) (touched : List (ℕ × List ℕ)) → new.is_observable ≡ old.is_observable → (IsObservable old → ReadsOnly old new) → IsReadLater p p old new touched touched
+read_below p old new touched same reads = record {
+  params = refl;
+  observable = same;
+  reads = reads;
+  slots = λ observable. ap (λ (image : List ℕ). map (slot_over p.slots touched image) (numbers_below p.slots)) (reads observable).bytes;
+}
+
+-- they leave a memo of these slots
+pub memo_later : (d : Draw) (p q : Parameters) (old new : DiskState) (touched later : List (ℕ × List ℕ)) (memo : Remembered) → IsReadLater p q old new touched later → IsMemoOf d (overlaid p.slots touched old) memo → IsMemoOf d (overlaid q.slots later new) memo
+memo_later d p q old new touched later memo read of = record {
+  tells = λ m observable holds l page is.
+      let before : IsObservable old = sym read.observable ∙ observable in
+      of.tells m before (subst (λ (slots : List (List ℕ)). HoldsPages d slots m) (read.slots before) holds) l page is;
+}
+
+-- the slots over the disk hold the pages of the table
+pub held_over : (d : Draw) (p : Parameters) (disk : DiskState) (touched : List (ℕ × List ℕ)) (changes : Changes) (used settled : ℕ) (is_spent : Bool) → IsStaged d p disk touched changes used settled is_spent → IsObservable disk → is_spent ≡ false
+    → HoldsPages d (overlaid p.slots touched disk).slots (pages_in_table p.slots disk.bytes)
+held_over d p disk touched changes used settled is_spent staged observable runs =
+    let was = staged.counted observable runs in
+    subst (λ (slots : List (List ℕ)). HoldsPages d slots (pages_in_table p.slots disk.bytes)) (sym was.untouched) was.stands.layout.holds
+
 module _ (d : Draw) (p q : Parameters) (old new : DiskState) (touched later : List (ℕ × List ℕ)) (changes : Changes) (used settled : ℕ) (is_spent : Bool) (staged : IsStaged d p old touched changes used settled is_spent) (read : IsReadLater p q old new touched later) where
   observable_before : IsObservable new → IsObservable old
   observable_before observable = sym read.observable ∙ observable
@@ -90,12 +116,6 @@ module _ (d : Draw) (p q : Parameters) (old new : DiskState) (touched later : Li
         };
   }
 
-  -- the slots over the disk hold the pages of the table
-  pub held_over : IsObservable old → is_spent ≡ false → HoldsPages d (overlaid p.slots touched old).slots (pages_in_table p.slots old.bytes)
-  held_over observable runs =
-      let was = staged.counted observable runs in
-      subst (λ (slots : List (List ℕ)). HoldsPages d slots (pages_in_table p.slots old.bytes)) (sym was.untouched) was.stands.layout.holds
-
   -- a change is staged
   module _ (l : Label) (v : Option Page) (is_there : Bool) (after : Changes) (used_after : ℕ) (found : Finds d (overlaid p.slots touched old) (overlaid q.slots later new) changes l (Ok is_there)) (put : after ≡ insert_entry label_cmp changes l v)
       (keeps : (m : PageMap) → IsPageMap m → IsPageMap (with_change m l v))
@@ -116,7 +136,7 @@ module _ (d : Draw) (p q : Parameters) (old new : DiskState) (touched later : Li
           record {
             stands = now.stands;
             valid = subst IsPageMap (sym map) (keeps (with_changes (pages_in_table p.slots old.bytes) changes) was.valid);
-            used_is = counts before runs was.used_is (found.found (pages_in_table p.slots old.bytes) before (held_over before runs)) ∙ ap maps.len (sym map);
+            used_is = counts before runs was.used_is (found.found (pages_in_table p.slots old.bytes) before (held_over d p old touched changes used settled is_spent staged before runs)) ∙ ap maps.len (sym map);
             untouched = now.untouched;
             settled_is = now.settled_is;
           };

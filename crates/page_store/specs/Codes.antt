@@ -1,4 +1,4 @@
--- The codes of a map of pages and of staged pages, by which proofs tell them apart.
+-- The codes of a map of pages, of a memo and of staged pages, by which proofs tell them apart.
 use Rattle.std.specs.Prelude.{◌≡◌, ℕ, Bool, true, false, List, Option, Some, None, refl}
 use Rattle.std.specs.Coded.{Coded, code_by, coded×, coded_ℕ, coded_bool, coded_list, coded_option}
 use Rattle.std.specs.FinMap as maps
@@ -9,6 +9,7 @@ use Rattle.store_model.specs.Labels.{Lead, Label}
 use Rattle.store_model.specs.Labels.Lead.{Start, Leader}
 use Rattle.store_model.specs.Pages.{Cell, Page}
 use Rattle.store_model.specs.PageMaps.{PageMap}
+use Rattle.page_store.specs.Memos.{Remembered}
 use Rattle.page_store.specs.StagedState.{StagedState}
 
 abbrev pub key_of_lead : Lead → Option (List ℕ)
@@ -37,6 +38,9 @@ page_code = code_by (Label × List Cell) (coded× label_code (coded_list cell_co
 
 abbrev pub page_map_code : Coded PageMap
 page_map_code = maps.code (coded_list coded_ℕ) page_code
+
+abbrev pub remembered_code : Coded Remembered
+remembered_code = coded_list (coded× coded_ℕ (coded× label_code (coded_option page_code)))
 
 abbrev pub bit_of_kind : DrawKind → Bool
 bit_of_kind Ruler = false

@@ -5,6 +5,7 @@ pub mod Committing
 pub mod Differences
 pub mod Faults
 pub mod Lookups
+pub mod Memos
 pub mod OverlayState
 pub mod Overlays
 pub mod PageImages

@@ -10,6 +10,11 @@ use Rattle.store_base.specs.SlotsState.{SlotsState, IsObservable, AreSlotCalls}
 use Rattle.ordered_table.specs.Tables.{IsSlotOf}
 use Rattle.page_store.specs.Staging.{Changes, with_changes}
 
+-- a call that only reads slots
+pub record Consults {T : Type 0} (old new : SlotsState) (result : Result T Fault) : Type 0 where
+  pub calls : AreSlotCalls old new result
+  pub reads : IsObservable old → new.slots ≡ old.slots
+
 -- the slot of a label, in slots that hold the pages of a map
 pub record IsLocated (old : SlotsState) (m : PageMap) (l : Label) (result : Result (Option ℕ) Fault) : Type 0 where
   pub absent : IfOk result (λ found. IsNone found ↔ (page_at m l ≡ None))

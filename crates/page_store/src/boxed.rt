@@ -1,6 +1,6 @@
 //! Values on the heap.
 
-ghost use Rattle.std.specs.Prelude.{◌≡◌, IfOk};
+ghost use Rattle.std.specs.Prelude.{◌≡◌, IfOk, option_copied};
 
 use std::alloc::Global;
 use std::marker::Model;
@@ -50,12 +50,12 @@ pub fn on_heap<T: Drop>(alloc: Global, value: Option<T>) -> Result<Option<Boxed<
     }
 }
 
-/// A copy of the value, where there is one. It takes no memory.
-pub fn copied<T: Copy>(boxed: &Option<Boxed<T>>) -> Option<T>
-    ensures { result ≡ boxed.now }
+/// The value, where there is one. It takes no memory.
+pub fn behind<T>(boxed: &Option<Boxed<T>>) -> Option<&T>
+    ensures { option_copied result ≡ boxed.now }
 {
     match boxed {
-        Some(boxed) => Some(*boxed.get()),
+        Some(boxed) => Some(boxed.get()),
         None => None,
     }
 }

@@ -10,6 +10,7 @@ ghost use Rattle.page_store.specs.Caches.{kept_at, KeepsAll, KeepsOne, Rewrites,
 ghost use Rattle.page_store.specs.Committing.{CommitsSlots};
 ghost use Rattle.page_store.specs.Differences.{changes_of};
 
+use crate::boxed::Boxed;
 use crate::changed::ChangedSlots;
 use disk_model::Disk;
 use gate_journal::Journal;
@@ -25,7 +26,8 @@ const KEPT_SLOTS: usize = 64;
 /// Up to 64 slots of a table, those that were asked for last. Contracts see each with its number.
 #[derive(Drop)]
 pub struct SlotCache {
-    slots: LruCache<u32, Slot>,
+    alloc: Global,
+    slots: LruCache<u32, Boxed<Slot>>,
 }
 
 impl Model for SlotCache {
@@ -49,6 +51,7 @@ impl SlotCache {
     {
         let most = NonZeroUsize::new(KEPT_SLOTS).unwrap_or(NonZeroUsize::MIN);
         Ok(SlotCache {
+            alloc,
             slots: LruCache::new(alloc, most)?,
         })
     }
@@ -69,7 +72,7 @@ impl SlotCache {
         let Some(slot) = self.slots.get(&at) else {
             return false;
         };
-        *into = *slot;
+        *into = *slot.get();
         true
     }
 
@@ -78,20 +81,28 @@ impl SlotCache {
         ensures { KeepsOne self.old self.new at slot.now }
     {
         // Without memory for it the slot is left out.
-        let _ = self.slots.put(at, *slot);
+        let Ok(kept) = Boxed::new(self.alloc, *slot) else {
+            return;
+        };
+        let _ = self.slots.put(at, kept);
     }
 
-    /// Gives a slot that is kept its new bytes. It takes no memory.
+    /// Gives a slot that is kept its new bytes. Where there is no memory for them, no slot is kept any more.
     fn rewrite(&mut self, at: u32, slot: &Slot)
         ensures { Rewrites self.old self.new at slot.now }
     {
-        if self.slots.contains(&at) {
-            // The slot is kept already, so the call takes no memory.
-            let _ = self.slots.put(at, *slot);
+        if !self.slots.contains(&at) {
+            return;
         }
+        let Ok(kept) = Boxed::new(self.alloc, *slot) else {
+            self.slots.clear();
+            return;
+        };
+        // The slot is kept already, so the call takes no memory.
+        let _ = self.slots.put(at, kept);
     }
 
-    /// Gives the slots that are kept their new bytes. It takes no memory.
+    /// Gives the slots that are kept their new bytes. Where there is no memory for them, none is kept any more.
     pub(crate) fn rewrite_all(&mut self, changed: &[(u32, Slot)])
         ensures { RewritesFirst (length changed.now) (changes_of changed.now) self.old self.new }
     {

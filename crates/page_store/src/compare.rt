@@ -36,7 +36,7 @@ fn find_changes<D: Disk>(
     requires cached { IsCacheOf slots (D.state disk.old) cache.old }
     ensures call { FindsChanges slots written.now.entries (D.state disk.old) (D.state disk.new) cache.new result }
 {
-    let mut changed = Vec::new(alloc);
+    let mut changed = Vec::with_capacity(alloc, written.len())?;
     let mut was = [0; BLOCK];
     for (at, kept) in written {
         let slot = kept.get();

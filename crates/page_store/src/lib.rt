@@ -5,7 +5,7 @@
 //! bytes differ, so that the table is again the placement of the pages; a crash leaves the old pages or the new ones.
 //!
 //! Up to 64 slots that were read last are kept in memory (`SlotCache`), each as the table of the disk has it, and are not
-//! read again.
+//! read again. What was found under up to 64 labels is remembered too (`PageMemo`), and is not looked up again.
 #![tactic(auto)]
 
 mod boxed;
@@ -14,6 +14,7 @@ mod carry;
 mod changed;
 mod compare;
 mod fault;
+mod memo;
 mod overlay;
 mod search;
 mod staged;

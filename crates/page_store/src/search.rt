@@ -1,9 +1,11 @@
 //! The page of a label in the table.
 
-ghost use Rattle.std.specs.Prelude.{◌≡◌, ◌<◌};
-ghost use Rattle.page_store.specs.Lookups.{Locates, Reads, ReadsChanged, Finds};
+ghost use Rattle.std.specs.Prelude.{◌≡◌, ◌<◌, None, IfSome, IsNone};
+ghost use Rattle.page_store.specs.Lookups.{Consults, Locates, Reads, Finds};
+ghost use Rattle.page_store.specs.Memos.{IsKnown, IsMemoOf, staged_at};
 
-use crate::boxed::{Boxed, copied};
+use crate::boxed::Boxed;
+use crate::memo::PageMemo;
 use node_pages::{Page, decode_page};
 use ordered_table::{Steps, find};
 use seeded_draw::Draw;
@@ -61,36 +63,78 @@ fn read_page<S: ReadSlots, W: Draw>(
     Ok(decode_page(&slot))
 }
 
-/// The page of the label, by the changes, or else by the slots.
-pub fn read_changed<S: ReadSlots, W: Draw>(
+/// Has remembered what the slots hold under the label, where there is memory for it.
+// It stands apart from `learn`, each call of which would clear its page.
+#[inline(never)]
+fn look_up<S: ReadSlots, W: Draw>(
+    slots: &mut S,
+    draw: &W,
+    memo: &mut PageMemo,
+    label: &Label,
+) -> Result<(), Fault>
+    requires count { (S.state slots.old).count ≡ (W.drawn draw.now).slots }
+    requires remembered { IsMemoOf (W.drawn draw.now) (S.state slots.old) memo.old }
+    ensures call { Consults (S.state slots.old) (S.state slots.new) result }
+    ensures remembered { IsMemoOf (W.drawn draw.now) (S.state slots.new) memo.new }
+    ensures follows { S.follows slots.old slots.new }
+{
+    let found = read_page(slots, draw, label)?;
+    memo.remember(label, &found);
+    Ok(())
+}
+
+/// What is known of the label, by the changes, or else by the memo: a page, or that there is none. It takes no memory.
+pub fn known<'a>(
+    changes: &'a BTreeMap<Label, Option<Boxed<Page>>>,
+    memo: &'a PageMemo,
+    label: &Label,
+) -> Option<&'a Option<Boxed<Page>>>
+    ensures found { IfSome result (λ page. IsKnown changes.now.entries memo.now label.now page.now) }
+    ensures unstaged { IsNone result → staged_at changes.now.entries label.now ≡ None }
+{
+    match changes.get(label) {
+        Some(change) => Some(change),
+        None => memo.recall(label),
+    }
+}
+
+/// Has the page of the label known, where there is memory for it: what is not known is read and remembered.
+pub fn learn<S: ReadSlots, W: Draw>(
     slots: &mut S,
     draw: &W,
     changes: &BTreeMap<Label, Option<Boxed<Page>>>,
+    memo: &mut PageMemo,
     label: &Label,
-) -> Result<Option<Page>, Fault>
-    requires { (S.state slots.old).count ≡ (W.drawn draw.now).slots }
-    ensures call { ReadsChanged (W.drawn draw.now) (S.state slots.old) (S.state slots.new) changes.now.entries label.now result }
+) -> Result<(), Fault>
+    requires count { (S.state slots.old).count ≡ (W.drawn draw.now).slots }
+    requires remembered { IsMemoOf (W.drawn draw.now) (S.state slots.old) memo.old }
+    ensures call { Consults (S.state slots.old) (S.state slots.new) result }
+    ensures remembered { IsMemoOf (W.drawn draw.now) (S.state slots.new) memo.new }
     ensures follows { S.follows slots.old slots.new }
 {
-    if let Some(change) = changes.get(label) {
-        return Ok(copied(change));
+    // The memo comes first, since to find a label among the changes takes comparisons of labels.
+    if memo.recall(label).is_some() || changes.contains_key(label) {
+        return Ok(());
     }
-    read_page(slots, draw, label)
+    look_up(slots, draw, memo, label)
 }
 
-/// Whether there is a page under the label, by the changes, or else by the slots.
+/// Whether there is a page under the label, by the changes, or else by the memo, or else by the slots.
 pub fn has_page<S: ReadSlots, W: Draw>(
     slots: &mut S,
     draw: &W,
     changes: &BTreeMap<Label, Option<Boxed<Page>>>,
+    memo: &PageMemo,
     label: &Label,
 ) -> Result<bool, Fault>
-    requires { (S.state slots.old).count ≡ (W.drawn draw.now).slots }
+    requires count { (S.state slots.old).count ≡ (W.drawn draw.now).slots }
+    requires remembered { IsMemoOf (W.drawn draw.now) (S.state slots.old) memo.now }
     ensures call { Finds (W.drawn draw.now) (S.state slots.old) (S.state slots.new) changes.now.entries label.now result }
+    ensures remembered { IsMemoOf (W.drawn draw.now) (S.state slots.new) memo.now }
     ensures follows { S.follows slots.old slots.new }
 {
-    if let Some(change) = changes.get(label) {
-        return Ok(change.is_some());
+    if let Some(page) = known(changes, memo, label) {
+        return Ok(page.is_some());
     }
     Ok(locate(slots, draw, label)?.is_some())
 }

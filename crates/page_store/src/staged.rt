@@ -3,23 +3,27 @@
 ghost use Rattle.std.specs.Prelude.{[], ◌≡◌, ◌≤◌, ◌<◌, ℕ, Bool, true, false, min, IsSome, IfOk, OnOk, OnErr};
 ghost use Rattle.std.specs.BTreeMap.{insert_entry};
 ghost use Rattle.std.specs.FinMap as maps;
+ghost use Rattle.store_base.specs.Faults.{disk_faults_after};
 ghost use Rattle.store_model.specs.Labels.{label_cmp};
 ghost use Rattle.store_model.specs.Parameters.{image_len};
 ghost use Rattle.disk_model.specs.DiskState.{IsObservable};
 ghost use Rattle.sha2.specs.Sha256.{sha256};
 ghost use Rattle.gate_journal.specs.Places.{AreCalls, ReadsOnly};
-ghost use Rattle.store_model.specs.PageMaps.{PageMap, IsPageMap};
-ghost use Rattle.node_pages.specs.PagesState.{IsPageGet, IsPagePut, IsPageDrop, most_pages};
+ghost use Rattle.store_model.specs.PageMaps.{PageMap, IsPageMap, page_at};
+ghost use Rattle.node_pages.specs.PagesState.{IsPageGet, IsPagePut, IsPageDrop, looked_at, most_pages};
+ghost use Rattle.page_store.specs.Memos.{IsMemoOf};
+ghost use Rattle.page_store.specs.OverlayState.{overlaid};
 ghost use Rattle.page_store.specs.PageImages.{pages_in_table, StandsAt};
 ghost use Rattle.page_store.specs.Staging.{with_change, used_after};
 ghost use Rattle.page_store.specs.Settling.{Settles};
 
-use crate::boxed::{Boxed, on_heap};
+use crate::boxed::{Boxed, behind, on_heap};
 use crate::cache::{SlotCache, commit_slots};
 use crate::compare::find_slots;
 use crate::fault::SettleFault;
+use crate::memo::PageMemo;
 use crate::overlay::Overlay;
-use crate::search::{has_page, read_changed};
+use crate::search::{has_page, known, learn};
 use disk_model::Disk;
 use gate_journal::Journal;
 use node_pages::{Page, Pages};
@@ -27,6 +31,7 @@ use seeded_draw::Draw;
 use std::alloc::Global;
 use std::collections::BTreeMap;
 use std::marker::Model;
+use std::mem;
 use store_base::{DiskFault, Fault, Label, NoMemory, Params};
 
 /// The pages in the table of an image, with changes that are not settled yet. Contracts see it as one record: the map of
@@ -38,11 +43,14 @@ pub struct Staged<D: Disk, W: Draw> {
     overlay: Overlay<D>,
     draw: W,
     changes: BTreeMap<Label, Option<Boxed<Page>>>,
+    /// What was found in the table.
+    memo: PageMemo,
     /// How many pages there are now, and how many of them the table has.
     used: u32,
     settled: u32,
     lookups: u64,
     is_spent: bool,
+    ghost remembered: { IsMemoOf (W.drawn draw) (overlaid overlay.params.slots overlay.touched.entries (D.state overlay.disk)) memo },
 }
 
 impl<D: Disk, W: Draw> Model for Staged<D, W> {
@@ -117,6 +125,7 @@ impl<D: Disk, W: Draw> Staged<D, W> {
             overlay: Overlay::new(alloc, disk, params, cache),
             draw,
             changes: BTreeMap::new(alloc),
+            memo: PageMemo::new(alloc),
             used: pages,
             settled: pages,
             lookups: 0,
@@ -155,6 +164,7 @@ impl<D: Disk, W: Draw> Staged<D, W> {
             overlay,
             draw: _,
             changes: _,
+            memo: _,
             used: _,
             settled: _,
             lookups: _,
@@ -184,6 +194,18 @@ impl<D: Disk, W: Draw> Staged<D, W> {
         Journal::digest(&mut self.overlay.disk)
     }
 
+    /// The page under the label, as far as it is known; what is not known was left out for want of memory. It takes no
+    /// memory.
+    fn shown(&self, label: &Label) -> Result<Option<&Page>, Fault>
+        ensures found { IsTold D.state self.now → IfOk (looked_at result) (λ page. page ≡ page_at self.now.map label.now) }
+        ensures faults { (count : ℕ) → disk_faults_after count (looked_at result) ≡ count }
+    {
+        match known(&self.changes, &self.memo, label) {
+            Some(page) => Ok(behind(page)),
+            None => Err(Fault::NoMemory),
+        }
+    }
+
     /// Stages what is under the label from now on, a page of this label or none. To add a page there have to be fewer than
     /// 2^32 - 1 of them. After a fault the pages are as they were.
     fn stage(&mut self, label: Label, change: Option<Page>) -> Result<(), Fault>
@@ -192,7 +214,13 @@ impl<D: Disk, W: Draw> Staged<D, W> {
         ensures call { Stages (pages_state D.state self.old) (pages_state D.state self.new) label change result }
         ensures follows { Follows D.state self.old self.new }
     {
-        let is_there = has_page(&mut self.overlay, &self.draw, &self.changes, &label)?;
+        let is_there = has_page(
+            &mut self.overlay,
+            &self.draw,
+            &self.changes,
+            &self.memo,
+            &label,
+        )?;
         let used = count_after(self.used, is_there, change.is_some());
         keep_change(self.overlay.alloc, &mut self.changes, label, change)?;
         self.used = used;
@@ -227,12 +255,14 @@ impl<D: Disk, W: Draw> Staged<D, W> {
         let overlay = &mut self.overlay;
         match commit_slots(&mut overlay.disk, &mut overlay.cache, &params, &changed) {
             Ok(()) => {
-                self.changes.clear();
+                let changes = mem::replace(&mut self.changes, BTreeMap::new(self.overlay.alloc));
+                self.memo.renew(changes);
                 self.settled = self.used;
                 Ok(())
             }
             // It came at a write or behind one, so the disk may have the old pages or the new ones.
             Err(_) => {
+                self.memo.clear();
                 self.is_spent = true;
                 Err(SettleFault::Disk)
             }
@@ -254,8 +284,19 @@ impl<D: Disk, W: Draw> Pages for Staged<D, W> {
     ghost follows_trans = { λ a b c. Follows-trans D.state a b c };
 
     fn get(&mut self, label: &Label) -> Result<Option<Page>, Fault> {
+        Ok(self.look(label)?.copied())
+    }
+
+    fn look(&mut self, label: &Label) -> Result<Option<&Page>, Fault> {
         self.lookups = self.lookups.saturating_add(1);
-        read_changed(&mut self.overlay, &self.draw, &self.changes, label)
+        learn(
+            &mut self.overlay,
+            &self.draw,
+            &self.changes,
+            &mut self.memo,
+            label,
+        )?;
+        self.shown(label)
     }
 
     fn put(&mut self, page: Page) -> Result<(), Fault> {

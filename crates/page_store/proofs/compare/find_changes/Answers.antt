@@ -1,7 +1,7 @@
 use Rattle.std.proofs.Common.{◌≡◌, ◌≢◌, ℕ, List, [], ◌∷◌, Bool, true, false, not, Err, nat_eq, sym, ap, subst, ◌∙◌, arith}
 use Rattle.std.proofs.lemmas.Result.{err_from_is_err_and}
 use Rattle.std.specs.Cmp.Lexicographic.{pointwise, same_text, other_text}
-use Rattle.page_store.proofs.ScanLemmas.{IsScanning, scanning_begins, next_below, scanning_passes, scanning_finds, found_all, none_found}
+use Rattle.page_store.proofs.ScanLemmas.{IsScanning, scanning_begins, next_below, scanning_passes, scanning_finds, found_all, none_reserved, none_found}
 use Rattle.page_store.specs.Preparing.{FindsChanges}
 use Rattle.page_store.proofs.compare.find_changes.Goals as goal
 
@@ -19,7 +19,7 @@ loop-at-init g c =
     let start : c.into_iter-at-iterator.result ≡ written = c.into_iter-at-iterator.ensures.into_iter_gives.0 in
     let begun = scanning_begins c.args.slots written disk (g.met.D.Disk.sound c.args.disk.now) c.into_iter-at-iterator.ensures.into_iter_gives.5 in
     record {
-      scanning = subst (λ (items : List (ℕ × List ℕ)). IsScanning c.args.slots written disk disk items c.into_iter-at-iterator.result) (sym c.new-changed.ensures.items)
+      scanning = subst (λ (items : List (ℕ × List ℕ)). IsScanning c.args.slots written disk disk items c.into_iter-at-iterator.result) (sym c.in_ok-changed.ensures.items)
           (subst (λ (es : List (ℕ × List ℕ)). IsScanning c.args.slots written disk disk [] es) (sym start) begun);
       cached = c.requires.cached;
     }
@@ -41,8 +41,8 @@ loop-at-preserved g c =
       cached = c.in_ok-read_slot.ensures.call.cached;
     }
 
-pub loop-at-preserved-in-Continue-branch-2 : goal.loop-at-preserved-in-Continue-branch-2
-loop-at-preserved-in-Continue-branch-2 g c =
+pub loop-at-preserved-in-Continue-branch-3 : goal.loop-at-preserved-in-Continue-branch-3
+loop-at-preserved-in-Continue-branch-3 g c =
     let old = g.D.Disk.state c.args.disk.now in
     let now = g.D.Disk.state c.loop-at.disk in
     let new = g.D.Disk.state c.read_slot.new.disk in
@@ -61,6 +61,13 @@ returns g c =
       call = found_all c.args.slots c.args.written.now.entries old now c.loop-at.cache _ c.loop-at.invariant.cached
           (subst (λ (es : List (ℕ × List ℕ)). IsScanning c.args.slots c.args.written.now.entries old now c.loop-at.changed.items es) c.in-None.ensures.steps.0 c.loop-at.invariant.scanning);
     }
+
+pub returns-in_err-changed : goal.returns-in_err-changed
+returns-in_err-changed g c =
+    let old = g.D.Disk.state c.args.disk.now in
+    let none = none_reserved c.args.slots c.args.written.now.entries old c.args.cache.now (g.met.D.Disk.sound c.args.disk.now) c.requires.cached in
+    let fails = err_from_is_err_and c.from_residual.result c.from_residual.ensures.1 in
+    record { call = subst (FindsChanges c.args.slots c.args.written.now.entries old old c.args.cache.now) (sym (fails.1 ∙ ap Err fails.2)) none }
 
 pub returns-in_err-push : goal.returns-in_err-push
 returns-in_err-push g c =

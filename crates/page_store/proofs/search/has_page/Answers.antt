@@ -1,8 +1,17 @@
-use Rattle.page_store.proofs.LookupLemmas.{staged_found, settled_found}
+use Rattle.std.proofs.Common.{refl, sym}
+use Rattle.page_store.proofs.LookupLemmas.{found_by_read, found_by_place}
+use Rattle.page_store.proofs.MemoLemmas.{known_read, memo_read}
 use Rattle.page_store.proofs.search.has_page.Goals as goal
 
 pub returns-in-Some-clause-call : goal.returns-in-Some-clause-call
-returns-in-Some-clause-call g c = staged_found _ _ c.args.changes.now.entries c.args.label.now c.in-Some.change.now c.is_some.result c.in-Some.ensures.value c.is_some.ensures
+returns-in-Some-clause-call g c =
+    let changes = c.args.changes.now.entries in
+    let label = c.args.label.now in
+    let read = known_read _ _ changes c.args.memo.now label c.in-Some.page.now c.requires.remembered c.in-Some.ensures.found in
+    found_by_read _ _ _ changes label c.in-Some.page.now c.is_some.result read c.is_some.ensures
 
 pub returns-clause-call : goal.returns-clause-call
-returns-clause-call g c = settled_found _ _ _ c.args.changes.now.entries c.args.label.now c.in_ok-locate.field-0 c.is_some-2.result c.in_default.ensures.value c.in_ok-locate.ensures.call c.is_some-2.ensures
+returns-clause-call g c = found_by_place _ _ _ c.args.changes.now.entries c.args.label.now c.in_ok-locate.field-0 c.is_some-2.result (sym (c.in_default.ensures.unstaged refl)) c.in_ok-locate.ensures.call c.is_some-2.ensures
+
+pub returns-clause-remembered : goal.returns-clause-remembered
+returns-clause-remembered g c = memo_read _ _ _ _ _ c.in_ok-locate.ensures.call.calls c.in_ok-locate.ensures.call.reads c.requires.remembered

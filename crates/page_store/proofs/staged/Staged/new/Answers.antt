@@ -4,8 +4,8 @@ use Rattle.page_store.specs.StagedState.{IsStaged}
 use Rattle.page_store.proofs.StagedLemmas.{begun}
 use Rattle.page_store.proofs.staged.Staged.new.Goals as goal
 
-pub invariant_of-result : goal.invariant_of-result
-invariant_of-result g c =
+pub invariant_of-result-2 : goal.invariant_of-result-2
+invariant_of-result-2 g c =
     let d = g.W.Draw.drawn c.args.draw in
     let state = g.D.Disk.state in
     let touched = c.new.result.touched.entries in

@@ -1,0 +1,163 @@
+-- Lemmas on what is remembered of slots.
+use Rattle.std.proofs.Common.{◌≡◌, ◌≢◌, ◌⊎◌, ℕ, zero, suc, ◌+◌, ◌*◌, ◌<◌, ◌≤◌, Bool, true, false, cond, List, [], ◌∷◌, length, drop, slice_index_or, Option, Some, None, Result, Ok, Err, OnOk, OnErr, refl, sym, ap, subst, ◌∙◌, inl, inr, arith}
+use Rattle.std.proofs.lemmas.Option.{same_Some, none-some}
+use Rattle.std.specs.FinMap as maps
+use Rattle.std.specs.Int.{w32, from_be_bytes}
+use Rattle.std.specs.List.{AllByRecursion}
+use Rattle.std.specs.List.Sorted.{IsStrictlySortedBy}
+use Rattle.std.specs.declared.cmp.Ordering.TheVariants.{Less}
+use Rattle.std.specs.Map.{keys_of}
+use Rattle.std.proofs.lemmas.Map.Keys.{sorted_head, sorted_tail}
+use Rattle.std.specs.BTreeMap.{BTreeMap, is_at, get, Updates, IsUnchanged}
+use Rattle.std.specs.Ordering.{nat_cmp, is_eq}
+use Rattle.std.specs.Cmp.{tied_itself}
+use Rattle.std.specs.Cmp.Lexicographic.{slice_cmp, nat_list_cmp_total}
+use Rattle.store_model.specs.Labels.{Label, label_bytes, label_cmp}
+use Rattle.store_model.specs.Draws.{Draw}
+use Rattle.store_model.specs.Pages.{Page}
+use Rattle.store_model.specs.PageMaps.{PageMap, page_at, HoldsPages}
+use Rattle.store_base.specs.declared.store_fault.Fault.{Fault}
+use Rattle.store_base.specs.SlotsState.{SlotsState, IsObservable, AreSlotCalls}
+use Rattle.store_base.proofs.SlotsCalls.{AreSlotCalls-none}
+use Rattle.page_store.specs.Lookups.{Reads, ReadsChanged}
+use Rattle.page_store.specs.Memos.{checked, checksum, Remembered, kept_under, IsRemembered, IsKnown, IsMemoOf, Remembers, RemembersMore, staged_at, Renews, IsRenewing}
+use Rattle.page_store.specs.Staging.{Changes, with_changes}
+use Rattle.page_store.proofs.LookupLemmas.{staged_read, settled_read}
+use Rattle.page_store.proofs.OverlayLemmas.{at_itself}
+use Rattle.page_store.proofs.ChangeLemmas.{page_or, page_at-with_changes, same_when_tied}
+
+-- labels that tie have the same bytes
+same_label : (k l : Label) → is_at (label_cmp k) l ≡ true → label_bytes l ≡ label_bytes k
+same_label k l tied = sym (same_when_tied (label_bytes k) (label_bytes l) tied)
+
+-- ---- the checksum
+
+-- one more word
+checked_more : (words : List (List ℕ)) (k word sum sums : ℕ) → k < length words → word ≡ from_be_bytes w32 (slice_index_or words k []) → checked (drop (suc k) words) (sum + word) (sums + (sum + word)) ≡ checked (drop k words) sum sums
+checked_more [] k word sum sums within is = absurd (omega (arith, within))
+checked_more (w ∷ words) zero word sum sums within is = ap (λ (n : ℕ). checked words (sum + n) (sums + (sum + n))) is
+checked_more (w ∷ words) (suc k) word sum sums within is = checked_more words k word sum sums (omega (arith, within)) is
+
+pub checked_next : (words : List (List ℕ)) (k next word sum sums : ℕ) → next ≡ suc k → k < length words → word ≡ from_be_bytes w32 (slice_index_or words k []) → checked (drop next words) (sum + word) (sums + (sum + word)) ≡ checked (drop k words) sum sums
+checked_next words k next word sum sums after within is = ap (λ (n : ℕ). checked (drop n words) (sum + word) (sums + (sum + word))) after ∙ checked_more words k word sum sums within is
+
+-- all of them
+pub checked_all : (words : List (List ℕ)) (k sum sums : ℕ) → length words ≤ k → checked (drop k words) sum sums ≡ sums * 65536 + sum
+checked_all [] zero sum sums all = refl
+checked_all [] (suc k) sum sums all = refl
+checked_all (b ∷ words) zero sum sums all = absurd (omega (arith, all))
+checked_all (b ∷ words) (suc k) sum sums all = checked_all words k sum sums (omega (arith, all))
+
+-- ---- the memo itself
+
+-- behind a put that finds memory, or none
+pub remembers_kept : {T E : Type 0} (result : Result T E) (old : Remembered) (mid new : BTreeMap ℕ (Label × Option Page)) (at : Label) (found : Option Page) → ((l : Label) (page : Option Page) → IsRemembered mid.entries l page → IsRemembered old l page)
+    → OnOk result (Updates nat_cmp mid new (checksum (label_bytes at)) (Some (at, found))) → OnErr result (get nat_cmp mid (checksum (label_bytes at)) ≡ None) → OnErr result (IsUnchanged mid new) → Remembers old new.entries at found
+remembers_kept (Ok value) old mid new at found forgets put absent left l page is = (elim (is_at (nat_cmp (checksum (label_bytes at))) (checksum (label_bytes l))) as (λ b. is_at (nat_cmp (checksum (label_bytes at))) (checksum (label_bytes l)) ≡ b
+    → cond b (Some (at, found)) (kept_under mid.entries (checksum (label_bytes l))) ≡ Some (l, page) → ((label_bytes l ≢ label_bytes at) × IsRemembered old l page) ⊎ ((label_bytes l ≡ label_bytes at) × (page ≡ found))) [
+      | true ↦ λ here now.
+          let same = same_Some (at, found) (l, page) now in
+          inr (sym (ap (λ (x : Label × Option Page). label_bytes x.0) same), sym (ap (λ (x : Label × Option Page). x.1) same))
+      | false ↦ λ apart was. inl (λ same. at_once (checksum (label_bytes at)) (ap (λ (b : List ℕ). is_at (nat_cmp (checksum (label_bytes at))) (checksum b)) (sym same) ∙ apart), forgets l page was)
+    ]) refl (sym (put.0 (checksum (label_bytes l))) ∙ is)
+  where
+    at_once : (n : ℕ) → is_at (nat_cmp n) n ≡ false → ⊥
+    at_once n apart = let here = at_itself n in absurd (cc)
+remembers_kept (Err e) old mid new at found forgets put absent left l page is =
+    let was : IsRemembered mid.entries l page = ap (λ (memo : Remembered). kept_under memo (checksum (label_bytes l))) (sym left) ∙ is in
+    inl (λ same. none-some (l, page) (sym (ap (λ (b : List ℕ). kept_under mid.entries (checksum b)) same ∙ absent) ∙ was), forgets l page was)
+
+pub remembers_more : (old new : Remembered) (at : Label) (found : Option Page) → Remembers old new at found → RemembersMore old new at found
+remembers_more old new at found remembers l page is = elim (remembers l page is) [ inl was ↦ inl was.1 | inr now ↦ inr now ]
+
+-- ---- the memo of slots
+
+pub memo_empty : (d : Draw) (slots : SlotsState) (none : Remembered) → none ≡ [] → IsMemoOf d slots none
+memo_empty d slots none empty = record { tells = λ m observable holds l page is. absurd (none-some (l, page) (sym (ap (λ (memo : Remembered). kept_under memo (checksum (label_bytes l))) empty) ∙ is)) }
+
+-- what is remembered of a label needs no read
+pub recalled : (d : Draw) (slots : SlotsState) (memo : Remembered) (l : Label) (page : Option Page) → IsMemoOf d slots memo → IsRemembered memo l page → Reads d slots slots l (Ok page)
+recalled d slots memo l page of is = record { calls = AreSlotCalls-none slots page; reads = λ observable. refl; found = λ m observable holds. of.tells m observable holds l page is }
+
+-- nor does what is known of it
+pub known_read : (d : Draw) (slots : SlotsState) (changes : Changes) (memo : Remembered) (l : Label) (page : Option Page) → IsMemoOf d slots memo → IsKnown changes memo l page → ReadsChanged d slots slots changes l (Ok page)
+known_read d slots changes memo l page of known = elim known [
+  | inl staged ↦ staged_read d slots changes l page (sym staged)
+  | inr before ↦ settled_read d slots slots changes l (Ok page) (sym before.0) (recalled d slots memo l page of before.1)
+]
+
+-- behind reads it is a memo of the slots still
+pub memo_read : {T : Type 0} (d : Draw) (old new : SlotsState) (memo : Remembered) (result : Result T Fault) → AreSlotCalls old new result → (IsObservable old → new.slots ≡ old.slots) → IsMemoOf d old memo → IsMemoOf d new memo
+memo_read d old new memo result calls reads of = record {
+  tells = λ m observable holds l page is.
+      let before : IsObservable old = sym calls.observable ∙ observable in
+      of.tells m before (subst (λ (slots : List (List ℕ)). HoldsPages d slots m) (reads before) holds) l page is;
+}
+
+-- and with what they found
+pub memo_more : (d : Draw) (old new : SlotsState) (memo after : Remembered) (at : Label) (found : Option Page) → Reads d old new at (Ok found) → IsMemoOf d old memo → RemembersMore memo after at found → IsMemoOf d new after
+memo_more d old new memo after at found read of more = record {
+  tells = λ m observable holds l page is.
+      let before : IsObservable old = sym read.calls.observable ∙ observable in
+      let held = subst (λ (slots : List (List ℕ)). HoldsPages d slots m) (read.reads before) holds in
+      elim (more l page is) [
+        | inl was ↦ of.tells m before held l page was
+        | inr now ↦ now.1 ∙ read.found m before held ∙ ap (maps.get m) (sym now.0)
+      ];
+}
+
+-- ---- the loop that renews a memo
+
+pub renewing_begins : (memo : Remembered) (all rest : Changes) → IsStrictlySortedBy label_cmp (keys_of all) → rest ≡ all → IsRenewing memo memo all rest
+renewing_begins memo all rest rises start =
+    subst (λ (es : Changes). IsRenewing memo memo all es) (sym start)
+    (record { rises = rises; within = λ l page is. is; renews = λ l page is. inr (refl, is) })
+
+-- under a label below those of all changes nothing is staged
+none_below : (k l : Label) (es : Changes) → AllByRecursion (λ q. label_cmp k q ≡ Less) (keys_of es) → label_bytes l ≡ label_bytes k → staged_at es l ≡ None
+none_below k l [] below same = refl
+none_below k l (e ∷ es) below same =
+    let apart : is_at (label_cmp l) e.0 ≡ false = ap (λ (b : List ℕ). is_eq (slice_cmp nat_cmp b (label_bytes e.0))) same ∙ ap is_eq below.0 in
+    ap (λ (b : Bool). cond b (Some e.1) (staged_at es l)) apart ∙ none_below k l es below.1 same
+
+-- what is staged first
+staged_first : (k l : Label) (v : Option Page) (es : Changes) → label_bytes l ≡ label_bytes k → staged_at ((k, v) ∷ es) l ≡ Some v
+staged_first k l v es same =
+    let tied : is_at (label_cmp l) k ≡ true = ap (λ (b : List ℕ). is_eq (slice_cmp nat_cmp b (label_bytes k))) same ∙ ap is_eq (tied_itself nat_list_cmp_total (label_bytes k)) in
+    ap (λ (b : Bool). cond b (Some v) (staged_at es l)) tied
+
+staged_later : (k l : Label) (v : Option Page) (es : Changes) → label_bytes l ≢ label_bytes k → staged_at ((k, v) ∷ es) l ≡ staged_at es l
+staged_later k l v es other = (elim (is_at (label_cmp l) k) as (λ b. is_at (label_cmp l) k ≡ b → cond b (Some v) (staged_at es l) ≡ staged_at es l) [
+  | true ↦ λ tied. absurd (other (sym (same_label l k tied)))
+  | false ↦ λ apart. refl
+]) refl
+
+pub renewing_keeps : (old now new : Remembered) (all rest left : Changes) (k : Label) (v : Option Page) → rest ≡ (k, v) ∷ left → IsRenewing old now all rest → Remembers now new k v → IsRenewing old new all left
+renewing_keeps old now new all rest left k v next so_far remembers =
+    let here = subst (λ (es : Changes). IsRenewing old now all es) next so_far in
+    let below = sorted_head label_cmp k (keys_of left) here.rises in
+    record {
+      rises = sorted_tail label_cmp k (keys_of left) here.rises;
+      within = λ l page is. here.within l page (staged_later k l v left (λ same. none-some page (sym (none_below k l left below same) ∙ is)) ∙ is);
+      renews = λ l page is. elim (remembers l page is) [
+        | inl was ↦ elim (here.renews l page was.1) [
+          | inl done ↦ inl done
+          | inr before ↦ inr (before.0 ∙ staged_later k l v left was.0, before.1)
+        ]
+        | inr put ↦ inl (here.within l page (staged_first k l v left put.0 ∙ ap Some (sym put.1)))
+      ];
+    }
+
+pub renewing_ends : (old now : Remembered) (all rest : Changes) → rest ≡ [] → IsRenewing old now all rest → Renews all old now
+renewing_ends old now all rest none so_far l page is = elim (so_far.renews l page is) [
+  | inl done ↦ inl done
+  | inr before ↦ inr (before.0 ∙ ap (λ (es : Changes). staged_at es l) none, before.1)
+]
+
+-- what is remembered behind changes is what the map with them has there
+pub renewed : (m : PageMap) (changes : Changes) (old new : Remembered) (l : Label) (page : Option Page) → (IsRemembered old l page → page ≡ page_at m l) → Renews changes old new → IsRemembered new l page
+    → page ≡ page_at (with_changes m changes) l
+renewed m changes old new l page was renews is = elim (renews l page is) [
+  | inl staged ↦ ap (λ (o : Option (Option Page)). page_or o (page_at m l)) (sym staged) ∙ sym (page_at-with_changes m changes l)
+  | inr before ↦ was before.1 ∙ ap (λ (o : Option (Option Page)). page_or o (page_at m l)) (sym before.0) ∙ sym (page_at-with_changes m changes l)
+]
