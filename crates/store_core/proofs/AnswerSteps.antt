@@ -1,5 +1,6 @@
 -- Commands that are answered from the pairs in staged pages.
 use Rattle.std.proofs.Common.{◌≡◌, false, List, Result, Ok, Err, IfOk, OnOk, refl, sym, ap, subst, ◌∙◌}
+use Rattle.store_model.specs.declared.refusal.Refusal.{Refusal}
 use Rattle.store_base.specs.declared.store_fault.Fault.{Fault}
 use Rattle.store_base.specs.declared.store_fault.Fault.TheVariants as causes
 use Rattle.store_model.specs.Parameters.{Parameters}
@@ -17,17 +18,18 @@ use Rattle.script_lines.specs.declared.reply.Reply.TheVariants as replies
 use Rattle.script_lines.specs.Replies.{reply_of}
 use Rattle.skip_levels.specs.Descent.{HoldsPairs}
 use Rattle.skip_levels.specs.PairsState.{PairsState}
-use Rattle.tree_pairs.specs.TreeCalls.{uncounted_step}
-use Rattle.page_store.specs.StagedState.{StagedState, Follows}
+use Rattle.tree_pairs.specs.TreeCalls.{uncounted_step, CarriesOut}
+use Rattle.page_store.specs.StagedState.{StagedState, IsTold, Follows}
 use Rattle.store_core.specs.declared.fault.ApplyFault.{ApplyFault}
 use Rattle.store_core.specs.declared.fault.ApplyFault.TheVariants as apply
-use Rattle.store_core.specs.Answers.{IsReplyOf, IsReplyAt, AnswersAt}
+use Rattle.store_core.specs.Answers.{IsReplyOf, IsReplyAt, AnswersBy, AnswersAt, change_reply}
 use Rattle.store_core.specs.Faults.{apply_fault_of}
 use Rattle.store_core.specs.Standing.{IsFitting}
 use Rattle.store_core.specs.StagedTree.{AreAt, IsStagedFor}
 use Rattle.store_core.specs.Steps.{counted_step, EndsStep}
 use Rattle.store_core.proofs.StagedSteps.{read_step, behind_reads, told_as}
 use Rattle.store_core.proofs.StepLemmas.{acked_step, answered_step, uncounted_tree}
+use Rattle.store_core.proofs.TreePages.{tree_holds}
 use Rattle.store_core.proofs.Unchanged.{stands_reading}
 
 -- an answer by the pairs is one at the pages that hold them
@@ -37,6 +39,18 @@ reply_at to p d seen after (Ok reply) drawn holds observable is = record {
   holds = subst (λ (e : Draw). HoldsPairs e (pairs to.tree p) after.map) drawn (subst (λ (s : List Pair). HoldsPairs d s after.map) is.pairs_are (holds observable));
 }
 reply_at to p d seen after (Err fault) drawn holds observable is = tt
+
+-- the list over the pages of a tree
+pub list_at : {D : Type 0} (state : D → DiskState) (p : Parameters) (staged : StagedState D AnyDraw) (d : Draw) → d ≡ draw_of p → ((t : Tree) × (IsFitting t p × AreAt state t p staged)) → IsTold state staged → (s : List Pair) × HoldsPairs d s staged.map
+list_at state p staged d drawn some told =
+    let holds = tree_holds some.0 p staged.map some.1.0 (some.1.1.held told.disk told.runs).map_is in
+    (pairs some.0 p, subst (λ (e : Draw). HoldsPairs e (pairs some.0 p) staged.map) (sym drawn) holds)
+
+-- a change that a call carries out is answered so
+pub carried_reply : {T : Type 0} (c : Command) (old new : PairsState) (r : Result (Result T Refusal) Fault) → CarriesOut (λ _. Acknowledged) c old new r → AnswersBy c old new (change_reply r)
+carried_reply c old new (Ok (Ok value)) is = record { faults = is.faults; observable = is.observable; answered = λ seen t p holds. let step = is.carried seen t p holds in record { reply_is = step.reply; pairs_are = step.pairs_are } }
+carried_reply c old new (Ok (Err refusal)) is = record { faults = is.faults; observable = is.observable; answered = λ seen t p holds. let step = is.carried seen t p holds in record { reply_is = step.reply; pairs_are = step.pairs_are } }
+carried_reply c old new (Err fault) is = record { faults = is.faults; observable = is.observable; answered = λ seen t p holds. tt }
 
 module _ {D : Type 0} (state : D → DiskState) (t : Tree) (c : Command) (p : Parameters) (old mid : StagedState D AnyDraw) (fit : IsFitting t p) (at : AreAt state t p old) (runs : old.is_spent ≡ false) (command : IsCommand c) where
   -- it is acknowledged, and settled
@@ -62,25 +76,17 @@ module _ {D : Type 0} (state : D → DiskState) (t : Tree) (c : Command) (p : Pa
   taken_back : Follows state old mid → Follows state old (record mid { map = mid.table })
   taken_back follows = record { disk = follows.disk; draw = follows.draw; runs = follows.runs; table = follows.table }
 
-  other_reply : (reply : Reply) → (reply ≡ replies.Ok → ⊥) → reply_of reply ≡ Acknowledged → ⊥
-  other_reply replies.Ok other is = other refl
-  other_reply (replies.Bytes bytes) other is = cc
-  other_reply (replies.Listing entries) other is = cc
-  other_reply (replies.Space used slots) other is = cc
-  other_reply (replies.Digest digest) other is = cc
-  other_reply (replies.No refusal) other is = cc
-
   -- it is answered otherwise
-  pub answered : (reply : Reply) → (reply ≡ replies.Ok → ⊥) → AnswersAt state c t p old mid (Ok reply) → EndsStep state t (step t c p) p old (record mid { map = mid.table }) (Ok reply)
+  answered : (reply : Reply) → (reply_of reply ≡ (uncounted_step t c p).reply → reply_of reply ≡ Acknowledged → ⊥) → AnswersAt state c t p old mid (Ok reply) → EndsStep state t (step t c p) p old (record mid { map = mid.table }) (Ok reply)
   answered reply other answers =
-      let is = λ (observable : IsObservable (state old.disk)). answered_step t c p (reply_of reply) (answers.answered observable).reply_is (other_reply reply other) in
+      let is = λ (observable : IsObservable (state old.disk)). answered_step t c p (reply_of reply) (answers.answered observable).reply_is (other (answers.answered observable).reply_is) in
       record {
         step = read_step state t (step t c p) p old (record mid { map = mid.table }) (Ok reply) fit at runs (taken_back answers.follows) answers.faults (λ e. cc) (λ observable. ap (λ (s : Step). s.tree) (is observable)) (λ observable. sym (ap (λ (s : Step). s.reply) (is observable)));
         none_staged = λ observable still. refl;
       }
 
   -- it fails
-  pub failed : (fault : Fault) → AnswersAt state c t p old mid (Err fault) → EndsStep state t (step t c p) p old (record mid { map = mid.table }) (Err (apply_fault_of fault))
+  failed : (fault : Fault) → AnswersAt state c t p old mid (Err fault) → EndsStep state t (step t c p) p old (record mid { map = mid.table }) (Err (apply_fault_of fault))
   failed causes.Disk answers = record {
     step = read_step state t (step t c p) p old (record mid { map = mid.table }) (Err apply.Disk) fit at runs (taken_back answers.follows) answers.faults (λ e. cc) (λ observable. tt) (λ observable. tt);
     none_staged = λ observable still. refl;
@@ -89,3 +95,17 @@ module _ {D : Type 0} (state : D → DiskState) (t : Tree) (c : Command) (p : Pa
     step = read_step state t (step t c p) p old (record mid { map = mid.table }) (Err apply.NoMemory) fit at runs (taken_back answers.follows) answers.faults (λ e. cc) (λ observable. tt) (λ observable. tt);
     none_staged = λ observable still. refl;
   }
+
+  -- what the answer is, and what stands once it is taken back
+  pub answered_at : (reply : Reply) (new : StagedState D AnyDraw) (result : Result Reply Fault) → result ≡ Ok reply → new ≡ record mid { map = mid.table } → (reply_of reply ≡ (uncounted_step t c p).reply → reply_of reply ≡ Acknowledged → ⊥) → AnswersAt state c t p old mid result
+      → EndsStep state t (step t c p) p old new (Ok reply)
+  answered_at reply new result is back other answers =
+      subst (λ (s : StagedState D AnyDraw). EndsStep state t (step t c p) p old s (Ok reply)) (sym back)
+      (answered reply other (subst (λ (r : Result Reply Fault). AnswersAt state c t p old mid r) is answers))
+
+  pub failed_at : (fault : Fault) (end : ApplyFault) (new : StagedState D AnyDraw) (result : Result Reply Fault) → result ≡ Err fault → new ≡ record mid { map = mid.table } → end ≡ apply_fault_of fault → AnswersAt state c t p old mid result
+      → EndsStep state t (step t c p) p old new (Err end)
+  failed_at fault end new result is back so answers =
+      subst (λ (f : ApplyFault). EndsStep state t (step t c p) p old new (Err f)) (sym so)
+      (subst (λ (s : StagedState D AnyDraw). EndsStep state t (step t c p) p old s (Err (apply_fault_of fault))) (sym back)
+      (failed fault (subst (λ (r : Result Reply Fault). AnswersAt state c t p old mid r) is answers)))

@@ -16,6 +16,7 @@ use Rattle.store_model.proofs.TreesLemmasFits.{needs_no_more, Fits-step}
 use Rattle.store_model.proofs.TreesLemmasSteps.{IsTree-next_tree, IsTree-step}
 use Rattle.tree_pairs.specs.TreeCalls.{uncounted_by, uncounted_step}
 use Rattle.tree_pairs.proofs.CallLemmas.{step_where_refused}
+use Rattle.store_core.specs.Answers.{is_look}
 use Rattle.store_core.specs.Standing.{IsFitting}
 use Rattle.store_core.specs.Steps.{counted_step}
 
@@ -71,6 +72,9 @@ acked_none : (t : Tree) (c : Command) (p : Parameters) (o : Option Refusal) → 
 acked_none t c p (Some refusal) is = let other : Refused refusal ≡ Acknowledged = is in cc
 acked_none t c p None is = refl
 
+acked_reply : (t : Tree) (c : Command) (p : Parameters) → (uncounted_step t c p).reply ≡ Acknowledged → reply_of t c p ≡ Acknowledged
+acked_reply t c p acked = sym (ap (λ (o : Option Refusal). (uncounted_by t c p o).reply) (acked_none t c p (refusal_of t c) acked)) ∙ acked
+
 -- its step is that from its tree to the next, with the pages counted
 module _ (t : Tree) (c : Command) (p : Parameters) (tree : IsTree t) (fits : Fits t p) (acked : (uncounted_step t c p).reply ≡ Acknowledged) where
   none : refusal_of t c ≡ None
@@ -80,7 +84,7 @@ module _ (t : Tree) (c : Command) (p : Parameters) (tree : IsTree t) (fits : Fit
   uncounted_is = ap (uncounted_by t c p) none
 
   reply_is : reply_of t c p ≡ Acknowledged
-  reply_is = sym (ap (λ (s : Step). s.reply) uncounted_is) ∙ acked
+  reply_is = acked_reply t c p acked
 
   by_fill : (fill full : Bool) → may_fill c ≡ fill → nat_lt p.slots (page_count (next_tree t c) p) ≡ full → by_test t c p (fill && full) ≡ counted_step t (next_tree t c) p
   by_fill fill false is full_is =
@@ -128,3 +132,22 @@ answered_step t c p reply is other = by_option (refusal_of t c) refl
         let still = still_command t c p (λ e. other (same ∙ e)) in
         counted t c p so ∙ ap (λ (b : Bool). by_test t c p (b && nat_lt p.slots (page_count (next_tree t c) p))) still.0
         ∙ (λ i. record { reply = sym same i; tree = still.1 i })
+
+-- ---- a command that only looks
+
+look_reply : (t : Tree) (c : Command) (p : Parameters) → is_look c ≡ true → reply_of t c p ≡ Acknowledged → ⊥
+unfolding reply_of
+look_reply t (Make q) p looks is = cc
+look_reply t (Write q at bytes) p looks is = cc
+look_reply t (Cut q len) p looks is = cc
+look_reply t (Rename from to) p looks is = cc
+look_reply t (Remove q) p looks is = cc
+look_reply t (Prune q) p looks is = cc
+look_reply t (ListChildren q) p looks is = cc
+look_reply t (Read q at len) p looks is = cc
+look_reply t Space p looks is = cc
+look_reply t Digest p looks is = cc
+
+-- it is not acknowledged
+pub look_step : (t : Tree) (c : Command) (p : Parameters) → is_look c ≡ true → (uncounted_step t c p).reply ≡ Acknowledged → ⊥
+look_step t c p looks acked = look_reply t c p looks (acked_reply t c p acked)

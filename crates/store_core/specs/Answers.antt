@@ -1,5 +1,6 @@
 -- What answers a command from the pairs of a tree, and from its pages.
-use Rattle.std.specs.Prelude.{◌≡◌, Bool, true, false, Result, IfOk, OnOk}
+use Rattle.std.specs.Prelude.{◌≡◌, Bool, true, false, Result, Ok, Err, IfOk, OnOk}
+use Rattle.store_model.specs.declared.refusal.Refusal.{Refusal}
 use Rattle.store_model.specs.Parameters.{Parameters}
 use Rattle.store_model.specs.Trees.{Tree}
 use Rattle.store_model.specs.Draws.{draw_of}
@@ -12,6 +13,7 @@ use Rattle.store_base.specs.Faults.{disk_faults_after}
 use Rattle.disk_model.specs.DiskState as disks
 use Rattle.seeded_draw.specs.declared.any.AnyDraw.{AnyDraw}
 use Rattle.script_lines.specs.declared.reply.Reply.{Reply}
+use Rattle.script_lines.specs.declared.reply.Reply.TheVariants as replies
 use Rattle.script_lines.specs.Replies.{reply_of}
 use Rattle.skip_levels.specs.PairsState.{PairsState, IsObservable}
 use Rattle.skip_levels.specs.Descent.{HoldsPairs}
@@ -31,18 +33,24 @@ is_change (Read p at len) = false
 is_change Space = false
 is_change Digest = false
 
--- whether a command is answered from the pairs of the tree
-abbrev pub asks_pairs : Command → Bool
-asks_pairs (Make p) = true
-asks_pairs (Write p at bytes) = true
-asks_pairs (Cut p len) = true
-asks_pairs (Rename p q) = true
-asks_pairs (Remove p) = true
-asks_pairs (Prune p) = true
-asks_pairs (ListChildren p) = true
-asks_pairs (Read p at len) = true
-asks_pairs Space = false
-asks_pairs Digest = false
+-- whether a command only looks at the pairs of the tree
+abbrev pub is_look : Command → Bool
+is_look (Make p) = false
+is_look (Write p at bytes) = false
+is_look (Cut p len) = false
+is_look (Rename p q) = false
+is_look (Remove p) = false
+is_look (Prune p) = false
+is_look (ListChildren p) = true
+is_look (Read p at len) = true
+is_look Space = false
+is_look Digest = false
+
+-- how a change that ended so is answered
+abbrev pub change_reply : {T F : Type 0} → Result (Result T Refusal) F → Result Reply F
+change_reply (Ok (Ok value)) = Ok replies.Ok
+change_reply (Ok (Err refusal)) = Ok (replies.No refusal)
+change_reply (Err fault) = Err fault
 
 -- the reply is the step's, and the pairs are those of its tree
 pub record IsReplyOf (to : Step) (p : Parameters) (new : PairsState) (reply : Reply) : Type 0 where

@@ -1,12 +1,10 @@
-//! The commands that are answered from the pairs of a tree, over any list that holds it.
+//! The commands that only look at the pairs of a tree, over any list that holds it.
 
 ghost use Rattle.std.specs.Prelude.{◌≡◌, true};
 ghost use Rattle.store_model.specs.Commands.Command.{ListChildren, Read};
 ghost use Rattle.script_lines.specs.Parsing.{command_of};
-ghost use Rattle.tree_pairs.specs.TreeCalls.{HasRoom};
-ghost use Rattle.store_core.specs.Answers.{is_change, asks_pairs, AnswersBy};
+ghost use Rattle.store_core.specs.Answers.{is_look, AnswersBy};
 
-use crate::change::change;
 use dir_tree::list;
 use file_blocks::read_at;
 use path_keys::Path;
@@ -15,22 +13,20 @@ use skip_levels::OrderedPairs;
 use std::alloc::Global;
 use store_base::Fault;
 
-/// Answers a command by the pairs, and changes them as it says, `full` apart. A fault of the pairs is handed on; nothing
-/// is promised of the pairs after it.
+/// Answers a command by the pairs. A fault of the pairs is handed on; nothing is promised of the pairs after it.
 pub fn answer<P: OrderedPairs>(
     alloc: Global,
     pairs: &mut P,
     command: &Command,
 ) -> Result<Reply, Fault>
-    requires asks { asks_pairs (command_of command.now) ≡ true }
-    requires room { HasRoom (P.state pairs.old) }
+    requires { is_look (command_of command.now) ≡ true }
     ensures call { AnswersBy (command_of command.now) (P.state pairs.old) (P.state pairs.new) result }
     ensures follows { P.follows pairs.old pairs.new }
 {
     match command {
         Command::List(path) => answer_list(alloc, pairs, path),
         Command::Read(path, at, len) => answer_read(pairs, path, *at, *len),
-        _ => answer_change(pairs, command),
+        _ => unreachable!(),
     }
 }
 
@@ -57,19 +53,6 @@ fn answer_read<P: OrderedPairs>(
 {
     match read_at(pairs, path, at, len)? {
         Ok(bytes) => Ok(Reply::Bytes(bytes)),
-        Err(refusal) => Ok(Reply::No(refusal)),
-    }
-}
-
-/// Changes the pairs as a command says that changes the tree.
-fn answer_change<P: OrderedPairs>(pairs: &mut P, command: &Command) -> Result<Reply, Fault>
-    requires change { is_change (command_of command.now) ≡ true }
-    requires room { HasRoom (P.state pairs.old) }
-    ensures call { AnswersBy (command_of command.now) (P.state pairs.old) (P.state pairs.new) result }
-    ensures follows { P.follows pairs.old pairs.new }
-{
-    match change(pairs, command)? {
-        Ok(()) => Ok(Reply::Ok),
         Err(refusal) => Ok(Reply::No(refusal)),
     }
 }

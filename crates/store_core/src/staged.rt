@@ -9,12 +9,13 @@ ghost use Rattle.store_model.specs.Steps.{step};
 ghost use Rattle.disk_model.specs.DiskState.{IsObservable};
 ghost use Rattle.script_lines.specs.Parsing.{command_of};
 ghost use Rattle.script_lines.specs.Replies.{reply_of};
-ghost use Rattle.store_core.specs.Answers.{asks_pairs, AnswersAt};
+ghost use Rattle.store_core.specs.Answers.{is_change, is_look, change_reply, AnswersAt};
 ghost use Rattle.store_core.specs.Standing.{IsFitting};
 ghost use Rattle.store_core.specs.StagedTree.{AreAt, IsStagedFor};
 ghost use Rattle.store_core.specs.Steps.{counted_step, settled_reply, EndsStep};
 
 use crate::answer::answer;
+use crate::change::change;
 use crate::fault::ApplyFault;
 use disk_model::Disk;
 use page_store::{SettleFault, Staged};
@@ -22,7 +23,7 @@ use script_lines::{Command, Reply};
 use seeded_draw::AnyDraw;
 use skip_levels::SkipList;
 use std::alloc::Global;
-use store_base::{Fault, Params, Refusal};
+use store_base::{Answer, Fault, Params, Refusal};
 
 /// The pages of a tree in the table of an image.
 pub type TreePages<D> = Staged<D, AnyDraw>;
@@ -51,7 +52,11 @@ pub fn carry_out<D: Disk>(
             let digest = tell_digest(&mut staged);
             (staged, digest)
         }
-        _ => carry_out_by_pairs(alloc, staged, params, command),
+        Command::List(_) | Command::Read(..) => carry_out_look(alloc, staged, params, command),
+        _ => {
+            let (staged, changed) = carry_out_change(alloc, staged, params, command);
+            (staged, reply_to(changed))
+        }
     }
 }
 
@@ -74,44 +79,35 @@ fn tell_digest<D: Disk>(staged: &mut TreePages<D>) -> Result<Reply, ApplyFault>
     Ok(Reply::Digest(staged.digest()?))
 }
 
-/// Carries out a command that is answered from the pairs of the tree.
-fn carry_out_by_pairs<D: Disk>(
+/// Carries out a command that only looks at the pairs of the tree. Behind it nothing is staged.
+fn carry_out_look<D: Disk>(
     alloc: Global,
     staged: TreePages<D>,
     params: &Params,
     command: &Command,
 ) -> (TreePages<D>, Result<Reply, ApplyFault>)
-    requires asks { asks_pairs (command_of command.now) ≡ true }
+    requires looks { is_look (command_of command.now) ≡ true }
     requires command { IsCommand (command_of command.now) }
     requires runs { staged.is_spent ≡ false }
     requires pages { (t : Tree) × (IsFitting t params.now × AreAt D.state t params.now staged) }
     ensures call { (t : Tree) → IsFitting t params.now → AreAt D.state t params.now staged → EndsStep D.state t (step t (command_of command.now) params.now) params.now staged result.0 result.1 }
 {
     let (mut staged, answer) = answer_at(alloc, staged, params, command);
-    let reply = match answer {
-        Ok(reply) => reply,
-        Err(fault) => {
-            staged.discard();
-            return (staged, Err(fault.into()));
-        }
-    };
-    match reply {
-        Reply::Ok => settle(staged),
-        _ => {
-            staged.discard();
-            (staged, Ok(reply))
-        }
+    staged.discard();
+    match answer {
+        Ok(reply) => (staged, Ok(reply)),
+        Err(fault) => (staged, Err(fault.into())),
     }
 }
 
-/// Answers a command by the skip list in the pages, and stages what it changes.
+/// Answers a command that only looks at the pairs, by the skip list in the pages.
 fn answer_at<D: Disk>(
     alloc: Global,
     staged: TreePages<D>,
     params: &Params,
     command: &Command,
 ) -> (TreePages<D>, Result<Reply, Fault>)
-    requires asks { asks_pairs (command_of command.now) ≡ true }
+    requires looks { is_look (command_of command.now) ≡ true }
     requires runs { staged.is_spent ≡ false }
     requires pages { (t : Tree) × (IsFitting t params.now × AreAt D.state t params.now staged) }
     ensures call { (t : Tree) → IsFitting t params.now → AreAt D.state t params.now staged → AnswersAt D.state (command_of command.now) t params.now staged result.0 result.1 }
@@ -121,24 +117,83 @@ fn answer_at<D: Disk>(
     (pairs.into_pages(), answer)
 }
 
-/// Settles what is staged. Where that is refused, or fails, it is taken back.
-fn settle<D: Disk>(mut staged: TreePages<D>) -> (TreePages<D>, Result<Reply, ApplyFault>)
+/// Carries out a command that changes the tree. A `Reply` is large, since it may hold the bytes of a read: it is not made here,
+/// but by the caller.
+fn carry_out_change<D: Disk>(
+    alloc: Global,
+    staged: TreePages<D>,
+    params: &Params,
+    command: &Command,
+) -> (TreePages<D>, Result<Answer<()>, ApplyFault>)
+    requires change { is_change (command_of command.now) ≡ true }
+    requires command { IsCommand (command_of command.now) }
     requires runs { staged.is_spent ≡ false }
-    ensures call { (t next : Tree) (p : Parameters) → IsStagedFor D.state t next p staged → EndsStep D.state t (counted_step t next p) p staged result.0 result.1 }
+    requires pages { (t : Tree) × (IsFitting t params.now × AreAt D.state t params.now staged) }
+    ensures call { (t : Tree) → IsFitting t params.now → AreAt D.state t params.now staged → EndsStep D.state t (step t (command_of command.now) params.now) params.now staged result.0 (change_reply result.1) }
+{
+    let (mut staged, changed) = change_at(alloc, staged, params, command);
+    let answer = match changed {
+        Ok(answer) => answer,
+        Err(fault) => {
+            staged.discard();
+            return (staged, Err(fault.into()));
+        }
+    };
+    match answer {
+        Ok(()) => settle(staged),
+        Err(refusal) => {
+            staged.discard();
+            (staged, Ok(Err(refusal)))
+        }
+    }
+}
+
+/// Stages what a command changes, by the skip list in the pages.
+fn change_at<D: Disk>(
+    alloc: Global,
+    staged: TreePages<D>,
+    params: &Params,
+    command: &Command,
+) -> (TreePages<D>, Result<Answer<()>, Fault>)
+    requires change { is_change (command_of command.now) ≡ true }
+    requires runs { staged.is_spent ≡ false }
+    requires pages { (t : Tree) × (IsFitting t params.now × AreAt D.state t params.now staged) }
+    ensures call { (t : Tree) → IsFitting t params.now → AreAt D.state t params.now staged → AnswersAt D.state (command_of command.now) t params.now staged result.0 (change_reply result.1) }
+{
+    let mut pairs = SkipList::new(alloc, staged, AnyDraw::new(params));
+    let changed = change(&mut pairs, command);
+    (pairs.into_pages(), changed)
+}
+
+/// Settles what is staged. Where that is refused, or fails, it is taken back.
+fn settle<D: Disk>(mut staged: TreePages<D>) -> (TreePages<D>, Result<Answer<()>, ApplyFault>)
+    requires runs { staged.is_spent ≡ false }
+    ensures call { (t next : Tree) (p : Parameters) → IsStagedFor D.state t next p staged → EndsStep D.state t (counted_step t next p) p staged result.0 (change_reply result.1) }
 {
     let settled = staged.settle();
     staged.discard();
-    (staged, reply_to(settled))
+    (staged, answer_to(settled))
 }
 
-/// What a command answers whose changes were settled so.
-fn reply_to(settled: Result<(), SettleFault>) -> Result<Reply, ApplyFault>
-    ensures { result ≡ settled_reply settled }
+/// How a change ends that was settled so.
+fn answer_to(settled: Result<(), SettleFault>) -> Result<Answer<()>, ApplyFault>
+    ensures { change_reply result ≡ settled_reply settled }
 {
     match settled {
-        Ok(()) => Ok(Reply::Ok),
-        Err(SettleFault::Full { need, slots }) => Ok(Reply::No(Refusal::Full { need, slots })),
+        Ok(()) => Ok(Ok(())),
+        Err(SettleFault::Full { need, slots }) => Ok(Err(Refusal::Full { need, slots })),
         Err(SettleFault::Disk) => Err(ApplyFault::Disk),
         Err(SettleFault::NoMemory) => Err(ApplyFault::NoMemory),
+    }
+}
+
+/// What a change answers that ended so.
+fn reply_to(changed: Result<Answer<()>, ApplyFault>) -> Result<Reply, ApplyFault>
+    ensures { result ≡ change_reply changed }
+{
+    match changed {
+        Ok(Ok(())) => Ok(Reply::Ok),
+        Ok(Err(refusal)) => Ok(Reply::No(refusal)),
+        Err(fault) => Err(fault),
     }
 }

@@ -1,38 +1,21 @@
-use Rattle.std.proofs.Common.{◌≡◌, ◌<◌, IsTrue, List, length, sym, ap, subst, ◌∙◌}
-use Rattle.store_model.specs.Draws.{Draw, draw_of}
-use Rattle.store_model.specs.Pairs.{Pair, pairs}
+use Rattle.std.proofs.Common.{◌≡◌, IsTrue, sym, ap, subst, ◌∙◌}
+use Rattle.store_model.specs.Draws.{draw_of}
+use Rattle.store_model.specs.Pairs.{pairs}
 use Rattle.script_lines.specs.Parsing.{command_of}
 use Rattle.seeded_draw.specs.declared.any.AnyDraw.{AnyDraw}
 use Rattle.seeded_draw.specs.AnyDrawn.{any_draw}
-use Rattle.skip_levels.specs.Descent.{HoldsPairs}
 use Rattle.skip_levels.specs.PagePairs.{pairs_of_map, list_over}
 use Rattle.skip_levels.proofs.PagePairsLemmas.{holds_own}
-use Rattle.tree_pairs.specs.TreeCalls.{pairs_limit, uncounted_step}
+use Rattle.tree_pairs.specs.TreeCalls.{uncounted_step}
 use Rattle.page_store.specs.StagedState.{StagedState, IsTold, Follows, pages_state}
 use Rattle.store_base.specs.Faults.{disk_faults_after}
 use Rattle.store_core.specs.Answers.{AnswersAt}
-use Rattle.store_core.proofs.AnswerSteps.{reply_at}
-use Rattle.store_core.proofs.TreePages.{few_pairs, tree_holds, tree_valid}
+use Rattle.store_core.proofs.AnswerSteps.{list_at, reply_at}
+use Rattle.store_core.proofs.TreePages.{tree_holds, tree_valid}
 use Rattle.store_core.proofs.staged.answer_at.Goals as goal
 
 pub new-pairs-requires : goal.new-pairs-requires
-new-pairs-requires g c told =
-    let some = c.requires.pages in
-    let p = c.args.params.now in
-    let staged = c.args.staged in
-    let holds = tree_holds some.0 p staged.map some.1.0 (some.1.1.held told.disk told.runs).map_is in
-    (pairs some.0 p, subst (λ (d : Draw). HoldsPairs d (pairs some.0 p) staged.map) (sym c.new.ensures) holds)
-
-pub answer-answer-requires-clause-room : goal.answer-answer-requires-clause-room
-answer-answer-requires-clause-room g c seen =
-    let some = c.requires.pages in
-    let state = g.D.Disk.state in
-    let p = c.args.params.now in
-    let staged = c.args.staged in
-    let told = subst (λ (s : StagedState g.row.D.Denot AnyDraw). IsTold state s) c.new-pairs.ensures.pages seen.1 in
-    let holds = tree_holds some.0 p staged.map some.1.0 (some.1.1.held told.disk told.runs).map_is in
-    let same = ap (λ (s : StagedState g.row.D.Denot AnyDraw). pairs_of_map s.map) c.new-pairs.ensures.pages ∙ holds_own (draw_of p) (pairs some.0 p) staged.map holds in
-    subst (λ (s : List Pair). length s < pairs_limit) (sym same) (few_pairs some.0 p some.1.0)
+new-pairs-requires g c told = list_at g.D.Disk.state c.args.params.now c.args.staged _ c.new.ensures c.requires.pages told
 
 pub returns : goal.returns
 returns g c = record {

@@ -1,9 +1,11 @@
-use Rattle.std.proofs.Common.{Ok, refl, sym, ap, subst}
+use Rattle.std.proofs.Common.{Result, Ok, refl, sym, ap, subst}
 use Rattle.store_model.specs.Commands.{Command}
 use Rattle.store_model.specs.Commands.Command.{Space}
 use Rattle.store_model.specs.Steps.{Step, step}
+use Rattle.script_lines.specs.declared.reply.Reply.{Reply}
 use Rattle.script_lines.specs.Parsing.{command_of}
 use Rattle.page_store.specs.StagedState.{Follows-refl}
+use Rattle.store_core.specs.declared.fault.ApplyFault.{ApplyFault}
 use Rattle.store_core.specs.Steps.{EndsStep}
 use Rattle.store_core.proofs.StagedSteps.{read_step, same_staged}
 use Rattle.store_core.proofs.StepLemmas.{space_step}
@@ -22,4 +24,11 @@ returns-in-Space g c = record {
         none_staged = same_staged state t p staged staged at c.requires.runs still (λ observable. refl);
       } in
       subst (λ (x : Command). EndsStep state t (step t x p) p staged staged (Ok c.tell_space-space.result)) (sym (ap command_of c.in-Space.is)) ends;
+}
+
+pub returns-in_default : goal.returns-in_default
+returns-in_default g c = record {
+  call = λ t fit at.
+      let command = command_of c.args.command.now in
+      subst (λ (r : Result Reply ApplyFault). EndsStep g.D.Disk.state t (step t command c.args.params.now) c.args.params.now c.args.staged c.carry_out_change-staged.result.0 r) (sym c.reply_to.ensures) (c.carry_out_change-staged.ensures.call t fit at);
 }

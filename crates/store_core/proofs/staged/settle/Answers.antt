@@ -12,6 +12,6 @@ returns g c = record {
   call = λ t next p staged.
       let state = g.D.Disk.state in
       let ends = settled state t next p c.args.staged c.settle-settled.new.self c.settle-settled.result g.met.D.Disk.sound staged c.requires.runs c.settle-settled.ensures.call in
-      subst (λ (r : Result Reply ApplyFault). EndsStep state t (counted_step t next p) p c.args.staged c.discard.new.self r) (sym c.reply_to.ensures)
+      subst (λ (r : Result Reply ApplyFault). EndsStep state t (counted_step t next p) p c.args.staged c.discard.new.self r) (sym c.answer_to.ensures)
       (subst (λ (s : StagedState g.row.D.Denot AnyDraw). EndsStep state t (counted_step t next p) p c.args.staged s (settled_reply c.settle-settled.result)) (sym c.discard.ensures) ends);
 }
