@@ -1,17 +1,18 @@
 //! The fields of a line, and what a field says: a path, a number, bytes.
 
-ghost use Rattle.std.specs.Prelude.{◌≡◌, ◌≤◌, ◌/◌, ◌∷◌, [], true, length, ◌==◌, nat_le, if◌then◌else◌, None, Some, IfSome, MatchOption};
-ghost use Rattle.std.specs.List.{list_all, position};
+ghost use Rattle.std.specs.Prelude.{◌≡◌, ◌≤◌, ◌/◌, ◌∷◌, [], true, length, nat_le, if◌then◌else◌, None, Some, IfSome, MatchOption};
+ghost use Rattle.std.specs.List.{list_all};
 ghost use Rattle.store_model.specs.Grammar.{number_of, content_of, ok_value, is_numeral, is_digit, digits_value, number_limit};
 ghost use Rattle.hex.specs.Hex.{decode_of};
 ghost use Rattle.script_lines.specs.Parsing.{parts_of, AreFields, FitFields, ReadsPath};
 
+use crate::find::find_byte;
 use crate::lines::MAX_LINE;
 use path_keys::{Path, PathFault};
 use store_base::{Bytes, Refusal};
 
 /// The fields of a line, which exactly one space parts: the word, and up to three more.
-#[derive(Clone, Copy, Debug)]
+#[derive(Clone, Copy)]
 pub enum Fields<'a> {
     /// The word alone.
     One(&'a [u8]),
@@ -25,20 +26,13 @@ pub enum Fields<'a> {
     More,
 }
 
-/// Where the first space stands.
-fn find_space(text: &[u8]) -> Option<usize>
-    ensures { result ≡ position (λ c. c == 0x20) text.now }
-{
-    text.iter().position(|c| *c == b' ')
-}
-
 /// The first field, and what stands behind the space that ends it, if one does.
 fn cut_field(text: &[u8]) -> (&[u8], Option<&[u8]>)
     ensures parts { MatchOption result.1 (parts_of text.now ≡ result.0.now ∷ []) (λ rest. parts_of text.now ≡ result.0.now ∷ parts_of rest.now) }
     ensures word { length result.0.now ≤ length text.now }
     ensures rest { IfSome result.1 (λ rest. length rest.now ≤ length text.now) }
 {
-    match find_space(text) {
+    match find_byte(text, b' ') {
         Some(place) => (&text[..place], Some(&text[place + 1..])),
         None => (text, None),
     }
@@ -94,7 +88,7 @@ fn is_numeral(text: &[u8]) -> bool
 fn are_digits(text: &[u8]) -> bool
     ensures { result ≡ list_all is_digit text.now }
 {
-    text.iter().all(|c| c.is_ascii_digit())
+    text.iter().all(u8::is_ascii_digit)
 }
 
 /// The number that a text spells, 0 to 4,294,967,295: one or more of the digits `0` to `9`, the highest

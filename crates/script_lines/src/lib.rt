@@ -5,6 +5,7 @@
 mod command;
 mod fault;
 mod fields;
+mod find;
 mod generator;
 mod lines;
 mod memory;

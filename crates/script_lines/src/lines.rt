@@ -1,12 +1,13 @@
 //! The lines of a script, read from a source in pieces of whatever length.
 
-ghost use Rattle.std.specs.Prelude.{◌≡◌, ◌↔◌, ◌≤◌, ◌<◌, ◌+◌, ◌-◌, ◌*◌, ◌^◌, ◌==◌, [], true, false, IsTrue, IsOk, IfOk, OnOk, IfErr, OnErr, IsErrOf, length, take, drop, min, max, vec_len, position, nat_lt, if◌then◌else◌, IfSome};
+ghost use Rattle.std.specs.Prelude.{◌≡◌, ◌↔◌, ◌≤◌, ◌<◌, ◌+◌, ◌-◌, ◌*◌, ◌^◌, ◌==◌, [], true, false, IsTrue, IsOk, IfOk, OnOk, IfErr, OnErr, IsErrOf, length, take, drop, min, max, vec_len, nat_lt, if◌then◌else◌, IfSome};
 ghost use Rattle.store_base.specs.Counts.{Rose};
 ghost use Rattle.script_lines.specs.SourceState.{IsObservable};
 ghost use Rattle.script_lines.specs.Lines.{HasNoEnd, FindsEnd, ended_lines};
 ghost use Rattle.script_lines.specs.LineState.{NextLine, KeepsSource, Fills, EndsCall, IsShown};
 
 use crate::fault::SourceFault;
+use crate::find::find_byte;
 use crate::source::Source;
 use std::alloc::Global;
 use std::marker::Model;
@@ -42,13 +43,6 @@ pub enum LineFault {
     /// The script is longer than the limit.
     #[error("the script is too long")]
     TooLong,
-}
-
-/// Where the first LF stands.
-fn find_end(bytes: &[u8]) -> Option<usize>
-    ensures { result ≡ position (λ c. c == 10) bytes.now }
-{
-    bytes.iter().position(|c| *c == b'\n')
 }
 
 /// Reads the lines of a script one after another. A script is cut at each LF, bytes after the last LF are
@@ -250,7 +244,7 @@ impl<R: Source> LineReader<R> {
                 self.finish();
                 return Ok(Line::Long);
             }
-            if let Some(place) = find_end(self.held()) {
+            if let Some(place) = find_byte(self.held(), b'\n') {
                 self.pass(place + 1);
                 return Ok(Line::Long);
             }
@@ -280,7 +274,7 @@ impl<R: Source> LineReader<R> {
         }
         let mut scanned = 0;
         loop {
-            if let Some(place) = find_end(&self.held()[scanned..]) {
+            if let Some(place) = find_byte(&self.held()[scanned..], b'\n') {
                 if scanned + place > 0 {
                     return Ok(self.answer(scanned + place));
                 }

@@ -59,7 +59,7 @@ pub fn write_reply<W: Sink>(sink: &mut W, reply: &Reply) -> Result<(), SinkFault
 }
 
 /// The line of bytes that were read.
-#[tactic(auto, unfolding(store_model::specs::Commands::reply_text, store_model::specs::Commands::content_text, store_model::specs::Commands::child_line, store_model::specs::Commands::refusal_text))]
+#[tactic(auto, unfolding(store_model::specs::Commands::reply_text, store_model::specs::Commands::content_text))]
 fn content_line(bytes: &Bytes) -> Text
     ensures { result ≡ reply_text (Content bytes.now) }
 {
@@ -76,7 +76,7 @@ fn content_line(bytes: &Bytes) -> Text
 }
 
 /// The line of the slots that are used and that there are.
-#[tactic(auto, unfolding(store_model::specs::Commands::reply_text, store_model::specs::Commands::content_text, store_model::specs::Commands::child_line, store_model::specs::Commands::refusal_text))]
+#[tactic(auto, unfolding(store_model::specs::Commands::reply_text))]
 fn usage_line(used: u32, slots: u32) -> Text
     ensures { result ≡ reply_text (PagesUsed used slots) }
 {
@@ -90,7 +90,7 @@ fn usage_line(used: u32, slots: u32) -> Text
 }
 
 /// The line of a digest.
-#[tactic(auto, unfolding(store_model::specs::Commands::reply_text, store_model::specs::Commands::content_text, store_model::specs::Commands::child_line, store_model::specs::Commands::refusal_text))]
+#[tactic(auto, unfolding(store_model::specs::Commands::reply_text))]
 fn digest_line(digest: &[u8; 32]) -> Text
     ensures { result ≡ reply_text (ImageDigest digest.now) }
 {
@@ -102,7 +102,7 @@ fn digest_line(digest: &[u8; 32]) -> Text
 }
 
 /// The line of a refusal.
-#[tactic(auto, unfolding(store_model::specs::Commands::reply_text, store_model::specs::Commands::content_text, store_model::specs::Commands::child_line, store_model::specs::Commands::refusal_text))]
+#[tactic(auto, unfolding(store_model::specs::Commands::reply_text))]
 fn refusal_line(refusal: Refusal) -> Text
     ensures { result ≡ reply_text (Refused refusal) }
 {
@@ -114,7 +114,7 @@ fn refusal_line(refusal: Refusal) -> Text
 }
 
 /// Adds the word of a refusal, and the two numbers of `full`.
-#[tactic(auto, unfolding(store_model::specs::Commands::reply_text, store_model::specs::Commands::content_text, store_model::specs::Commands::child_line, store_model::specs::Commands::refusal_text))]
+#[tactic(auto, unfolding(store_model::specs::Commands::refusal_text))]
 fn push_refusal(text: &mut Text, refusal: Refusal)
     requires { length text.old + MAX_REFUSAL ≤ MAX_TEXT }
     ensures value { text.new ≡ text.old ++ refusal_text refusal }
@@ -138,7 +138,6 @@ fn push_refusal(text: &mut Text, refusal: Refusal)
 }
 
 /// Adds the word `full` and its two numbers.
-#[tactic(auto, unfolding(store_model::specs::Commands::reply_text, store_model::specs::Commands::content_text, store_model::specs::Commands::child_line, store_model::specs::Commands::refusal_text))]
 fn push_full(text: &mut Text, need: u32, slots: u32)
     requires { length text.old + MAX_REFUSAL ≤ MAX_TEXT }
     ensures value { text.new ≡ text.old ++ (codes "full " ++ decimal need ++ codes " " ++ decimal slots) }
@@ -178,7 +177,7 @@ fn make_room<W: Sink>(sink: &mut W, text: &mut Text) -> Result<(), SinkFault>
 }
 
 /// Adds the line of a child.
-#[tactic(auto, unfolding(store_model::specs::Commands::reply_text, store_model::specs::Commands::content_text, store_model::specs::Commands::child_line, store_model::specs::Commands::refusal_text))]
+#[tactic(auto, unfolding(store_model::specs::Commands::child_line))]
 fn push_child(text: &mut Text, name: &[u8], size: Option<u32>)
     requires room { length text.old + MAX_CHILD ≤ MAX_TEXT }
     requires name { length name.now ≤ Entries.MAX_NAME }

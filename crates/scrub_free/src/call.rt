@@ -41,8 +41,8 @@ fn answer_of(scrubbed: Result<(), DiskFault>, verdict: Verdict) -> Result<Verdic
     Ok(verdict)
 }
 
-/// Makes an image what scrubbing leaves of it, where that is the layout of a tree: recovers its journal, and makes bytes
-/// 1 to 4,095 zero in each slot of the table whose byte 0 is 0 and in which they are not. The disk is handed back.
+/// Makes an image what scrubbing leaves of it, where that is the layout of a tree: recovers its journal, and makes each free
+/// slot of the table zero (its byte 0 is 0 already). The disk is handed back.
 ///
 /// `NotImage` is the answer to a disk that does not start with the header of some image of its length, and to no other;
 /// `Damaged` that to any other disk of which scrubbing would leave the layout of no tree. Then nothing was written. `Clean`

@@ -19,21 +19,31 @@ const WORDS: [Word; 6] = [
     Word::Big,
 ];
 
-/// Prints the help of a command, which is called so.
-fn print_part(rt: &HostRuntime, command: Command<'_>, called: &str) -> Result<()> {
-    let mut command = command.bin_name(called)?;
-    println!(rt; "== {}", command.get_name())?;
-    print!(rt; "{}", command.render_help()?)?;
+/// Prints a text behind a line with the name of the command that it is the help of.
+fn print_help(rt: &HostRuntime, name: &str, help: &str) -> Result<()> {
+    println!(rt; "== {name}")?;
+    print!(rt; "{help}")?;
     Ok(())
 }
 
+/// Prints the help of a command, which is called so.
+fn print_part(rt: &HostRuntime, command: Command<'_>, called: &str) -> Result<()> {
+    let mut command = command.bin_name(called)?;
+    let help = command.render_help()?;
+    print_help(rt, command.get_name(), help.as_str())
+}
+
+/// Prints the help of a word.
+fn print_word(rt: &HostRuntime, word: Word) -> Result<()> {
+    let command = word_command(rt.alloc(), word)?;
+    let called = format!(in rt.alloc(); "{PROGRAM} {}", command.get_name())?;
+    print_part(rt, command, called.as_str())
+}
+
 fn main(rt: HostRuntime) -> Result<()> {
-    let alloc = rt.alloc();
-    print_part(&rt, command(alloc)?, PROGRAM)?;
+    print_part(&rt, command(rt.alloc())?, PROGRAM)?;
     for word in &WORDS {
-        let command = word_command(alloc, *word)?;
-        let called = format!(in alloc; "{PROGRAM} {}", command.get_name())?;
-        print_part(&rt, command, called.as_str())?;
+        print_word(&rt, *word)?;
     }
     Ok(())
 }

@@ -74,7 +74,7 @@ pub record KeepsLimit (status : Status) (old new : SourceState) : Type 0 where
 
 -- ---- one line
 
--- what a line asks for: a line of more than 8,192 bytes is refused with `long`
+-- what a line asks for: `long` refuses one that has over 8,192 bytes
 unfoldable pub reading : List ℕ → Result model.Command Refusal
 reading text = if nat_lt line_limit (length text) then Err refusals.Long else parse text
 

@@ -4,6 +4,7 @@ ghost use Rattle.std.specs.Prelude.{◌≡◌, false, [], IfOk, codes};
 ghost use Rattle.clap.specs.Simple.{app_of};
 ghost use Rattle.clap.specs.Walk.{rule_of};
 ghost use Rattle.clap.specs.declared.builder.command.Command.TheViews.{out-Command};
+ghost use Rattle.store_words.specs.Building.{AddsArgument, AddsWord};
 ghost use Rattle.store_words.specs.Line.{IsLine, IsWord, IsFormat, IsWordOf, TakesDraws, argument, big_word, without_help, without_words};
 
 use clap::builder::ValueParser;
@@ -52,6 +53,19 @@ fn argument<'a>(alloc: Global, name: &'a str, help: &'a str, parser: ValueParser
         .value_parser(parser)
 }
 
+/// The command with one argument more, which is required and has one value, which passes the parser.
+fn with_argument<'a>(
+    alloc: Global,
+    command: Command<'a>,
+    name: &'a str,
+    help: &'a str,
+    parser: ValueParser<'a>,
+) -> Result<Command<'a>, AllocError>
+    ensures { IfOk result (AddsArgument (argument name.entry.now parser.entry) command.entry) }
+{
+    command.arg(argument(alloc, name, help, parser))
+}
+
 /// A command with no arguments yet, which knows no request for help, with a sentence on what it does and with what else
 /// is to be known of it.
 fn without_help<'a>(alloc: Global, name: &'a str, about: &'a str, notes: &'a str) -> Command<'a>
@@ -68,56 +82,68 @@ fn without_help<'a>(alloc: Global, name: &'a str, about: &'a str, notes: &'a str
 fn format_word<'a>(alloc: Global) -> Result<Command<'a>, AllocError>
     ensures { IfOk result IsFormat }
 {
-    let slots = ValueParser::unsigned(1, u64::from(MAX_SLOTS));
-    let height = ValueParser::unsigned(1, u64::from(MAX_HEIGHT));
-    without_help(
+    let format = without_help(
         alloc,
         "format",
         "Makes an image with nothing in it.",
         "The file is made where there is none. One that is there must have just the length that SLOTS asks\n\
          for, and must not begin as an image does: `wipe` readies it for a second `format`.",
-    )
-    .arg(argument(
+    );
+    let format = with_argument(
         alloc,
+        format,
         "SLOTS",
         "How many pages of 4096 bytes it has room for, 1 to 16384",
-        slots,
-    ))?
-    .arg(argument(
+        ValueParser::unsigned(1, u64::from(MAX_SLOTS)),
+    )?;
+    let format = with_argument(
         alloc,
+        format,
         "HEIGHT",
         "How many levels the lists in it have, 1 to 8",
-        height,
-    ))?
-    .arg(argument(alloc, "DRAW", "How levels and places are drawn", draws()))?
-    .arg(argument(
+        ValueParser::unsigned(1, u64::from(MAX_HEIGHT)),
+    )?;
+    let format = with_argument(
         alloc,
+        format,
+        "DRAW",
+        "How levels and places are drawn",
+        draws(),
+    )?;
+    with_argument(
+        alloc,
+        format,
         "SEED",
         "What they are drawn from, 64 hexadecimal digits",
         ValueParser::string(),
-    ))
+    )
 }
 
 /// The word `big`.
 fn big_word<'a>(alloc: Global) -> Result<Command<'a>, AllocError>
     ensures { IfOk result (IsWord big_word) }
 {
-    let number = ValueParser::unsigned(0, u64::from(u32::MAX));
-    let count = ValueParser::unsigned(1, u64::from(MAX_COMMANDS));
-    without_help(
+    let big = without_help(
         alloc,
         "big",
         "Carries out generated commands, and prints what came of them.",
         "It prints four lines at the end: `ok N` and `no N`, how many commands were carried out and how many\n\
          were refused, `space USED SLOTS`, and `digest HEX`, the SHA-256 of the image.",
-    )
-    .arg(argument(
+    );
+    let big = with_argument(
         alloc,
+        big,
         "NUMBER",
         "Which commands, 0 to 4294967295: a number has always the same ones",
-        number,
-    ))?
-    .arg(argument(alloc, "COUNT", "How many of them, 1 to 1000000", count))
+        ValueParser::unsigned(0, u64::from(u32::MAX)),
+    )?;
+    with_argument(
+        alloc,
+        big,
+        "COUNT",
+        "How many of them, 1 to 1000000",
+        ValueParser::unsigned(1, u64::from(MAX_COMMANDS)),
+    )
 }
 
 /// The command of a word.
@@ -176,15 +202,21 @@ fn without_words<'a>(alloc: Global) -> Command<'a>
     .subcommand_required(true)
 }
 
+/// The command line with one word more, behind the others.
+fn with_word<'a>(alloc: Global, line: Command<'a>, word: Word) -> Result<Command<'a>, AllocError>
+    ensures { IfOk result (AddsWord word line.entry) }
+{
+    line.subcommand(word_command(alloc, word)?)
+}
+
 /// The command line.
 pub fn command<'a>(alloc: Global) -> Result<Command<'a>, AllocError>
     ensures { IfOk result (λ line. IsLine (app_of line)) }
 {
-    without_words(alloc)
-        .subcommand(word_command(alloc, Word::Format)?)?
-        .subcommand(word_command(alloc, Word::Run)?)?
-        .subcommand(word_command(alloc, Word::Check)?)?
-        .subcommand(word_command(alloc, Word::Scrub)?)?
-        .subcommand(word_command(alloc, Word::Wipe)?)?
-        .subcommand(word_command(alloc, Word::Big)?)
+    let line = with_word(alloc, without_words(alloc), Word::Format)?;
+    let line = with_word(alloc, line, Word::Run)?;
+    let line = with_word(alloc, line, Word::Check)?;
+    let line = with_word(alloc, line, Word::Scrub)?;
+    let line = with_word(alloc, line, Word::Wipe)?;
+    with_word(alloc, line, Word::Big)
 }
