@@ -1,8 +1,6 @@
-//! The tests, a module for each kind of what is tested, and pages and pairs that count their calls.
+//! The tests, a module for each kind of what is tested, and pairs that count their calls.
 
-mod counted_pages;
 mod counted_pairs;
-mod directories;
 mod files;
 mod journals;
 mod layouts;

@@ -4,6 +4,7 @@ mod crashes;
 mod generations;
 mod images;
 mod outside;
+mod reads;
 mod scripts;
 mod scrubs;
 mod support;

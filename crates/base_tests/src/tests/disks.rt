@@ -6,90 +6,81 @@ ghost use Rattle.disk_model.specs.FileDisk.{file_state};
 use disk_model::{Disk, FailingDisk, FileDisk, MemDisk, StopChoice};
 use std::alloc::Global;
 use std::fs::{self, File};
-use std::test::Fail;
+use std::process::Abort;
 use store_base::DiskFault;
 
-// Two bytes are durable, and then two are pending, one of which was written twice.
-fn pending(alloc: Global) -> Result<MemDisk, Fail> {
-    let mut disk = MemDisk::new(alloc, b"abcdefgh", 200)?;
-    disk.write_at(2, b"XY")?;
-    disk.sync()?;
-    disk.write_at(4, b"12")?;
-    disk.write_at(5, b"Z")?;
-    Ok(disk)
+/// Two bytes are durable, and then two are pending, one of which was written twice.
+fn pending(rt: &impl Abort, alloc: Global) -> MemDisk {
+    let mut disk = MemDisk::new(alloc, b"abcdefgh", 200).expect(rt, "memory");
+    disk.write_at(2, b"XY").expect(rt, "a write");
+    disk.sync().expect(rt, "a sync");
+    disk.write_at(4, b"12").expect(rt, "a write");
+    disk.write_at(5, b"Z").expect(rt, "a write");
+    disk
 }
 
-// Whether the disk has this image, with so many writes and syncs made.
+/// Whether the disk has this image, with so many writes and syncs made.
 fn stands_so(disk: &MemDisk, image: &[u8], calls: [u64; 2]) -> bool {
     disk.bytes() == image && [disk.write_count(), disk.sync_count()] == calls
 }
 
-// Whether a crash with this choice leaves this image durably, with three writes and a sync made.
-fn leaves(alloc: Global, choice: StopChoice, image: &[u8]) -> Result<bool, Fail> {
-    let disk = pending(alloc)?.stopped(choice);
-    let is_left = stands_so(&disk, image, [3, 1]);
-    let again = disk.stopped(StopChoice::Fill(0));
-    let is_kept = again.bytes() == image;
-    Ok(is_left && is_kept)
-}
+/// What a crash may choose, and the image that it then leaves.
+static CRASHES: [(StopChoice, &[u8; 8]); 3] = [
+    (StopChoice::Old, b"abXYefgh"),
+    (StopChoice::New, b"abXY1Zgh"),
+    (StopChoice::Fill(b'*'), b"abXY**gh"),
+];
 
 #[test]
-fn a_crash_leaves_these_images(rt: HostRuntime) -> Result<(), Fail> {
-    assert_eq!(rt; pending(rt.alloc())?.bytes(), b"abXY1Zgh".as_slice());
-    for (choice, image) in [
-        (StopChoice::Old, b"abXYefgh"),
-        (StopChoice::New, b"abXY1Zgh"),
-        (StopChoice::Fill(b'*'), b"abXY**gh"),
-    ] {
-        let holds = leaves(rt.alloc(), choice, image)?;
-        assert!(rt; holds, "{choice:?}");
+fn a_crash_leaves_these_images(rt: HostRuntime) {
+    for (choice, image) in &CRASHES {
+        let disk = pending(&rt, rt.alloc()).stopped(*choice);
+        assert!(rt; stands_so(&disk, *image, [3, 1]), "{choice:?}");
+        let again = disk.stopped(StopChoice::Fill(0));
+        assert!(rt; again.bytes() == image.as_slice(), "{choice:?}");
     }
-    Ok(())
 }
 
-// Whether a write of three bytes and then a sync succeed so with this room, and again the write after a crash, which
-// makes the room whole again.
-fn ends_so(alloc: Global, room: usize, written: bool, synced: bool) -> Result<bool, Fail> {
-    let mut disk = MemDisk::new(alloc, b"abcd", room)?;
-    let done = [disk.write_at(1, b"XYZ").is_ok(), disk.sync().is_ok()];
-    let image = if written && synced { b"aXYZ" } else { b"abcd" };
-    let mut left = disk.stopped(StopChoice::Old);
-    let is_left = stands_so(&left, image, [1, 1]);
-    let again = left.write_at(1, b"XYZ").is_ok();
-    Ok(done == [written, synced] && is_left && again == written)
-}
+/// Rooms of a record, and whether a write of three bytes, which takes 19, and then a sync, which takes 16, succeed.
+static ROOMS: [(usize, bool, bool); 5] = [
+    (35, true, true),
+    (34, true, false),
+    (19, true, false),
+    (18, false, true),
+    (15, false, false),
+];
 
 #[test]
-fn a_record_ends_exactly(rt: HostRuntime) -> Result<(), Fail> {
-    // A write of three bytes takes 19, a sync 16.
-    for (room, written, synced) in [
-        (35, true, true),
-        (34, true, false),
-        (19, true, false),
-        (18, false, true),
-        (15, false, false),
-    ] {
-        let holds = ends_so(rt.alloc(), room, written, synced)?;
-        assert!(rt; holds, "{room}");
+fn a_record_ends_exactly(rt: HostRuntime) {
+    for (room, written, synced) in &ROOMS {
+        let mut disk = MemDisk::new(rt.alloc(), b"abcd", *room).expect(&rt, "memory");
+        let done = [disk.write_at(1, b"XYZ").is_ok(), disk.sync().is_ok()];
+        assert!(rt; done == [*written, *synced], "{room}");
+        // A crash makes the room whole again.
+        let mut left = disk.stopped(StopChoice::Old);
+        let image = if *written && *synced {
+            b"aXYZ"
+        } else {
+            b"abcd"
+        };
+        assert!(rt; stands_so(&left, image, [1, 1]), "{room}");
+        assert!(rt; left.write_at(1, b"XYZ").is_ok() == *written, "{room}");
     }
-    Ok(())
 }
 
 // The largest image, of 16,384 slots.
 #[test]
-fn the_largest_image_has_room(rt: HostRuntime) -> Result<(), Fail> {
+fn the_largest_image_has_room(rt: HostRuntime) {
     const LARGEST: u64 = 134_246_400;
-    let image = vec![in rt.alloc(); 7; LARGEST as usize]?;
-    let mut disk = MemDisk::new(rt.alloc(), &image, 1_048_576)?;
-    assert_eq!(rt; disk.len(), LARGEST);
-    disk.write_at(LARGEST - 1, b"Z")?;
-    disk.sync()?;
-    let disk = disk.stopped(StopChoice::Old);
-    assert!(rt; disk.bytes().starts_with(&[7]) && disk.bytes().ends_with(&[7, b'Z']));
-    Ok(())
+    let image = vec![in rt.alloc(); 7; LARGEST as usize].expect(&rt, "memory");
+    let mut disk = MemDisk::new(rt.alloc(), &image, 1_048_576).expect(&rt, "memory");
+    disk.write_at(LARGEST - 1, b"Z").expect(&rt, "a write");
+    disk.sync().expect(&rt, "a sync");
+    let left = disk.stopped(StopChoice::Old);
+    assert!(rt; left.bytes().starts_with(&[7]) && left.bytes().ends_with(&[7, b'Z']));
 }
 
-// Whether a write, a sync and a read succeeded, and the disk below.
+/// Whether a write, a sync and a read succeeded, and the disk below.
 fn three_calls<D: Disk>(mut disk: FailingDisk<D>) -> ([bool; 3], D) {
     let mut buffer = [0; 2];
     let write = disk.len() >= 4 && disk.write_at(1, b"XY").is_ok();
@@ -98,8 +89,8 @@ fn three_calls<D: Disk>(mut disk: FailingDisk<D>) -> ([bool; 3], D) {
     ([write, sync, read], disk.into_disk())
 }
 
-// Calls that fail, the first of those that fail with all behind it, which of a write, a sync and a read succeed, and how
-// many bytes are read.
+/// Calls that fail, the first of those that fail with all behind it, which of a write, a sync and a read succeed, and how
+/// many bytes are read.
 static FAULTS: [(&[u64], Option<u64>, [bool; 3], u64); 7] = [
     (&[], None, [true, true, true], 2),
     (&[0], None, [false, true, true], 2),
@@ -110,36 +101,21 @@ static FAULTS: [(&[u64], Option<u64>, [bool; 3], u64); 7] = [
     (&[], Some(0), [false, false, false], 0),
 ];
 
-// Whether a write, a sync and a read succeed so where these calls fail, and reach the disk below only then.
-fn fail_so(
-    alloc: Global,
-    calls: &[u64],
-    from: Option<u64>,
-    succeed: [bool; 3],
-    fetched: u64,
-) -> Result<bool, Fail> {
-    let below = MemDisk::new(alloc, b"abcd", 100)?;
-    let (done, below) = three_calls(FailingDisk::new(below, calls.to_vec(alloc)?, from));
-    let [written, synced, _] = succeed;
-    let counts = [below.fetched(), below.write_count(), below.sync_count()];
-    let image = if written { b"aXYd" } else { b"abcd" };
-    Ok(
-        done == succeed
-            && counts == [fetched, u64::from(written), u64::from(synced)]
-            && below.bytes() == image.as_slice(),
-    )
-}
-
 #[test]
-fn each_call_fails_in_turn(rt: HostRuntime) -> Result<(), Fail> {
+fn each_call_fails_in_turn(rt: HostRuntime) {
     for (at, (calls, from, succeed, fetched)) in FAULTS.iter().enumerate() {
-        let holds = fail_so(rt.alloc(), calls, *from, *succeed, *fetched)?;
-        assert!(rt; holds, "row {at}");
+        let below = MemDisk::new(rt.alloc(), b"abcd", 100).expect(&rt, "memory");
+        let calls = calls.to_vec(rt.alloc()).expect(&rt, "memory");
+        let (done, below) = three_calls(FailingDisk::new(below, calls, *from));
+        assert!(rt; done == *succeed && below.fetched() == *fetched, "row {at}");
+        let [written, synced, _] = *succeed;
+        let image = if written { b"aXYd" } else { b"abcd" };
+        let counts = [u64::from(written), u64::from(synced)];
+        assert!(rt; stands_so(&below, image, counts), "row {at}");
     }
-    Ok(())
 }
 
-// What stands in bytes 2 to 5 of a disk of eight, once bytes 3 and 4 are written.
+/// What stands in bytes 2 to 5 of a disk of eight, once bytes 3 and 4 are written.
 fn written_and_read(disk: &mut FileDisk) -> Result<[u8; 4], DiskFault>
     requires { 6 ≤ (file_state disk.old).size }
 {
@@ -150,43 +126,38 @@ fn written_and_read(disk: &mut FileDisk) -> Result<[u8; 4], DiskFault>
     Ok(buffer)
 }
 
-// The same, of a file that has eight bytes.
-fn written_in_file(rt: &HostRuntime, path: &str) -> Result<[u8; 4], Fail> {
-    let file = File::options().read(true).write(true).open(rt, path)?;
-    let mut disk = FileDisk::new(file, 8);
-    let read = written_and_read(&mut disk);
-    Ok(read?)
-}
-
-// Whether a file of eight bytes, said to have nine, gives no byte past its end.
-fn ends_early(rt: &HostRuntime, path: &str) -> Result<bool, Fail> {
-    let file = File::options().read(true).open(rt, path)?;
-    Ok(FileDisk::new(file, 9).read_at(5, &mut [0; 4]).is_err())
-}
-
 #[test]
-fn a_file_is_a_disk(rt: HostRuntime) -> Result<(), Fail> {
+fn a_file_is_a_disk(rt: HostRuntime) {
     let path = "disk_model_test.img";
-    fs::write(&rt, path, b"abcdefgh")?;
-    assert_eq!(rt; written_in_file(&rt, path)?, *b"cXYf");
-    assert!(rt; ends_early(&rt, path)?);
-    fs::remove_file(&rt, path)?;
-    Ok(())
+    fs::write(&rt, path, b"abcdefgh").expect(&rt, "a file");
+    let file = File::options()
+        .read(true)
+        .write(true)
+        .open(&rt, path)
+        .expect(&rt, "a file");
+    let read = written_and_read(&mut FileDisk::new(file, 8));
+    assert!(rt; read == Ok(*b"cXYf"));
+    // The file has eight bytes, and not nine.
+    let file = File::options()
+        .read(true)
+        .open(&rt, path)
+        .expect(&rt, "a file");
+    let past = FileDisk::new(file, 9).read_at(5, &mut [0; 4]);
+    assert!(rt; past.is_err());
+    fs::remove_file(&rt, path).expect(&rt, "a file");
 }
 
 // Byte 0 is a gate, byte 1 a journal, byte 2 a value. With a sync between journal and gate a crash leaves the
 // old value, 5, or the new one, 9; without it, the gate open on what was never written.
 #[test]
-fn one_sync_too_few_shows(rt: HostRuntime) -> Result<(), Fail> {
-    let alloc = rt.alloc();
-    for (synced, image) in [(true, [1, 9, 5]), (false, [1, 1, 5])] {
-        let mut disk = MemDisk::new(alloc, &[0, 3, 5], 100)?;
-        disk.write_at(1, &[9])?;
-        if synced {
-            disk.sync()?;
-        }
-        disk.write_at(0, &[1])?;
-        assert_eq!(rt; disk.stopped(StopChoice::Fill(1)).bytes(), image.as_slice());
+fn one_sync_too_few_shows(rt: HostRuntime) {
+    for synced in [true, false] {
+        let mut disk = MemDisk::new(rt.alloc(), &[0, 3, 5], 100).expect(&rt, "memory");
+        disk.write_at(1, &[9]).expect(&rt, "a write");
+        let between = !synced || disk.sync().is_ok();
+        disk.write_at(0, &[1]).expect(&rt, "a write");
+        let journal = if synced { 9 } else { 1 };
+        let left = disk.stopped(StopChoice::Fill(1));
+        assert!(rt; between && left.bytes() == [1, journal, 5].as_slice());
     }
-    Ok(())
 }

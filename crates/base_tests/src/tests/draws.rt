@@ -4,7 +4,6 @@ use crate::samples::{key, led, start_label};
 use path_keys::Path;
 use seeded_draw::{AnyDraw, Draw, RulerDraw, level_of_digest, start_of_digest};
 use std::process::Abort;
-use std::test::Fail;
 use store_base::{DrawKind, Label, Params};
 
 fn starts_at<D: Draw>(rt: &impl Abort, draw: &D, label: &Label, start: u32) {
@@ -12,7 +11,7 @@ fn starts_at<D: Draw>(rt: &impl Abort, draw: &D, label: &Label, start: u32) {
 }
 
 #[test]
-fn ruler_starts(rt: HostRuntime) -> Result<(), Fail> {
+fn ruler_starts(rt: HostRuntime) {
     for (slots, label, start) in [
         (4, led(key(b"UU")), 3),
         (4, led(key(b"Ua")), 3),
@@ -25,21 +24,29 @@ fn ruler_starts(rt: HostRuntime) -> Result<(), Fail> {
         (8, led(key(b"UE")), 3),
         (8, led(key(b"Ud")), 2),
     ] {
-        let params = Params::new(slots, 2, DrawKind::Ruler, [0; 32])?;
+        let params = Params::new(slots, 2, DrawKind::Ruler, [0; 32]).expect(&rt, "parameters");
         starts_at(&rt, &RulerDraw::new(&params), &label, start);
     }
-    Ok(())
 }
 
 #[test]
-fn ruler_levels(rt: HostRuntime) -> Result<(), Fail> {
-    let low = RulerDraw::new(&Params::new(4, 2, DrawKind::Ruler, [0; 32])?);
-    let high = RulerDraw::new(&Params::new(4, 8, DrawKind::Ruler, [0; 32])?);
-    assert_eq!(rt; high.level(&key(b"UU")), 2);
-    assert_eq!(rt; low.level(&key(b"UU")), 1);
-    assert_eq!(rt; high.level(&Path::parse(b"/UU")?.key(1)), 0);
-    assert_eq!(rt; high.level(&key(b"ab")), 0);
-    Ok(())
+fn ruler_levels(rt: HostRuntime) {
+    let low = RulerDraw::new(&Params::new(4, 2, DrawKind::Ruler, [0; 32]).expect(
+        &rt,
+        "parameters",
+    ));
+    let high = RulerDraw::new(&Params::new(4, 8, DrawKind::Ruler, [0; 32]).expect(
+        &rt,
+        "parameters",
+    ));
+    let block = Path::parse(b"/UU").expect(&rt, "a path").key(1);
+    let levels = [
+        low.level(&key(b"UU")),
+        high.level(&key(b"UU")),
+        high.level(&block),
+        high.level(&key(b"ab")),
+    ];
+    assert_eq!(rt; levels, [1, 2, 0, 0]);
 }
 
 #[test]
@@ -70,10 +77,19 @@ fn digests(rt: HostRuntime) {
 }
 
 #[test]
-fn sha256_with_a_seed_of_zeros(rt: HostRuntime) -> Result<(), Fail> {
-    let small = AnyDraw::new(&Params::new(4, 8, DrawKind::Sha256, [0; 32])?);
-    let large = AnyDraw::new(&Params::new(16384, 2, DrawKind::Sha256, [0; 32])?);
-    let ruler = AnyDraw::new(&Params::new(4, 2, DrawKind::Ruler, [7; 32])?);
+fn sha256_with_a_seed_of_zeros(rt: HostRuntime) {
+    let small = AnyDraw::new(&Params::new(4, 8, DrawKind::Sha256, [0; 32]).expect(
+        &rt,
+        "parameters",
+    ));
+    let large = AnyDraw::new(&Params::new(16384, 2, DrawKind::Sha256, [0; 32]).expect(
+        &rt,
+        "parameters",
+    ));
+    let ruler = AnyDraw::new(&Params::new(4, 2, DrawKind::Ruler, [7; 32]).expect(
+        &rt,
+        "parameters",
+    ));
     for (draw, label, start) in [
         (&small, start_label(1, 0), 1),
         (&large, start_label(1, 0), 14921),
@@ -85,6 +101,4 @@ fn sha256_with_a_seed_of_zeros(rt: HostRuntime) -> Result<(), Fail> {
     }
     let levels = [small.level(&key(b"a")), large.level(&key(b"f"))];
     assert_eq!(rt; levels, [0, 1]);
-    assert_eq!(rt; (small.slots(), small.height()), (4, 8));
-    Ok(())
 }

@@ -5,81 +5,79 @@ use script_lines::{
     Command, Generator, Line, LineFault, LineReader, MemSink, MemSource, Reply, Sink, SinkFault,
     Source, SourceFault, StdSink, StdSource, parse_command, parse_number, write_reply,
 };
-use std::alloc::{AllocError, Global};
+use std::alloc::Global;
 use std::io;
 use std::io::{Read, Write};
 use std::process::Abort;
-use std::test::Fail;
 use store_base::{Bytes, Entries, Refusal};
 
-/// What a reader answers, one line each, up to the end or a fault.
-fn told<R: Source>(alloc: Global, reader: &mut LineReader<R>) -> Result<Vec<u8>, AllocError> {
-    let mut log = Vec::new(alloc);
-    for _ in 0..20 {
-        if !reader.is_live() {
-            break;
-        }
-        match reader.next_line() {
-            Ok(Line::Text) => log.extend_from_slice(reader.text())?,
-            Ok(Line::Long) => log.extend_from_slice(b"LONG")?,
-            Ok(Line::End) => {
-                log.extend_from_slice(b"END")?;
-                break;
-            }
-            Err(LineFault::Source) => log.extend_from_slice(b"FAULT")?,
-            Err(LineFault::TooLong) => log.extend_from_slice(b"TOO LONG")?,
-        }
-        log.extend_from_slice(b";")?;
+/// Whether this is the reader's next answer: a line, or words in capitals for another one.
+fn tells<R: Source>(reader: &mut LineReader<R>, want: &[u8]) -> bool {
+    if !reader.is_live() {
+        return want == b"NONE".as_slice();
     }
-    Ok(log)
+    match reader.next_line() {
+        Ok(Line::Text) => reader.text() == want,
+        Ok(Line::Long) => want == b"LONG".as_slice(),
+        Ok(Line::End) => want == b"END".as_slice(),
+        Err(LineFault::Source) => want == b"FAULT".as_slice(),
+        Err(LineFault::TooLong) => want == b"TOO LONG".as_slice(),
+    }
 }
 
+/// Looks whether these are the reader's next answers.
+fn tells_all<R: Source>(rt: &impl Abort, reader: &mut LineReader<R>, answers: &[&str]) {
+    for answer in answers {
+        assert!(rt; tells(reader, answer.as_bytes()), "{answer}");
+    }
+}
+
+/// A reader of the script, whose source gives it in pieces, and fails at one call.
 fn reader(
     rt: &impl Abort,
     alloc: Global,
     script: &[u8],
     pieces: &[usize],
-    failing: &[u64],
+    failing: u64,
     limit: u64,
 ) -> LineReader<MemSource> {
-    let bytes = Vec::from_slice(alloc, script).expect(rt, "memory");
-    let pieces = Vec::from_slice(alloc, pieces).expect(rt, "memory");
-    let failing = Vec::from_slice(alloc, failing).expect(rt, "memory");
-    match LineReader::with_limit(alloc, MemSource::new(bytes, pieces, failing), limit) {
-        Ok(reader) => reader,
-        Err(_) => panic!(rt; "memory"),
+    let bytes = script.to_vec(alloc).expect(rt, "memory");
+    let pieces = pieces.to_vec(alloc).expect(rt, "memory");
+    let failing = vec![in alloc; failing].expect(rt, "memory");
+    let source = MemSource::new(bytes, pieces, failing);
+    LineReader::with_limit(alloc, source, limit)
+        .ok()
+        .expect(rt, "memory")
+}
+
+/// A call at which a source fails, the most bytes of a script, and what a reader of it then answers.
+static SCRIPTS: [(u64, u64, &[&str]); 3] = [
+    (9, 100, &["make /a", "list /", "space", "END"]),
+    (1, 100, &["make /a", "FAULT", "NONE"]),
+    (9, 22, &["make /a", "list /", "TOO LONG", "NONE"]),
+];
+
+#[test]
+fn a_script_is_read_to_its_end_a_fault_or_its_limit(rt: HostRuntime) {
+    let script = b"\nmake /a\n\n\nlist /\nspace";
+    for (failing, limit, answers) in &SCRIPTS {
+        let mut reader = reader(&rt, rt.alloc(), script, &[10, 1, 3], *failing, *limit);
+        tells_all(&rt, &mut reader, *answers);
     }
 }
 
 #[test]
-fn a_script_is_read_to_its_end_a_fault_or_its_limit(rt: HostRuntime) -> Result<(), Fail> {
-    let alloc = rt.alloc();
-    let script = b"\nmake /a\n\n\nlist /\nspace".as_slice();
-    for (failing, limit, want) in [
-        (9, 100, b"make /a;list /;space;END".as_slice()),
-        (1, 100, b"make /a;FAULT;".as_slice()),
-        (9, 22, b"make /a;list /;TOO LONG;".as_slice()),
-    ] {
-        let mut reader = reader(&rt, alloc, script, &[10, 1, 3], &[failing], limit);
-        assert_eq!(rt; told(alloc, &mut reader)?.as_slice(), want);
+fn many_lines_and_long_ones_are_read(rt: HostRuntime) {
+    let mut script = vec![in rt.alloc(); b'x'; 203_000].expect(&rt, "memory");
+    for line in 0..1500 {
+        script[200_000 + 2 * line] = b'\n';
     }
-    Ok(())
-}
-
-#[test]
-fn many_lines_and_long_ones_are_read(rt: HostRuntime) -> Result<(), Fail> {
-    let alloc = rt.alloc();
-    let mut script = vec![in alloc; b'x'; 200_000]?;
+    let mut reader = reader(&rt, rt.alloc(), &script, &[], u64::MAX, 1_000_000);
+    assert!(rt; tells(&mut reader, b"LONG"));
     for _ in 0..1500 {
-        script.extend_from_slice(b"\na")?;
+        assert!(rt; tells(&mut reader, b"x"));
     }
-    let mut reader = reader(&rt, alloc, script.as_slice(), &[], &[], 1_000_000);
-    assert!(rt; reader.is_live() && matches!(reader.next_line(), Ok(Line::Long)));
-    for _ in 0..1500 {
-        assert!(rt; reader.is_live() && matches!(reader.next_line(), Ok(Line::Text)));
-    }
-    assert!(rt; reader.is_live() && matches!(reader.next_line(), Ok(Line::End)));
-    Ok(())
+    assert!(rt; tells(&mut reader, b"END"));
 }
 
 /// A reader whose first read is interrupted, whose second gives a line, and whose others fail; and a writer
@@ -144,59 +142,53 @@ impl Write for Uneven {
 }
 
 #[test]
-fn readers_and_writers_of_std_are_adapted(rt: HostRuntime) -> Result<(), Fail> {
-    let alloc = rt.alloc();
-    let Ok(mut lines) = LineReader::new(alloc, StdSource::new(b"a\nb".as_slice())) else {
-        panic!(rt; "memory");
-    };
-    assert_eq!(rt; told(alloc, &mut lines)?.as_slice(), b"a;b;END".as_slice());
+fn readers_of_std_are_adapted(rt: HostRuntime) {
+    let source = StdSource::new(b"a\nb".as_slice());
+    let mut lines = LineReader::new(rt.alloc(), source)
+        .ok()
+        .expect(&rt, "memory");
+    tells_all(&rt, &mut lines, &["a", "b", "END"]);
     assert!(rt; lines.into_source().into_inner().is_empty());
-    let Ok(mut lines) = LineReader::new(alloc, StdSource::new(Uneven::new())) else {
-        panic!(rt; "memory");
-    };
-    assert_eq!(rt; told(alloc, &mut lines)?.as_slice(), b"a;FAULT;".as_slice());
+    let source = StdSource::new(Uneven::new());
+    let mut lines = LineReader::new(rt.alloc(), source)
+        .ok()
+        .expect(&rt, "memory");
+    tells_all(&rt, &mut lines, &["a", "FAULT", "NONE"]);
     assert_eq!(rt; lines.into_source().into_inner().calls, 3);
-    let mut sink = StdSink::new(Uneven::new());
-    assert!(rt; sink.put(b"abc").is_ok());
-    assert_eq!(rt; sink.put(b"de"), Err(SinkFault));
-    let writer = sink.into_inner();
-    assert_eq!(rt; (writer.written, writer.flushed), (*b"abcd", 3));
-    Ok(())
 }
 
 #[test]
-fn faults_have_their_texts(rt: HostRuntime) -> Result<(), Fail> {
+fn writers_of_std_are_adapted(rt: HostRuntime) {
+    let mut sink = StdSink::new(Uneven::new());
+    assert!(rt; sink.put(b"abc").is_ok() && sink.put(b"de").is_err());
+    let writer = sink.into_inner();
+    assert!(rt; writer.written == *b"abcd" && writer.flushed == 3);
+}
+
+#[test]
+fn faults_have_their_texts(rt: HostRuntime) {
     let texts = format!(in rt.alloc();
         "{SourceFault}, {SinkFault}, {}, {}",
         LineFault::Source,
         LineFault::TooLong
-    )?;
-    let want =
-        "the source failed, the sink failed, the script cannot be read, the script is too long";
-    assert_eq!(rt; texts.as_str(), want);
-    Ok(())
+    );
+    assert_eq!(rt;
+        texts.expect(&rt, "memory").as_str(),
+        "the source failed, the sink failed, the script cannot be read, the script is too long"
+    );
 }
 
-/// What a sink with room for 30,000 bytes holds once the replies are written, in so many puts.
-fn written(rt: &impl Abort, alloc: Global, replies: &[Reply], puts: u64) -> Vec<u8> {
-    let failing = vec![in alloc; puts; 1].expect(rt, "memory");
-    let mut sink = MemSink::new(alloc, 30_000, failing).expect(rt, "memory");
-    for reply in replies {
-        assert!(rt; write_reply(&mut sink, reply).is_ok());
-    }
-    assert!(rt;
-        write_reply(&mut sink, &Reply::Ok).is_err(),
-        "a reply took fewer puts"
-    );
-    Vec::from_slice(alloc, sink.written()).expect(rt, "memory")
+/// A sink with room for so many bytes, which fails at one put.
+fn sink(rt: &impl Abort, alloc: Global, room: usize, failing: u64) -> MemSink {
+    let failing = vec![in alloc; failing].expect(rt, "memory");
+    MemSink::new(alloc, room, failing).expect(rt, "memory")
 }
 
 #[test]
-fn replies_have_their_text(rt: HostRuntime) -> Result<(), Fail> {
-    let alloc = rt.alloc();
-    let mut entries = Entries::new(alloc);
-    entries.push(b"a", None)?;
-    entries.push(b"b", Some(1_048_576))?;
+fn replies_have_their_text(rt: HostRuntime) {
+    let mut entries = Entries::new(rt.alloc());
+    entries.push(b"a", None).expect(&rt, "memory");
+    entries.push(b"b", Some(1_048_576)).expect(&rt, "memory");
     let replies = [
         Reply::Ok,
         Reply::Bytes(Bytes::new(&[1, 0xFF, 0x0A])),
@@ -213,61 +205,70 @@ fn replies_have_their_text(rt: HostRuntime) -> Result<(), Fail> {
         }),
         Reply::Digest([0xAB; 32]),
     ];
-    let mut want = Vec::from_slice(alloc, b"ok\nok 01ff0a\nok -\nd a\nf b 1048576\nend\n")?;
-    want.extend_from_slice(b"space 2 16384\nno notempty\nno full 34 33\ndigest ")?;
-    for _ in 0..32 {
-        want.extend_from_slice(b"ab")?;
+    let mut sink = sink(&rt, rt.alloc(), 30_000, 8);
+    for reply in &replies {
+        assert!(rt; write_reply(&mut sink, reply).is_ok());
     }
-    want.extend_from_slice(b"\n")?;
-    let texts = written(&rt, alloc, &replies, 8);
-    assert_eq!(rt; texts.as_slice(), want.as_slice());
-    Ok(())
+    assert!(rt; write_reply(&mut sink, &replies[0]).is_err());
+    let text =
+        b"ok\nok 01ff0a\nok -\nd a\nf b 1048576\nend\nspace 2 16384\nno notempty\nno full 34 33\n\
+        digest abababababababababababababababababababababababababababababababab\n";
+    assert!(rt; sink.written() == text.as_slice());
+}
+
+/// A listing of 200 children, which has lines of 134 bytes.
+fn long_listing(rt: &impl Abort, alloc: Global) -> Reply {
+    let mut entries = Entries::new(alloc);
+    for _ in 0..200 {
+        entries
+            .push(&[b'n'; 120], Some(4_294_967_295))
+            .expect(rt, "memory");
+    }
+    Reply::Listing(entries)
 }
 
 #[test]
-fn a_long_listing_takes_several_puts(rt: HostRuntime) -> Result<(), Fail> {
-    let alloc = rt.alloc();
-    let mut entries = Entries::new(alloc);
-    for _ in 0..200 {
-        entries.push(&[b'n'; 120], Some(4_294_967_295))?;
-    }
-    let listing = [Reply::Listing(entries)];
-    let text = written(&rt, alloc, &listing, 4);
-    assert_eq!(rt; text.len(), 200 * 134 + 4);
-    let mut failing = MemSink::new(alloc, 30_000, vec![in alloc; 1]?)?;
-    assert_eq!(rt; write_reply(&mut failing, &listing[0]), Err(SinkFault));
-    assert!(rt; failing.written().len() % 134 == 0 && !failing.written().is_empty());
-    let mut full = MemSink::new(alloc, 2, Vec::new(alloc))?;
-    assert_eq!(rt; write_reply(&mut full, &Reply::Ok), Err(SinkFault));
-    assert!(rt; full.written().is_empty());
-    Ok(())
+fn a_long_listing_takes_several_puts(rt: HostRuntime) {
+    let listing = long_listing(&rt, rt.alloc());
+    let mut four = sink(&rt, rt.alloc(), 30_000, 4);
+    assert!(rt; write_reply(&mut four, &listing).is_ok());
+    assert!(rt; four.put(b"x").is_err() && four.written().len() == 200 * 134 + 4);
+    let mut one = sink(&rt, rt.alloc(), 30_000, 1);
+    assert!(rt; write_reply(&mut one, &listing).is_err());
+    assert!(rt; one.written().len() % 134 == 0 && !one.written().is_empty());
+}
+
+#[test]
+fn a_reply_has_no_room(rt: HostRuntime) {
+    let mut full = sink(&rt, rt.alloc(), 2, u64::MAX);
+    assert!(rt; write_reply(&mut full, &Reply::Ok).is_err() && full.written().is_empty());
 }
 
 // The longest listing: 163,840 children, ten to a page and a page to each of 16,384 slots, in lines of 134 bytes.
 #[test]
-fn a_sink_has_room_for_the_longest_reply(rt: HostRuntime) -> Result<(), Fail> {
-    let alloc = rt.alloc();
-    let reply = vec![in alloc; b'x'; 163_840 * 134 + 4]?;
-    let mut sink = MemSink::new(alloc, reply.len(), Vec::new(alloc))?;
-    assert_eq!(rt; sink.put(&reply), Ok(()));
-    assert_eq!(rt; sink.put(b"x"), Err(SinkFault));
-    assert_eq!(rt; sink.written().len(), reply.len());
-    Ok(())
+fn a_sink_has_room_for_the_longest_reply(rt: HostRuntime) {
+    let reply = vec![in rt.alloc(); b'x'; 163_840 * 134 + 4].expect(&rt, "memory");
+    let mut sink = sink(&rt, rt.alloc(), reply.len(), u64::MAX);
+    assert!(rt; sink.put(&reply).is_ok() && sink.put(b"x").is_err());
+    assert!(rt; sink.written().len() == reply.len());
 }
+
+/// Lines that are commands.
+static COMMANDS: [&str; 5] = [
+    "write /a/b 4294967295 0aFF",
+    "rename /a /b",
+    "cut / 0",
+    "list /",
+    "space",
+];
 
 #[test]
 fn commands_and_numbers_are_read(rt: HostRuntime) {
-    for line in [
-        b"write /a/b 4294967295 0aFF".as_slice(),
-        b"rename /a /b",
-        b"cut / 0",
-        b"list /",
-        b"space",
-    ] {
-        assert!(rt; parse_command(line).is_ok());
+    for line in &COMMANDS {
+        assert!(rt; parse_command(line.as_bytes()).is_ok(), "{line}");
     }
     assert!(rt; matches!(parse_command(b"make a"), Err(Refusal::Syntax)));
-    assert_eq!(rt; parse_number(b"4294967295"), Some(4_294_967_295));
+    assert!(rt; parse_number(b"4294967295") == Some(4_294_967_295));
 }
 
 /// Whether the field of a path begins with these bytes.

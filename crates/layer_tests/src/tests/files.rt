@@ -2,10 +2,11 @@
 //! a block that the bytes fill is put, another one is read and put, and the first pair is put where the length changes.
 
 use super::counted_pairs::CountedPairs;
+use super::moves::path;
 use file_blocks::{cut, read_at, write_at};
 use path_keys::Path;
-use std::test::Fail;
-use store_base::{Answer, Bytes, Refusal};
+use std::process::Abort;
+use store_base::{Answer, Bytes, Fault, Refusal};
 use tree_pairs::{Kind, kind_of};
 
 /// A call on a file, and its answer.
@@ -43,12 +44,14 @@ fn bytes_of(bytes: &[u8]) -> Bytes {
 }
 
 /// Whether the call on the file at the path is answered so.
-fn is_answered(list: &mut CountedPairs, path: &Path, call: &Call) -> Result<bool, Fail> {
+fn is_answered(list: &mut CountedPairs, path: &Path, call: &Call) -> Result<bool, Fault> {
     match call {
         Call::Write(at, bytes, answer) => {
-            Ok(write_at(list, path, *at, &bytes_of(bytes))? == *answer)
+            Ok(write_at(list, path, *at, &bytes_of(*bytes))? == *answer)
         }
-        Call::Read(at, len, bytes) => { Ok(read_at(list, path, *at, *len)? == Ok(bytes_of(bytes))) }
+        Call::Read(at, len, bytes) => {
+            Ok(read_at(list, path, *at, *len)? == Ok(bytes_of(*bytes)))
+        }
         Call::Unread(at, len, refusal) => { Ok(read_at(list, path, *at, *len)? == Err(*refusal)) }
         Call::Cut(len, answer) => Ok(cut(list, path, *len)? == *answer),
         Call::Stands(kind) => Ok(kind_of(list, path)? == *kind),
@@ -56,16 +59,17 @@ fn is_answered(list: &mut CountedPairs, path: &Path, call: &Call) -> Result<bool
 }
 
 #[test]
-fn small_files(rt: HostRuntime) -> Result<(), Fail> {
+fn small_files(rt: HostRuntime) {
     let mut list = CountedPairs::new(rt.alloc());
-    let file = Path::parse(b"/f")?;
+    let file = path(&rt, "/f");
     for (at, call) in CALLS.iter().enumerate() {
-        let holds = is_answered(&mut list, &file, call)?;
-        assert!(rt; holds, "call {at}");
+        assert!(rt;
+            is_answered(&mut list, &file, call) == Ok(true),
+            "call {at}"
+        );
     }
     assert_eq!(rt; list.len(), 2);
-    assert_eq!(rt; cut(&mut list, &Path::root(), 0)?, Err(Refusal::Kind));
-    Ok(())
+    assert!(rt; cut(&mut list, &Path::root(), 0) == Ok(Err(Refusal::Kind)));
 }
 
 /// A change of a file.
@@ -97,7 +101,7 @@ static LONGEST: [Counted; 5] = [
 ];
 
 /// Whether the change of the file at the path is answered so, with so many calls.
-fn is_made(list: &mut CountedPairs, path: &Path, row: &Counted) -> Result<bool, Fail> {
+fn is_made(list: &mut CountedPairs, path: &Path, row: &Counted) -> Result<bool, Fault> {
     let (change, answer, calls) = row;
     list.calls();
     let made = match change {
@@ -110,34 +114,31 @@ fn is_made(list: &mut CountedPairs, path: &Path, row: &Counted) -> Result<bool, 
     Ok(made == *answer && list.calls() == *calls)
 }
 
-#[test]
-fn file_of_one_block(rt: HostRuntime) -> Result<(), Fail> {
-    let mut list = CountedPairs::new(rt.alloc());
-    let file = Path::parse(b"/g")?;
-    for (at, row) in ONE_BLOCK.iter().enumerate() {
-        let holds = is_made(&mut list, &file, row)?;
-        assert!(rt; holds, "change {at}");
+/// Looks whether the changes of the file at the path are so.
+fn are_made(rt: &impl Abort, list: &mut CountedPairs, path: &Path, rows: &[Counted]) {
+    for (at, row) in rows.iter().enumerate() {
+        assert!(rt; is_made(list, path, row) == Ok(true), "change {at}");
     }
-    assert_eq!(rt; list.len(), 2);
-    Ok(())
 }
 
 #[test]
-fn longest_file(rt: HostRuntime) -> Result<(), Fail> {
+fn file_of_one_block(rt: HostRuntime) {
     let mut list = CountedPairs::new(rt.alloc());
-    let file = Path::parse(b"/f")?;
+    are_made(&rt, &mut list, &path(&rt, "/g"), &ONE_BLOCK);
+    assert_eq!(rt; list.len(), 2);
+}
+
+#[test]
+fn longest_file(rt: HostRuntime) {
+    let mut list = CountedPairs::new(rt.alloc());
+    let file = path(&rt, "/f");
     for piece in 0..512 {
-        let holds = is_made(
-            &mut list,
-            &file,
-            &(Change::Fill(piece * 2048, 2048), Ok(()), 10),
-        )?;
-        assert!(rt; holds, "piece {piece}");
+        let filled = (Change::Fill(piece * 2048, 2048), Ok(()), 10);
+        assert!(rt;
+            is_made(&mut list, &file, &filled) == Ok(true),
+            "piece {piece}"
+        );
     }
     assert_eq!(rt; list.len(), 4097);
-    for (at, row) in LONGEST.iter().enumerate() {
-        let holds = is_made(&mut list, &file, row)?;
-        assert!(rt; holds, "change {at}");
-    }
-    Ok(())
+    are_made(&rt, &mut list, &file, &LONGEST);
 }

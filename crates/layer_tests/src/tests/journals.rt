@@ -8,8 +8,8 @@ ghost use Rattle.store_model.specs.Parameters.{block_len};
 use disk_model::{Disk, FailingDisk, MemDisk, StopChoice};
 use gate_journal::{Journal, JournalFault, SlotChanges, View};
 use std::alloc::Global;
-use std::test::Fail;
-use store_base::{BLOCK, DiskFault, DrawKind, Fault, Params, ReadSlots, Slot, image_len};
+use std::process::Abort;
+use store_base::{BLOCK, DiskFault, DrawKind, Params, ReadSlots, Slot, image_len};
 
 const SLOTS: u32 = 8;
 
@@ -70,98 +70,80 @@ pub(crate) fn recover<D: Disk>(disk: &mut D, params: &Params) -> Result<(), Disk
 }
 
 /// The first byte of a slot, as the view gives it.
-fn first_of<D: Disk + Drop>(disk: D, params: &Params, at: u32) -> Result<(u8, D), Fault> {
+fn first_of(rt: &impl Abort, disk: MemDisk, params: &Params, at: u32) -> (u8, MemDisk) {
     let mut slot = [0; BLOCK];
-    if !is_long(&disk, params) || at >= SLOTS {
-        return Err(Fault::Disk);
-    }
+    assert!(rt; is_long(&disk, params) && at < SLOTS);
     let mut view = View::new(disk, params);
-    view.get(at, &mut slot)?;
-    Ok((slot[0], view.into_disk()))
+    view.get(at, &mut slot).expect(rt, "a read");
+    (slot[0], view.into_disk())
 }
 
 /// The first byte of each slot.
-fn firsts_of(mut disk: MemDisk, params: &Params) -> Result<([u8; 8], MemDisk), Fault> {
+fn firsts_of(rt: &impl Abort, mut disk: MemDisk, params: &Params) -> ([u8; 8], MemDisk) {
     let mut firsts = [0; 8];
-    for at in 0..SLOTS {
-        let (first, back) = first_of(disk, params, at)?;
-        firsts[at as usize] = first;
+    for (at, byte) in firsts.iter_mut().enumerate() {
+        let (first, back) = first_of(rt, disk, params, at as u32);
+        *byte = first;
         disk = back;
     }
-    Ok((firsts, disk))
+    (firsts, disk)
+}
+
+/// A disk of so many bytes `EE`.
+fn filled(rt: &impl Abort, alloc: Global, len: usize) -> MemDisk {
+    let bytes = vec![in alloc; 0xEE; len].expect(rt, "memory");
+    MemDisk::new(alloc, &bytes, ROOM).expect(rt, "memory")
 }
 
 /// A formatted disk whose odd slots hold the byte 1.
-fn striped(alloc: Global, params: &Params) -> Result<MemDisk, Fail> {
-    let mut disk = MemDisk::new(alloc, &[0xEE; LEN], ROOM)?;
-    Journal::format(&mut disk, params)?;
-    commit(&mut disk, params, &Stripes { count: 4, byte: 1 })?;
-    Ok(disk)
-}
-
-/// What a commit that ends at this call leaves: whether it answered Ok, and the slots before and after recovery.
-fn crashed(
-    alloc: Global,
-    params: &Params,
-    call: u64,
-    choice: StopChoice,
-) -> Result<(bool, [u8; 8], [u8; 8]), Fail> {
-    let below = striped(alloc, params)?;
-    let mut failing = FailingDisk::new(below, Vec::new(alloc), Some(call));
-    let done = commit(&mut failing, params, &Stripes { count: 3, byte: 9 }).is_ok();
-    let (seen, mut disk) = firsts_of(failing.into_disk().stopped(choice), params)?;
-    recover(&mut disk, params)?;
-    let (stands, _) = firsts_of(disk, params)?;
-    Ok((done, seen, stands))
+fn striped(rt: &impl Abort, alloc: Global, params: &Params) -> MemDisk {
+    let mut disk = filled(rt, alloc, LEN);
+    Journal::format(&mut disk, params).expect(rt, "a format");
+    commit(&mut disk, params, &Stripes { count: 4, byte: 1 }).expect(rt, "a commit");
+    disk
 }
 
 /// Whether a commit that ends at this call is seen whole or not at all, and stands so after recovery.
 fn is_whole_or_absent(
+    rt: &impl Abort,
     alloc: Global,
     params: &Params,
     call: u64,
     choice: StopChoice,
-) -> Result<bool, Fail> {
-    let (done, seen, stands) = crashed(alloc, params, call, choice)?;
+) -> bool {
+    let below = striped(rt, alloc, params);
+    let mut failing = FailingDisk::new(below, Vec::new(alloc), Some(call));
+    let done = commit(&mut failing, params, &Stripes { count: 3, byte: 9 }).is_ok();
+    let (seen, mut disk) = firsts_of(rt, failing.into_disk().stopped(choice), params);
+    recover(&mut disk, params).expect(rt, "a recovery");
+    let (stands, _) = firsts_of(rt, disk, params);
     let old = seen == [0, 1, 0, 1, 0, 1, 0, 1];
     let new = seen == [0, 9, 0, 9, 0, 9, 0, 1];
-    Ok((new || old && !done) && stands == seen)
+    (new || old && !done) && stands == seen
 }
 
 #[test]
-fn a_commit_is_whole_or_absent(rt: HostRuntime) -> Result<(), Fail> {
-    let params = Params::new(SLOTS, 2, DrawKind::Ruler, [7; 32])?;
+fn a_commit_is_whole_or_absent(rt: HostRuntime) {
+    let params = Params::new(SLOTS, 2, DrawKind::Ruler, [7; 32]).expect(&rt, "parameters");
     for call in 0..40 {
         for choice in &CHOICES {
-            let holds = is_whole_or_absent(rt.alloc(), &params, call, *choice)?;
+            let holds = is_whole_or_absent(&rt, rt.alloc(), &params, call, *choice);
             assert!(rt; holds, "{call} {choice:?}");
         }
     }
-    Ok(())
 }
 
 #[test]
-fn a_format_says_what_it_met(rt: HostRuntime) -> Result<(), Fail> {
-    let alloc = rt.alloc();
-    let params = Params::new(SLOTS, 2, DrawKind::Ruler, [7; 32])?;
-    let mut disk = MemDisk::new(alloc, &[0xEE; LEN], ROOM)?;
-    let mut short = MemDisk::new(alloc, &[0xEE; BLOCK], ROOM)?;
-    let fresh = Journal::format(&mut disk, &params);
-    let again = Journal::format(&mut disk, &params);
-    let shorter = Journal::format(&mut short, &params);
+fn a_format_says_what_it_met(rt: HostRuntime) {
+    let params = Params::new(SLOTS, 2, DrawKind::Ruler, [7; 32]).expect(&rt, "parameters");
+    let mut disk = filled(&rt, rt.alloc(), LEN);
+    assert!(rt; Journal::format(&mut disk, &params) == Ok(()));
     assert!(rt; disk.bytes().starts_with(b"HSTORE01"));
-    let mut failing = FailingDisk::new(disk, Vec::new(alloc), Some(0));
-    let failed = Journal::format(&mut failing, &params);
-    assert_eq!(rt;
-        [fresh, again, shorter, failed],
-        [
-            Ok(()),
-            Err(JournalFault::AlreadyImage),
-            Err(JournalFault::WrongLength),
-            Err(JournalFault::Disk)
-        ]
-    );
-    Ok(())
+    assert!(rt; Journal::format(&mut disk, &params) == Err(JournalFault::AlreadyImage));
+    let mut short = filled(&rt, rt.alloc(), BLOCK);
+    assert!(rt; Journal::format(&mut short, &params) == Err(JournalFault::WrongLength));
+    let mut failing = FailingDisk::new(disk, Vec::new(rt.alloc()), Some(0));
+    assert!(rt; Journal::format(&mut failing, &params) == Err(JournalFault::Disk));
 }
 
 /// The digests of so many bytes `EE`.
@@ -184,56 +166,46 @@ static DIGESTS: [(usize, [u8; 32]); 2] = [
     ),
 ];
 
-/// Whether a disk of so many bytes `EE`, at most 4,097, has the digest, each byte read once, and is then wiped for good.
-fn is_digested_and_wiped(alloc: Global, len: usize, digest: &[u8; 32]) -> Result<bool, Fail> {
-    let len = len.min(4097);
-    let mut disk = MemDisk::new(alloc, &[0xEE; 4097][..len], ROOM)?;
-    let found = Journal::digest(&mut disk);
-    let fetched = disk.fetched();
-    let wiped = Journal::wipe(&mut disk);
-    let left = disk.stopped(StopChoice::Fill(0xA5));
-    Ok(
-        found == Ok(*digest)
-            && fetched == len as u64
-            && wiped.is_ok()
-            && left.bytes() == &[0; 4097][..len],
-    )
+// Each byte is read once, and the disk is then wiped for good.
+#[test]
+fn a_disk_of_any_length_is_digested_and_wiped(rt: HostRuntime) {
+    for (len, digest) in &DIGESTS {
+        let mut disk = filled(&rt, rt.alloc(), *len);
+        assert!(rt; Journal::digest(&mut disk) == Ok(*digest), "{len}");
+        assert!(rt; disk.fetched() == *len as u64, "{len}");
+        assert!(rt; Journal::wipe(&mut disk).is_ok(), "{len}");
+        let left = disk.stopped(StopChoice::Fill(0xA5));
+        assert!(rt;
+            left.bytes().len() == *len && is_zero(left.bytes()),
+            "{len}"
+        );
+    }
 }
 
-#[test]
-fn a_disk_of_any_length_is_digested_and_wiped(rt: HostRuntime) -> Result<(), Fail> {
-    for (len, digest) in &DIGESTS {
-        let holds = is_digested_and_wiped(rt.alloc(), *len, digest)?;
-        assert!(rt; holds, "{len}");
-    }
-    Ok(())
+/// Whether all of these bytes are zeros.
+fn is_zero(bytes: &[u8]) -> bool {
+    bytes.iter().all(|byte| *byte == 0)
 }
 
 /// Whether a wipe that ends at this call leaves no name of an image, or all bytes but the first as they were, and one more
 /// wipe leaves zeros.
-fn is_wiped_again(alloc: Global, call: u64, choice: StopChoice) -> Result<bool, Fail> {
-    let below = MemDisk::new(alloc, &[0xEE; 4097], ROOM)?;
+fn is_wiped_again(rt: &impl Abort, alloc: Global, call: u64, choice: StopChoice) -> bool {
+    let below = filled(rt, alloc, 4097);
     let mut failing = FailingDisk::new(below, Vec::new(alloc), Some(call));
     let done = Journal::wipe(&mut failing).is_ok();
     let mut disk = failing.into_disk().stopped(choice);
     let unnamed = disk.bytes().starts_with(&[0]);
     let kept = disk.bytes().ends_with(&[0xEE; 4096]);
     let again = Journal::wipe(&mut disk);
-    Ok(
-        done == (call == 5)
-            && (unnamed || kept)
-            && again.is_ok()
-            && disk.bytes() == [0; 4097].as_slice(),
-    )
+    done == (call == 5) && (unnamed || kept) && again.is_ok() && is_zero(disk.bytes())
 }
 
 #[test]
-fn a_wipe_is_cut_short_and_made_again(rt: HostRuntime) -> Result<(), Fail> {
+fn a_wipe_is_cut_short_and_made_again(rt: HostRuntime) {
     for call in 0..6 {
         for choice in &CHOICES {
-            let holds = is_wiped_again(rt.alloc(), call, *choice)?;
+            let holds = is_wiped_again(&rt, rt.alloc(), call, *choice);
             assert!(rt; holds, "{call} {choice:?}");
         }
     }
-    Ok(())
 }

@@ -1,7 +1,7 @@
 //! Tables that were worked out by hand from the format, with the draw `ruler`, under which a label starts at its
 //! bytes' sum, round the table.
 
-ghost use Rattle.std.specs.Prelude.{◌≡◌, length, IfOk};
+ghost use Rattle.std.specs.Prelude.{◌≡◌, ◌<◌, length, IfOk};
 ghost use Rattle.std.specs.List.{list_any};
 ghost use Rattle.std.specs.Ordering.{is_eq};
 ghost use Rattle.store_model.specs.Paths.{key_cmp};
@@ -13,8 +13,7 @@ use layout_scratch::{Layout, ScratchFault, build};
 use node_pages::{PairList, label_in};
 use std::alloc::Global;
 use std::process::Abort;
-use std::test::Fail;
-use store_base::{BLOCK, DrawKind, Key, Params, Value};
+use store_base::{BLOCK, DrawKind, Key, NoMemory, Params, Slot, Value};
 
 /// Whether a pair has the key.
 fn is_there(pairs: &PairList, key: &Key) -> bool
@@ -24,7 +23,7 @@ fn is_there(pairs: &PairList, key: &Key) -> bool
 }
 
 /// Adds the pair of a directory with the key, which no pair has.
-fn make(rt: &impl Abort, pairs: &mut PairList, key: Key) -> Result<(), Fail>
+fn make(rt: &impl Abort, pairs: &mut PairList, key: Key) -> Result<(), NoMemory>
     requires { HasDistinctKeys pairs.old }
     ensures { HasDistinctKeys pairs.new }
 {
@@ -40,16 +39,16 @@ pub(crate) fn layout(
     params: &Params,
     led: bool,
     letters: &[u8],
-) -> Result<Result<Layout, ScratchFault>, Fail>
-    ensures { IfOk result (λ built. IfOk built (λ layout. length layout ≡ params.now.slots)) }
+) -> Result<Layout, ScratchFault>
+    ensures { IfOk result (λ layout. length layout ≡ params.now.slots) }
 {
     let mut pairs = PairList::new(alloc);
     for letter in letters {
         let name = if led { [b'U', *letter] } else { [*letter, 0] };
-        make(rt, &mut pairs, key(&name))?;
+        make(rt, &mut pairs, key(&name)).expect(rt, "memory");
     }
     assert!(rt; pairs.len() <= 33);
-    Ok(build(alloc, params, &pairs))
+    build(alloc, params, &pairs)
 }
 
 /// The key of seven letters `U` and a number: with the draw `ruler` it stands on all of eight levels.
@@ -66,13 +65,13 @@ fn tall_layout(
     alloc: Global,
     params: &Params,
     count: u16,
-) -> Result<Result<Layout, ScratchFault>, Fail> {
+) -> Result<Layout, ScratchFault> {
     let mut pairs = PairList::new(alloc);
     for number in 0..count {
-        make(rt, &mut pairs, tall_key(number))?;
+        make(rt, &mut pairs, tall_key(number)).expect(rt, "memory");
     }
     assert!(rt; pairs.len() <= 16384);
-    Ok(build(alloc, params, &pairs))
+    build(alloc, params, &pairs)
 }
 
 /// How many slots hold a page, or why there is no layout.
@@ -83,121 +82,139 @@ fn used(layout: Result<Layout, ScratchFault>) -> Result<u32, ScratchFault> {
     }
 }
 
+/// A slot of a layout.
+fn slot_of(layout: &Layout, at: u32) -> Slot
+    requires { at < length layout.now }
+{
+    let mut slot = [7; BLOCK];
+    layout.slot(at, &mut slot);
+    slot
+}
+
+/// Letters of directories, and the pages of the table that they fill.
+static TABLES: [(&[u8], &[Option<[u8; 2]>]); 3] = [
+    // Starts 3, 3 and 1 of 4: the second goes round the end.
+    (b"Ua", &[Some(*b"Ua"), Some(TOP), None, Some(*b"UU")]),
+    // Starts 2, 3, 2 and 1 of 8: the third goes past the second.
+    (
+        b"DEd",
+        &[
+            None,
+            Some(TOP),
+            Some(*b"UD"),
+            Some(*b"UE"),
+            Some(*b"Ud"),
+            None,
+            None,
+            None,
+        ],
+    ),
+    // Starts 1 and 1 of 2: the table is full.
+    (b"a", &[Some(TOP), Some(*b"Ua")]),
+];
+
 #[test]
-fn pages_by_rank(rt: HostRuntime) -> Result<(), Fail> {
-    let (d, e, l) = (Some(*b"UD"), Some(*b"UE"), Some(*b"Ud"));
-    for (letters, table) in [
-        // Starts 3, 3 and 1 of 4: the second goes round the end.
-        (
-            b"Ua".as_slice(),
-            [Some(*b"Ua"), Some(TOP), None, Some(*b"UU")].as_slice(),
-        ),
-        // Starts 2, 3, 2 and 1 of 8: the third goes past the second.
-        (b"DEd", &[None, Some(TOP), d, e, l, None, None, None]),
-        // Starts 1 and 1 of 2: the table is full.
-        (b"a", &[Some(TOP), Some(*b"Ua")]),
-    ] {
-        let params = Params::new(table.len() as u32, 2, DrawKind::Ruler, [0; 32])?;
-        let layout = layout(&rt, rt.alloc(), &params, true, letters)??;
+fn pages_by_rank(rt: HostRuntime) {
+    for (letters, table) in &TABLES {
+        let slots = table.len() as u32;
+        let params = Params::new(slots, 2, DrawKind::Ruler, [0; 32]).expect(&rt, "parameters");
+        let layout = layout(&rt, rt.alloc(), &params, true, *letters).expect(&rt, "a layout");
         for (at, name) in table.iter().enumerate() {
-            let mut slot = [7; BLOCK];
-            layout.slot(at as u32, &mut slot);
-            assert_eq!(rt; label_in(&slot), name.map(label), "in slot {at}");
+            assert!(rt;
+                label_in(&slot_of(&layout, at as u32)) == name.map(label),
+                "in slot {at}"
+            );
         }
     }
-    Ok(())
 }
+
+/// The bytes other than zeros of the slot of page (0, Ua, 0) with that key.
+static UA: [(usize, u8); 9] = [
+    (0, 1),
+    (2, 1),
+    (3, 0x55),
+    (4, 0x61),
+    (131, 1),
+    (132, 0x55),
+    (133, 0x61),
+    (257, 1),
+    (258, 1),
+];
+
+/// The bytes other than zeros of the slot of page (0, UU, 0) with that key.
+static UU: [(usize, u8); 9] = [
+    (0, 1),
+    (2, 1),
+    (3, 0x55),
+    (4, 0x55),
+    (131, 1),
+    (132, 0x55),
+    (133, 0x55),
+    (257, 1),
+    (258, 1),
+];
 
 // The table of /UU and /Ua in 4 slots: page (0, UU, 0) in slot 3, (0, Ua, 0) in slot 0 and (1, start, 0) in slot 1.
 #[test]
-fn two_directories_in_both_orders(rt: HostRuntime) -> Result<(), Fail> {
-    let table = [
-        slot_with(&[
-            (0, 1),
-            (2, 1),
-            (3, 0x55),
-            (4, 0x61),
-            (131, 1),
-            (132, 0x55),
-            (133, 0x61),
-            (257, 1),
-            (258, 1),
-        ]),
-        slot_with(&TWO_KEYS),
-        [0; BLOCK],
-        slot_with(&[
-            (0, 1),
-            (2, 1),
-            (3, 0x55),
-            (4, 0x55),
-            (131, 1),
-            (132, 0x55),
-            (133, 0x55),
-            (257, 1),
-            (258, 1),
-        ]),
-    ];
-    let params = Params::new(4, 2, DrawKind::Ruler, [0; 32])?;
+fn two_directories_in_both_orders(rt: HostRuntime) {
+    let params = Params::new(4, 2, DrawKind::Ruler, [0; 32]).expect(&rt, "parameters");
     for letters in [b"Ua", b"aU"] {
-        let layout = layout(&rt, rt.alloc(), &params, true, letters)??;
+        let layout = layout(&rt, rt.alloc(), &params, true, letters).expect(&rt, "a layout");
         assert_eq!(rt; layout.used(), 3);
-        for (at, wanted) in table.iter().enumerate() {
-            let mut slot = [7; BLOCK];
-            layout.slot(at as u32, &mut slot);
-            assert!(rt; slot == *wanted, "in slot {at}");
-        }
+        assert!(rt; slot_of(&layout, 0) == slot_with(&UA));
+        assert!(rt; slot_of(&layout, 1) == slot_with(&TWO_KEYS));
+        assert!(rt; slot_of(&layout, 2) == [0; BLOCK]);
+        assert!(rt; slot_of(&layout, 3) == slot_with(&UU));
     }
-    Ok(())
 }
 
+/// The slots and the height of a table, whether each key leads its group, how many directories there are, and how many
+/// pages.
+type Filled = (u32, u8, bool, usize, Result<u32, ScratchFault>);
+
+static FILLED: [Filled; 4] = [
+    // Ten directories have one page on one level, eleven have two.
+    (1, 1, false, 10, Ok(1)),
+    (
+        1,
+        1,
+        false,
+        11,
+        Err(ScratchFault::Full { need: 2, slots: 1 }),
+    ),
+    // 31 keys that lead their groups have a page each and one on level 1, 32 have two there.
+    (33, 2, true, 31, Ok(32)),
+    (
+        33,
+        2,
+        true,
+        32,
+        Err(ScratchFault::Full {
+            need: 34,
+            slots: 33,
+        }),
+    ),
+];
+
 #[test]
-fn full_tables(rt: HostRuntime) -> Result<(), Fail> {
+fn full_tables(rt: HostRuntime) {
     let letters = b"abcdefghijklmnopqrstuvwxyzABCDEF";
-    for (slots, height, led, letters, wanted) in [
-        // Ten directories have one page on one level, eleven have two.
-        (1, 1, false, &letters[..10], Ok(1)),
-        (
-            1,
-            1,
-            false,
-            &letters[..11],
-            Err(ScratchFault::Full { need: 2, slots: 1 }),
-        ),
-        // 31 keys that lead their groups have a page each and one on level 1, 32 have two there.
-        (33, 2, true, &letters[..31], Ok(32)),
-        (
-            33,
-            2,
-            true,
-            letters.as_slice(),
-            Err(ScratchFault::Full {
-                need: 34,
-                slots: 33,
-            }),
-        ),
-    ] {
-        let params = Params::new(slots, height, DrawKind::Ruler, [0; 32])?;
-        let layout = layout(&rt, rt.alloc(), &params, led, letters)?;
-        assert_eq!(rt; used(layout), wanted);
+    for (slots, height, led, count, wanted) in &FILLED {
+        let params = Params::new(*slots, *height, DrawKind::Ruler, [0; 32]);
+        let params = params.expect(&rt, "parameters");
+        let letters = &letters[..(*count).min(32)];
+        let layout = layout(&rt, rt.alloc(), &params, *led, letters);
+        assert!(rt; used(layout) == *wanted, "{count}");
     }
-    Ok(())
 }
 
 #[test]
-fn largest_table(rt: HostRuntime) -> Result<(), Fail> {
-    let params = Params::new(16384, 8, DrawKind::Ruler, [0; 32])?;
-    for (count, wanted) in [
-        (2329, Ok(7 * 2329 + 76)),
-        (
-            2330,
-            Err(ScratchFault::Full {
-                need: 7 * 2330 + 76,
-                slots: 16384,
-            }),
-        ),
-    ] {
-        let layout = tall_layout(&rt, rt.alloc(), &params, count)?;
-        assert_eq!(rt; used(layout), wanted);
-    }
-    Ok(())
+fn largest_table(rt: HostRuntime) {
+    let params = Params::new(16384, 8, DrawKind::Ruler, [0; 32]).expect(&rt, "parameters");
+    assert!(rt; used(tall_layout(&rt, rt.alloc(), &params, 2329)) == Ok(7 * 2329 + 76));
+    let full = ScratchFault::Full {
+        need: 7 * 2330 + 76,
+        slots: 16384,
+    };
+    assert!(rt; used(tall_layout(&rt, rt.alloc(), &params, 2330)) == Err(full));
 }

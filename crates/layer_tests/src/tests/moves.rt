@@ -6,29 +6,36 @@ use dir_tree::{list, make, remove};
 use path_keys::Path;
 use skip_levels::OrderedPairs;
 use std::alloc::Global;
-use std::test::Fail;
-use store_base::{Answer, Refusal, Value};
+use std::process::Abort;
+use store_base::{Answer, Fault, Refusal, Value};
 use subtree_move::{prune, rename};
 use tree_pairs::file_value;
 
 /// The path that a text spells.
-fn path(text: &str) -> Result<Path, Fail> {
-    Ok(Path::parse(text.as_bytes())?)
+pub(crate) fn path(rt: &impl Abort, text: &str) -> Path {
+    Path::parse(text.as_bytes()).expect(rt, "a path")
 }
 
+/// The directories of the small tree.
+static DIRECTORIES: [&str; 4] = ["/d", "/d/x", "/d/x/y", "/dd"];
+
+/// The blocks of the file of the small tree, and their lengths.
+static BLOCKS: [(u32, usize); 3] = [(1, 256), (2, 256), (3, 88)];
+
 /// The directories /d, /d/x, /d/x/y and /dd, and the file /d/f of 600 bytes.
-fn small_tree(alloc: Global) -> Result<CountedPairs, Fail> {
+fn small_tree(rt: &impl Abort, alloc: Global) -> CountedPairs {
     let mut pairs = CountedPairs::new(alloc);
-    for text in ["/d", "/d/x", "/d/x/y", "/dd"] {
-        let _ = make(&mut pairs, &path(text)?)?;
+    for text in &DIRECTORIES {
+        assert!(rt; make(&mut pairs, &path(rt, *text)) == Ok(Ok(())));
     }
-    let file = path("/d/f")?;
-    pairs.put(file.key(0), file_value(600))?;
-    for (block, len) in [(1, 256), (2, 256), (3, 88)] {
-        pairs.put(file.key(block), Value::new(&[7; 256][..len]))?;
+    let file = path(rt, "/d/f");
+    pairs.put(file.key(0), file_value(600)).expect(rt, "memory");
+    for (block, len) in &BLOCKS {
+        let value = Value::new(&[7; 256][..(*len).clamp(1, 256)]);
+        pairs.put(file.key(*block), value).expect(rt, "memory");
     }
     pairs.calls();
-    Ok(pairs)
+    pairs
 }
 
 /// A change of the tree, by the paths that it names.
@@ -40,12 +47,16 @@ enum Change {
 }
 
 /// What the change answers.
-fn answer_to(pairs: &mut CountedPairs, change: &Change) -> Result<Answer<()>, Fail> {
+fn answer_to(
+    rt: &impl Abort,
+    pairs: &mut CountedPairs,
+    change: &Change,
+) -> Result<Answer<()>, Fault> {
     match change {
-        Change::Make(at) => Ok(make(pairs, &path(at)?)?),
-        Change::Rename(from, to) => Ok(rename(pairs, &path(from)?, &path(to)?)?),
-        Change::Remove(at) => Ok(remove(pairs, &path(at)?)?),
-        Change::Prune(at) => Ok(prune(pairs, &path(at)?)?),
+        Change::Make(at) => make(pairs, &path(rt, *at)),
+        Change::Rename(from, to) => rename(pairs, &path(rt, *from), &path(rt, *to)),
+        Change::Remove(at) => remove(pairs, &path(rt, *at)),
+        Change::Prune(at) => prune(pairs, &path(rt, *at)),
     }
 }
 
@@ -60,27 +71,27 @@ static MOVES: [(Change, Answer<()>, u32); 4] = [
 ];
 
 #[test]
-fn moves_a_small_tree(rt: HostRuntime) -> Result<(), Fail> {
-    let mut pairs = small_tree(rt.alloc())?;
+fn moves_a_small_tree(rt: HostRuntime) {
+    let mut pairs = small_tree(&rt, rt.alloc());
     for (at, (change, answer, calls)) in MOVES.iter().enumerate() {
-        let found = answer_to(&mut pairs, change)?;
-        let holds = found == *answer && pairs.calls() == *calls;
-        assert!(rt; holds, "change {at}");
+        let found = answer_to(&rt, &mut pairs, change);
+        assert!(rt;
+            found == Ok(*answer) && pairs.calls() == *calls,
+            "change {at}"
+        );
     }
     assert_eq!(rt; pairs.len(), 0);
-    Ok(())
 }
 
 #[test]
-fn lists_a_small_tree(rt: HostRuntime) -> Result<(), Fail> {
-    let mut pairs = small_tree(rt.alloc())?;
-    let children = list(rt.alloc(), &mut pairs, &path("/d")?)??;
+fn lists_a_small_tree(rt: HostRuntime) {
+    let mut pairs = small_tree(&rt, rt.alloc());
+    let listed = list(rt.alloc(), &mut pairs, &path(&rt, "/d")).expect(&rt, "memory");
     // What stands there, two calls for each child, and one behind the last.
     assert_eq!(rt; pairs.calls(), 6);
-    assert_eq!(rt; children.len(), 2);
-    assert_eq!(rt; children.get(0), (b"f".as_slice(), Some(600)));
-    assert_eq!(rt; children.get(1), (b"x".as_slice(), None));
-    Ok(())
+    let children = listed.expect(&rt, "a list");
+    assert!(rt; children.len() == 2 && children.get(0) == (b"f".as_slice(), Some(600)));
+    assert!(rt; children.get(1) == (b"x".as_slice(), None));
 }
 
 /// Changes of the small tree, one behind the other, and their answers.
@@ -101,11 +112,12 @@ static REFUSALS: [(Change, Answer<()>); 11] = [
 ];
 
 #[test]
-fn refuses_moves(rt: HostRuntime) -> Result<(), Fail> {
-    let mut pairs = small_tree(rt.alloc())?;
+fn refuses_moves(rt: HostRuntime) {
+    let mut pairs = small_tree(&rt, rt.alloc());
     for (at, (change, answer)) in REFUSALS.iter().enumerate() {
-        let found = answer_to(&mut pairs, change)?;
-        assert!(rt; found == *answer, "change {at}");
+        assert!(rt;
+            answer_to(&rt, &mut pairs, change) == Ok(*answer),
+            "change {at}"
+        );
     }
-    Ok(())
 }

@@ -14,10 +14,7 @@ use page_store::{SettleFault, SlotCache, Staged};
 use seeded_draw::RulerDraw;
 use std::alloc::Global;
 use std::process::Abort;
-use std::test::Fail;
-use store_base::{
-    BLOCK, DiskFault, DrawKind, Fault, Label, NoMemory, Params, Slot, table_at, write_header,
-};
+use store_base::{BLOCK, DrawKind, Fault, Label, NoMemory, Params, Slot, table_at, write_header};
 
 /// How many slots the tables have, but for the one without room.
 const SLOTS: u32 = 8;
@@ -57,55 +54,52 @@ impl Table {
 }
 
 /// The header of an image and an empty journal: what stands before its table.
-fn front_of(alloc: Global, params: &Params) -> Result<Vec<u8>, NoMemory> {
+fn front_of(rt: &impl Abort, alloc: Global, params: &Params) -> Vec<u8> {
     let mut header = [0; BLOCK];
     write_header(params, &mut header);
-    let mut front = Vec::from_slice(alloc, &header)?;
-    front.resize(table_at(params.slots(), 0) as usize, 0)?;
-    Ok(front)
+    let mut front = Vec::from_slice(alloc, &header).expect(rt, "memory");
+    front
+        .resize(table_at(params.slots(), 0) as usize, 0)
+        .expect(rt, "memory");
+    front
 }
 
 /// The table of this layout.
-fn table_from(alloc: Global, params: &Params, layout: &Layout) -> Result<Table, NoMemory>
+fn table_from(rt: &impl Abort, alloc: Global, params: &Params, layout: &Layout) -> Table
     requires { length layout.now ≡ params.now.slots }
 {
     let mut table = Table {
         params: *params,
         pages: PageList::new(alloc),
-        image: front_of(alloc, params)?,
+        image: front_of(rt, alloc, params),
     };
     let mut slot = [0; BLOCK];
     for at in 0..params.slots() {
         layout.slot(at, &mut slot);
-        table.push(&slot)?;
+        table.push(&slot).expect(rt, "memory");
     }
-    Ok(table)
+    table
 }
 
 /// The table of so many slots with directories that have a key of `U` and each letter: each has a page, and one more leads
 /// to them.
-fn table_of(rt: &impl Abort, alloc: Global, slots: u32, letters: &[u8]) -> Result<Table, Fail> {
-    let params = Params::new(slots, 2, DrawKind::Ruler, [0; 32])?;
-    let layout = layout(rt, alloc, &params, true, letters)??;
-    Ok(table_from(alloc, &params, &layout)?)
+fn table_of(rt: &impl Abort, alloc: Global, slots: u32, letters: &[u8]) -> Table {
+    let params = Params::new(slots, 2, DrawKind::Ruler, [0; 32]).expect(rt, "parameters");
+    let layout = layout(rt, alloc, &params, true, letters).expect(rt, "a layout");
+    table_from(rt, alloc, &params, &layout)
 }
 
 /// Pages over a disk some of whose calls fail.
 type TestedPages = Staged<FailingDisk<UnseenDisk>, RulerDraw>;
 
 /// The pages in the table, over a disk whose calls fail from this one on.
-fn stage(
-    rt: &impl Abort,
-    alloc: Global,
-    table: &Table,
-    from: Option<u64>,
-) -> Result<TestedPages, Fail> {
-    let cache = SlotCache::new(alloc)?;
-    let below = UnseenDisk::new(alloc, table.image.as_slice())?;
+fn stage(rt: &impl Abort, alloc: Global, table: &Table, from: Option<u64>) -> TestedPages {
+    let below = UnseenDisk::new(alloc, table.image.as_slice()).expect(rt, "memory");
     let disk = FailingDisk::new(below, Vec::new(alloc), from);
     let (params, used) = (&table.params, table.pages.len());
     assert!(rt; is_long(&disk, params));
-    Ok(Staged::new(alloc, disk, params, RulerDraw::new(params), used, cache))
+    let cache = SlotCache::new(alloc).expect(rt, "memory");
+    Staged::new(alloc, disk, params, RulerDraw::new(params), used, cache)
 }
 
 /// The disk in memory below the pages.
@@ -171,16 +165,16 @@ fn try_change(
     tables: [&Table; 2],
     overwrites: bool,
     from: Option<u64>,
-) -> Result<Settled, Fail> {
-    let mut pages = stage(rt, alloc, tables[0], from)?;
+) -> Settled {
+    let mut pages = stage(rt, alloc, tables[0], from);
     let answer = change_and_settle(&mut pages, tables, overwrites);
     let (is_spent, used) = (pages.is_spent(), pages.used());
-    Ok(Settled {
+    Settled {
         answer,
         is_spent,
         used,
         disk: disk_below(pages),
-    })
+    }
 }
 
 /// Whether all pages were settled, durably, and are those of the table.
@@ -236,29 +230,16 @@ static CHANGES: [Letters; 7] = [
     },
 ];
 
-/// Whether the pages of the old letters become those of the new ones, where labels that stay are overwritten, and where
-/// they are dropped first.
-fn becomes(rt: &impl Abort, alloc: Global, letters: &Letters) -> Result<[bool; 2], Fail> {
-    let old = table_of(rt, alloc, SLOTS, letters.old)?;
-    let new = table_of(rt, alloc, SLOTS, letters.new)?;
-    let overwritten = try_change(rt, alloc, [&old, &new], true, None)?;
-    let dropped = try_change(rt, alloc, [&old, &new], false, None)?;
-    Ok([is_settled(overwritten, &new), is_settled(dropped, &new)])
-}
-
 #[test]
-fn settled_pages_are_those_of_the_layout(rt: HostRuntime) -> Result<(), Fail> {
-    for letters in &CHANGES {
-        let become_so = becomes(&rt, rt.alloc(), letters)?;
-        assert_eq!(rt;
-            become_so,
-            [true, true],
-            "{:?} {:?}",
-            letters.old,
-            letters.new
-        );
+fn settled_pages_are_those_of_the_layout(rt: HostRuntime) {
+    for (at, letters) in CHANGES.iter().enumerate() {
+        let old = table_of(&rt, rt.alloc(), SLOTS, letters.old);
+        let new = table_of(&rt, rt.alloc(), SLOTS, letters.new);
+        let overwritten = try_change(&rt, rt.alloc(), [&old, &new], true, None);
+        assert!(rt; is_settled(overwritten, &new), "row {at}");
+        let dropped = try_change(&rt, rt.alloc(), [&old, &new], false, None);
+        assert!(rt; is_settled(dropped, &new), "row {at}");
     }
-    Ok(())
 }
 
 /// How many reads of the disk a change makes, of a block each, and how many calls in all: the reads come first.
@@ -279,65 +260,58 @@ fn calls_of(disk: &MemDisk) -> Calls {
 }
 
 /// The disk after a crash and recovery.
-fn recovered(disk: MemDisk, params: &Params, choice: StopChoice) -> Result<MemDisk, DiskFault> {
+fn recovered(rt: &impl Abort, disk: MemDisk, params: &Params, choice: StopChoice) -> MemDisk {
     let mut left = disk.stopped(choice);
-    recover(&mut left, params)?;
-    Ok(left)
+    recover(&mut left, params).expect(rt, "a recovery");
+    left
 }
 
 /// Whether a change of so many calls that failed from this one on says so, is spent just where a write or a sync was
 /// called, and is seen whole or not at all after a crash and recovery.
 fn is_whole_or_absent(
+    rt: &impl Abort,
     settled: Settled,
     tables: [&Table; 2],
     calls: Calls,
     call: u64,
     choice: StopChoice,
-) -> Result<bool, Fail> {
+) -> bool {
     let [old, new] = tables;
     let (began, done) = (calls.reads <= call, calls.all <= call);
     let wanted = if done { Ok(()) } else { Err(SettleFault::Disk) };
-    if settled.answer != wanted || settled.is_spent != (began && !done) {
-        return Ok(false);
-    }
-    let left = recovered(settled.disk, &old.params, choice)?;
+    let says_so = settled.answer == wanted && settled.is_spent == (began && !done);
+    let left = recovered(rt, settled.disk, &old.params, choice);
     let is_old = left.bytes() == old.image.as_slice();
     let is_new = left.bytes() == new.image.as_slice();
-    Ok(is_old && !done || is_new && began)
+    says_so && (is_old && !done || is_new && began)
 }
 
 /// The first call of the disk at which a change that fails, and then a crash with this choice of what it leaves, leave
 /// neither table, if there is one.
-fn torn_at(
-    rt: &impl Abort,
-    alloc: Global,
-    tables: [&Table; 2],
-    choice: StopChoice,
-) -> Result<Option<u64>, Fail> {
-    let calls = calls_of(&try_change(rt, alloc, tables, true, None)?.disk);
+fn torn_at(rt: &impl Abort, alloc: Global, tables: [&Table; 2], choice: StopChoice) -> Option<u64> {
+    let calls = calls_of(&try_change(rt, alloc, tables, true, None).disk);
     for call in 0..MOST_CALLS {
-        let settled = try_change(rt, alloc, tables, true, Some(call))?;
+        let settled = try_change(rt, alloc, tables, true, Some(call));
         let is_last = settled.answer.is_ok();
-        if !is_whole_or_absent(settled, tables, calls, call, choice)? {
-            return Ok(Some(call));
+        if !is_whole_or_absent(rt, settled, tables, calls, call, choice) {
+            return Some(call);
         }
         if is_last {
-            return Ok(None);
+            return None;
         }
     }
-    Ok(Some(MOST_CALLS))
+    Some(MOST_CALLS)
 }
 
 // Six pages go or come, each found by some reads; 27 writes and 5 syncs commit five slots.
 #[test]
-fn a_settle_is_whole_or_absent(rt: HostRuntime) -> Result<(), Fail> {
-    let old = table_of(&rt, rt.alloc(), SLOTS, b"Ua")?;
-    let new = table_of(&rt, rt.alloc(), SLOTS, b"DEd")?;
+fn a_settle_is_whole_or_absent(rt: HostRuntime) {
+    let old = table_of(&rt, rt.alloc(), SLOTS, b"Ua");
+    let new = table_of(&rt, rt.alloc(), SLOTS, b"DEd");
     for choice in &CHOICES {
-        let torn = torn_at(&rt, rt.alloc(), [&old, &new], *choice)?;
+        let torn = torn_at(&rt, rt.alloc(), [&old, &new], *choice);
         assert_eq!(rt; torn, None, "{choice:?}");
     }
-    Ok(())
 }
 
 /// Whether nothing was written to a disk that reads the image of the table.
@@ -345,37 +319,17 @@ fn is_untouched(disk: &MemDisk, table: &Table) -> bool {
     disk.write_count() == 0 && disk.sync_count() == 0 && disk.bytes() == table.image.as_slice()
 }
 
-/// What settles answer for a page too many, and after that was taken back; and whether the disk is as it was.
-#[derive(Drop)]
-struct Overfilled {
-    refused: Result<(), SettleFault>,
-    again: Result<(), SettleFault>,
-    is_untouched: bool,
-}
-
-/// Asks a table whose slots are all used for a page more, and takes that back.
-fn overfill(rt: &impl Abort, alloc: Global, tables: [&Table; 2]) -> Result<Overfilled, Fail> {
-    let mut pages = stage(rt, alloc, tables[0], None)?;
-    let refused = change_and_settle(&mut pages, tables, true);
-    pages.discard();
-    let again = settle(&mut pages);
-    let disk = disk_below(pages);
-    Ok(Overfilled {
-        refused,
-        again,
-        is_untouched: is_untouched(&disk, tables[0]),
-    })
-}
-
+// A table whose slots are all used is asked for a page more, and that is taken back.
 #[test]
-fn a_page_too_many_is_refused(rt: HostRuntime) -> Result<(), Fail> {
-    let full = table_of(&rt, rt.alloc(), 2, b"a")?;
-    let more = table_of(&rt, rt.alloc(), SLOTS, b"ab")?;
-    let ended = overfill(&rt, rt.alloc(), [&full, &more])?;
-    assert_eq!(rt; ended.refused, Err(SettleFault::Full { need: 3, slots: 2 }));
-    assert_eq!(rt; ended.again, Ok(()));
-    assert!(rt; ended.is_untouched);
-    Ok(())
+fn a_page_too_many_is_refused(rt: HostRuntime) {
+    let full = table_of(&rt, rt.alloc(), 2, b"a");
+    let more = table_of(&rt, rt.alloc(), SLOTS, b"ab");
+    let mut pages = stage(&rt, rt.alloc(), &full, None);
+    let refused = change_and_settle(&mut pages, [&full, &more], true);
+    assert!(rt; refused == Err(SettleFault::Full { need: 3, slots: 2 }));
+    pages.discard();
+    assert!(rt; settle(&mut pages) == Ok(()));
+    assert!(rt; is_untouched(&disk_below(pages), &full));
 }
 
 /// The page that leads with a key of `U` and this letter is put, or dropped.
@@ -408,11 +362,10 @@ fn count_after(pages: &mut TestedPages, step: &Step) -> Result<u32, Fault> {
 }
 
 #[test]
-fn pages_are_counted_once(rt: HostRuntime) -> Result<(), Fail> {
-    let table = table_of(&rt, rt.alloc(), SLOTS, b"a")?;
-    let mut pages = stage(&rt, rt.alloc(), &table, None)?;
+fn pages_are_counted_once(rt: HostRuntime) {
+    let table = table_of(&rt, rt.alloc(), SLOTS, b"a");
+    let mut pages = stage(&rt, rt.alloc(), &table, None);
     for (at, (step, count)) in STEPS.iter().enumerate() {
-        assert_eq!(rt; count_after(&mut pages, step)?, *count, "at step {at}");
+        assert!(rt; count_after(&mut pages, step) == Ok(*count), "at step {at}");
     }
-    Ok(())
 }

@@ -13,7 +13,6 @@ use std::alloc::Global;
 use std::marker::Brand;
 use std::process::Abort;
 use std::sync::ledger::{Blank, Ledger};
-use std::test::Fail;
 use store_base::{BLOCK, DrawKind, Fault, Label, Params, Value};
 
 /// The name of the page (1, start, 0); any other name is that of a page of level 0 which its key leads.
@@ -96,18 +95,20 @@ fn make(slots: &mut MemSlots, draw: &RulerDraw, call: &Call) -> Result<(), Fault
 }
 
 /// Makes the calls on so many free slots, and looks what each leads to.
-fn lead_so(rt: &impl Abort, alloc: Global, slots: u32, steps: &[Step]) -> Result<(), Fail> {
-    let draw = RulerDraw::new(&Params::new(slots, 2, DrawKind::Ruler, [0; 32])?);
-    let mut slots = MemSlots::new(alloc, draw.slots(), Vec::new(alloc))?;
+fn lead_so(rt: &impl Abort, alloc: Global, slots: u32, steps: &[Step]) {
+    let draw = RulerDraw::new(&Params::new(slots, 2, DrawKind::Ruler, [0; 32]).expect(
+        rt,
+        "parameters",
+    ));
+    let mut slots = MemSlots::new(alloc, draw.slots(), Vec::new(alloc)).expect(rt, "memory");
     for step in steps {
         let (call, calls, wanted) = step;
-        make(&mut slots, &draw, call)?;
-        assert_eq!(rt; slots.calls(), *calls);
+        let made = make(&mut slots, &draw, call);
+        assert!(rt; made.is_ok() && slots.calls() == *calls);
         if !wanted.is_empty() {
-            holds(rt, &slots, wanted);
+            holds(rt, &slots, *wanted);
         }
     }
-    Ok(())
 }
 
 /// Insertions into four slots; the one that displaces a page reads two and writes both.
@@ -127,19 +128,21 @@ static INSERTIONS: [Step; 4] = [
 ];
 
 #[test]
-fn insertion_and_overwriting(rt: HostRuntime) -> Result<(), Fail> {
-    lead_so(&rt, rt.alloc(), 4, &INSERTIONS)
+fn insertion_and_overwriting(rt: HostRuntime) {
+    lead_so(&rt, rt.alloc(), 4, &INSERTIONS);
 }
 
 #[test]
-fn search_round_the_end(rt: HostRuntime) -> Result<(), Fail> {
-    let draw = RulerDraw::new(&Params::new(4, 2, DrawKind::Ruler, [0; 32])?);
-    let mut slots = MemSlots::new(rt.alloc(), 4, Vec::new(rt.alloc()))?;
-    insert(&mut slots, &draw, &page(*b"UU", 1))?;
-    insert(&mut slots, &draw, &page(*b"Ua", 1))?;
+fn search_round_the_end(rt: HostRuntime) {
+    let draw = RulerDraw::new(&Params::new(4, 2, DrawKind::Ruler, [0; 32]).expect(
+        &rt,
+        "parameters",
+    ));
+    let mut slots = MemSlots::new(rt.alloc(), 4, Vec::new(rt.alloc())).expect(&rt, "memory");
+    insert(&mut slots, &draw, &page(*b"UU", 1)).expect(&rt, "memory");
+    insert(&mut slots, &draw, &page(*b"Ua", 1)).expect(&rt, "memory");
     assert!(rt; look_for::<Brand>(&mut slots, &draw, *b"Ua", Blank::new(1)) == Ok(Some(0)));
     assert!(rt; look_for::<Brand>(&mut slots, &draw, TOP, Blank::new(1)) == Ok(None));
-    Ok(())
 }
 
 /// Two slots that are filled, and a page taken out.
@@ -156,9 +159,9 @@ static ONE: [Step; 2] = [
 ];
 
 #[test]
-fn removal_from_full_tables(rt: HostRuntime) -> Result<(), Fail> {
-    lead_so(&rt, rt.alloc(), 2, &FULL)?;
-    lead_so(&rt, rt.alloc(), 1, &ONE)
+fn removal_from_full_tables(rt: HostRuntime) {
+    lead_so(&rt, rt.alloc(), 2, &FULL);
+    lead_so(&rt, rt.alloc(), 1, &ONE);
 }
 
 /// Pages round a hole. The removal reads slots 3, 4 and 5, and writes 2 and 4.
@@ -197,8 +200,8 @@ static PAST_THE_HOLE: [Step; 5] = [
 ];
 
 #[test]
-fn page_that_starts_past_the_hole(rt: HostRuntime) -> Result<(), Fail> {
-    lead_so(&rt, rt.alloc(), 8, &PAST_THE_HOLE)
+fn page_that_starts_past_the_hole(rt: HostRuntime) {
+    lead_so(&rt, rt.alloc(), 8, &PAST_THE_HOLE);
 }
 
 /// Over two slots: inserts the pages `Ua` and `TOP`, searches for `TOP` in slot 0, overwrites `Ua` in slot 1 and
@@ -230,15 +233,17 @@ fn calls_before_fault<L: Ledger>(slots: &mut MemSlots, draw: &RulerDraw, blank: 
 }
 
 #[test]
-fn each_call_of_the_slots_fails_in_turn(rt: HostRuntime) -> Result<(), Fail> {
-    let draw = RulerDraw::new(&Params::new(2, 2, DrawKind::Ruler, [0; 32])?);
+fn each_call_of_the_slots_fails_in_turn(rt: HostRuntime) {
+    let draw = RulerDraw::new(&Params::new(2, 2, DrawKind::Ruler, [0; 32]).expect(
+        &rt,
+        "parameters",
+    ));
     // The calls that the five make: 2 and 3 to insert, 2 to search, 1 to overwrite, 3 to remove; and none.
     for (call, wanted) in [0, 0, 1, 1, 1, 2, 2, 3, 4, 4, 4, 5].iter().enumerate() {
-        let failing = vec![in rt.alloc(); call as u64]?;
-        let mut slots = MemSlots::new(rt.alloc(), 2, failing)?;
+        let failing = vec![in rt.alloc(); call as u64].expect(&rt, "memory");
+        let mut slots = MemSlots::new(rt.alloc(), 2, failing).expect(&rt, "memory");
         let done = calls_before_fault::<Brand>(&mut slots, &draw, Blank::new(1));
         assert_eq!(rt; done, *wanted, "at call {call}");
         assert_eq!(rt; slots.calls(), (call as u64 + 1).min(11), "at call {call}");
     }
-    Ok(())
 }

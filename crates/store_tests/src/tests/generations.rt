@@ -1,22 +1,23 @@
 //! The word `big`: the four lines that sum up the commands of a number, and what is left where the disk or the sink fails.
 
 use super::support::{
-    Ended, Format, LEAST, ZEROS, call, call_with, first_false, image_of, source_of,
+    CALM, Ended, Format, LEAST, Outside, ZEROS, call, call_in, first_false, image_of, is_reported,
 };
-use disk_model::{FailingDisk, MemDisk};
-use script_lines::MemSink;
 use std::alloc::Global;
 use std::test::Fail;
 use store_base::NoMemory;
 
-/// The room of the record of a disk for two thousand commands, in bytes.
-const LONG_ROOM: usize = 33_554_432;
+/// There is room for two thousand commands, and nothing fails.
+const LONG: Outside = Outside {
+    disk_room: 33_554_432,
+    ..CALM
+};
 
-/// The room of one for ten commands.
-const SHORT_ROOM: usize = 262_144;
-
-/// The room of a sink, in bytes.
-const SINK_ROOM: usize = 1000;
+/// There is room for ten commands.
+const SHORT: Outside = Outside {
+    disk_room: 262_144,
+    ..CALM
+};
 
 /// The arguments of `big`: the number, and how many commands.
 type Arguments = [&'static str; 2];
@@ -51,44 +52,37 @@ static ROWS: [Row; 2] = [
     },
 ];
 
-/// How `big` ends on this disk, with a sink that fails at these puts.
+/// How `big` ends on a disk with these bytes.
 fn generate(
     alloc: Global,
     [number, count]: Arguments,
-    disk: FailingDisk<MemDisk>,
-    puts: &[u64],
-) -> Result<Ended, Fail> {
-    let sink = MemSink::new(alloc, SINK_ROOM, Vec::from_slice(alloc, puts)?)?;
-    let source = source_of(alloc, b"make /a\n")?;
-    call_with(alloc, &["big", number, count], disk, source, sink)
-}
-
-/// A disk with these bytes and a record with this much room that fails from call `from` on.
-fn disk_with(
-    alloc: Global,
     bytes: &[u8],
-    room: usize,
-    from: Option<u64>,
-) -> Result<FailingDisk<MemDisk>, NoMemory> {
-    let disk = MemDisk::new(alloc, bytes, room)?;
-    Ok(FailingDisk::new(disk, Vec::new(alloc), from))
+    outside: &Outside,
+) -> Result<Ended, NoMemory> {
+    call_in(alloc, &["big", number, count], bytes, b"make /a\n", outside)
 }
 
-/// What of the commands of the row is not as the row says, if anything is.
-fn wrong_in(alloc: Global, row: &Row) -> Result<&'static str, Fail> {
-    let empty = image_of(alloc, &row.format, b"")?;
-    let disk = disk_with(alloc, &empty, LONG_ROOM, None)?;
-    let ended = generate(alloc, row.arguments, disk, &[])?;
-    let checked = call(alloc, &["check"], ended.disk.bytes(), b"")?;
+/// What of these commands is not as the row says, if anything is.
+fn wrong_in_end(alloc: Global, row: &Row, ended: &Ended) -> Result<&'static str, NoMemory> {
+    let is_reported = is_reported(alloc, ended.disk.bytes(), row.report)?;
     Ok(first_false(&[
         ("status", ended.status == 0),
         ("done", ended.done == row.done),
-        (
-            "summary",
-            ended.written.as_slice() == row.summary.as_bytes(),
-        ),
-        ("report", checked.sink.written() == row.report.as_bytes()),
+        ("summary", ended.written() == row.summary.as_bytes()),
+        ("report", is_reported),
     ]))
+}
+
+/// What of the commands of the row on this image is not as the row says, if anything is.
+fn wrong_on(alloc: Global, row: &Row, empty: &[u8]) -> Result<&'static str, NoMemory> {
+    let ended = generate(alloc, row.arguments, empty, &LONG)?;
+    wrong_in_end(alloc, row, &ended)
+}
+
+/// What of the commands of the row is not as the row says, if anything is.
+fn wrong_in(alloc: Global, row: &Row) -> Result<&'static str, NoMemory> {
+    let empty = image_of(alloc, &row.format, b"")?;
+    wrong_on(alloc, row, &empty)
 }
 
 #[test]
@@ -103,21 +97,29 @@ fn commands_of_a_number_are_summed_up(rt: HostRuntime) -> Result<(), Fail> {
     Ok(())
 }
 
-/// The put of a summary that fails, and the lines that are written before it.
-static CUT_OFF: [(u64, &str); 3] = [(0, ""), (1, "ok 0\nno 1\n"), (2, "ok 0\nno 1\nspace 0 1\n")];
+/// The puts of a summary that fail, and the lines that are written before them.
+static CUT_OFF: [(&[u64], &str); 3] = [
+    (&[0], ""),
+    (&[1], "ok 0\nno 1\n"),
+    (&[2], "ok 0\nno 1\nspace 0 1\n"),
+];
+
+/// How `big` ends on the least image, with a sink that fails at these puts.
+fn cut_off(alloc: Global, puts: &'static [u64]) -> Result<Ended, NoMemory> {
+    let empty = image_of(alloc, &LEAST, b"")?;
+    let outside = Outside { puts, ..SHORT };
+    generate(alloc, ["0", "1"], &empty, &outside)
+}
 
 #[test]
 fn a_summary_is_cut_off_where_the_sink_fails(rt: HostRuntime) -> Result<(), Fail> {
-    let alloc = rt.alloc();
-    let empty = image_of(alloc, &LEAST, b"")?;
-    for &(put, written) in &CUT_OFF {
-        let disk = disk_with(alloc, &empty, SHORT_ROOM, None)?;
-        let ended = generate(alloc, ["0", "1"], disk, &[put])?;
-        let is_written = ended.written.as_slice() == written.as_bytes();
+    for &(puts, written) in &CUT_OFF {
+        let ended = cut_off(rt.alloc(), puts)?;
+        let is_written = ended.written() == written.as_bytes();
         assert_eq!(rt;
             (ended.status, ended.done, is_written),
             (4, 1, true),
-            "{put}"
+            "{puts:?}"
         );
     }
     Ok(())
@@ -129,34 +131,61 @@ static COUNTS: [&str; 10] = ["1", "2", "3", "4", "5", "6", "7", "8", "9", "10"];
 /// Sixteen slots of height 3.
 const SIXTEEN: Format = ["16", "3", "sha256", ZEROS];
 
-/// Whether a run finds the tree after so many commands of number 7 in these bytes.
-fn is_after(alloc: Global, bytes: &[u8], done: u64) -> Result<bool, Fail> {
+/// How so many commands of number 7 end on sixteen slots.
+fn generate_seven(
+    alloc: Global,
+    count: &'static str,
+    outside: &Outside,
+) -> Result<Ended, NoMemory> {
+    let empty = image_of(alloc, &SIXTEEN, b"")?;
+    generate(alloc, ["7", count], &empty, outside)
+}
+
+/// Whether so many commands of number 7 leave this image.
+fn is_after(alloc: Global, image: &[u8], done: u64) -> Result<bool, NoMemory> {
     let Some(count) = COUNTS.get((done as usize).wrapping_sub(1)) else {
         return Ok(false);
     };
+    let wanted = generate_seven(alloc, count, &SHORT)?;
+    Ok(image == wanted.disk.bytes())
+}
+
+/// Whether so many commands of number 7, or one more, leave this image.
+fn is_after_either(alloc: Global, image: &[u8], done: u64) -> Result<bool, NoMemory> {
+    Ok(is_after(alloc, image, done)? || is_after(alloc, image, done.saturating_add(1))?)
+}
+
+/// Whether the next run finds in these bytes the tree after so many commands of number 7, or after one more.
+fn is_after_or_next(alloc: Global, bytes: &[u8], done: u64) -> Result<bool, NoMemory> {
     let found = call(alloc, &["run"], bytes, b"")?;
-    let empty = image_of(alloc, &SIXTEEN, b"")?;
-    let disk = disk_with(alloc, &empty, SHORT_ROOM, None)?;
-    let wanted = generate(alloc, ["7", *count], disk, &[])?;
-    Ok(found.disk.bytes() == wanted.disk.bytes())
+    is_after_either(alloc, found.disk.bytes(), done)
+}
+
+/// What of these commands of number 7, of which the disk fails one, is not as it is to be, if anything is.
+fn wrong_behind_fault(alloc: Global, ended: &Ended) -> Result<&'static str, NoMemory> {
+    let is_found = is_after_or_next(alloc, ended.disk.bytes(), ended.done)?;
+    Ok(first_false(&[
+        ("status", ended.status == 5),
+        ("written", ended.written().is_empty()),
+        ("tree", is_found),
+    ]))
+}
+
+/// What of the commands of number 7 is not as it is to be, if anything is, where the disk fails from this call on.
+fn wrong_from(alloc: Global, from: u64) -> Result<&'static str, NoMemory> {
+    let outside = Outside {
+        from: Some(from),
+        ..SHORT
+    };
+    let ended = generate_seven(alloc, "10", &outside)?;
+    wrong_behind_fault(alloc, &ended)
 }
 
 #[test]
 fn a_fault_of_the_disk_ends_the_commands(rt: HostRuntime) -> Result<(), Fail> {
-    let alloc = rt.alloc();
-    let empty = image_of(alloc, &SIXTEEN, b"")?;
     for from in 90..94 {
-        let disk = disk_with(alloc, &empty, SHORT_ROOM, Some(from))?;
-        let ended = generate(alloc, ["7", "10"], disk, &[])?;
-        let bytes = ended.disk.bytes();
-        let is_found = is_after(alloc, bytes, ended.done)?
-            || is_after(alloc, bytes, ended.done.saturating_add(1))?;
-        let is_silent = ended.written.is_empty();
-        assert_eq!(rt;
-            (ended.status, is_silent, is_found),
-            (5, true, true),
-            "{from}"
-        );
+        let wrong = wrong_from(rt.alloc(), from)?;
+        assert!(rt; wrong.is_empty(), "{wrong} at {from}");
     }
     Ok(())
 }

@@ -1,8 +1,12 @@
 //! Images that no script leaves: what `check` finds of them, and what a run makes of them.
 
-use super::support::{FLAT, FOUR, Format, LEAST, ZEROS, call, first_false, image_of, is_left};
+use super::support::{
+    DAMAGED, Ended, FLAT, FOUR, Format, LEAST, NOT_IMAGE, ZEROS, call, first_false, image_of,
+    is_left, status_of,
+};
 use std::alloc::Global;
 use std::test::Fail;
+use store_base::NoMemory;
 
 /// An image that a script leaves with some of it written over, and what is to be found.
 pub struct Spoiled {
@@ -20,12 +24,6 @@ pub struct Spoiled {
 
 /// Two slots of height 2, under `ruler`.
 const TWO: Format = ["2", "2", "ruler", ZEROS];
-
-/// What `check` prints of an image whose recovered image is the layout of no tree.
-pub const DAMAGED: &str = "damaged\n";
-
-/// What `check` prints of a file that is no image.
-pub const NOT_IMAGE: &str = "not-image\n";
 
 /// One directory in one slot. What a row writes over leaves the layout of no tree, if it does not say otherwise.
 pub const ONE_DIRECTORY: Spoiled = Spoiled {
@@ -134,73 +132,83 @@ fn copy_block(good: &[u8], from: u16, image: &mut [u8], to: u16) {
     }
 }
 
-/// The image that the row tells of.
-pub fn spoil(alloc: Global, row: &Spoiled) -> Result<Vec<u8>, Fail> {
-    let good = image_of(alloc, &row.format, row.script.as_bytes())?;
-    let mut image = Vec::from_slice(alloc, &good)?;
-    for (from, to) in row.blocks {
-        copy_block(&good, *from, &mut image, *to);
-    }
-    for (at, byte) in row.bytes {
-        if *at < image.len() {
-            image[*at] = *byte;
+/// Puts these bytes at their places.
+fn put_bytes(bytes: &[(usize, u8)], image: &mut [u8]) {
+    for &(at, byte) in bytes {
+        if let Some(place) = image.get_mut(at) {
+            *place = byte;
         }
     }
+}
+
+/// Writes over the image what the row tells of; the blocks come from the good one.
+fn write_over(row: &Spoiled, good: &[u8], image: &mut [u8]) {
+    for (from, to) in row.blocks {
+        copy_block(good, *from, image, *to);
+    }
+    put_bytes(row.bytes, image);
+}
+
+/// The image that the row tells of.
+pub fn spoil(alloc: Global, row: &Spoiled) -> Result<Vec<u8>, NoMemory> {
+    let good = image_of(alloc, &row.format, row.script.as_bytes())?;
+    let mut image = Vec::from_slice(alloc, &good)?;
+    write_over(row, &good, &mut image);
     Ok(image)
 }
 
 /// What of `check` on the image of the row is not as the row says, if anything is. It leaves the image as it is.
-fn wrong_in_check(
-    alloc: Global,
-    row: &Spoiled,
-    image: &[u8],
-    status: u8,
-) -> Result<&'static str, Fail> {
+fn wrong_in_check(alloc: Global, row: &Spoiled, image: &[u8]) -> Result<&'static str, NoMemory> {
     let checked = call(alloc, &["check"], image, b"make /b\n")?;
     Ok(first_false(&[
-        ("report", checked.sink.written() == row.report.as_bytes()),
-        ("status of check", checked.status.code() == status),
+        ("report", checked.written() == row.report.as_bytes()),
+        ("status of check", checked.status == status_of(row.report)),
         ("done of check", checked.done == 1),
         ("writes of check", checked.disk.write_count() == 0),
         ("image after check", checked.disk.bytes() == image),
     ]))
 }
 
-/// What of a run on the image of the row is not as the row says, if anything is. It leaves the layout of the row's tree,
+/// What of this run on the image of the row is not as the row says, if anything is. It leaves the layout of the row's tree,
 /// or does nothing at all.
-fn wrong_in_run(
+fn wrong_in_end(
     alloc: Global,
     row: &Spoiled,
     image: &[u8],
-    status: u8,
-) -> Result<&'static str, Fail> {
-    let ran = call(alloc, &["run"], image, b"list /q\n")?;
+    ran: &Ended,
+) -> Result<&'static str, NoMemory> {
+    let is_layout = is_left(alloc, &row.format, row.tree, ran.disk.bytes())?;
     let is_clean = row.tree.is_some();
     let replies = if is_clean { "no missing\n" } else { "" };
-    let is_layout = is_left(alloc, &row.format, row.tree, ran.disk.bytes())?;
     Ok(first_false(&[
-        ("status of a run", ran.status.code() == status),
-        ("replies", ran.sink.written() == replies.as_bytes()),
+        ("status of a run", ran.status == status_of(row.report)),
+        ("replies", ran.written() == replies.as_bytes()),
         ("layout after a run", is_layout),
         ("image after a run", is_clean || ran.disk.bytes() == image),
         ("writes of a run", is_clean || ran.disk.write_count() == 0),
     ]))
 }
 
-/// What of the image of the row is not as the row says, if anything is.
-fn wrong_in(alloc: Global, row: &Spoiled) -> Result<&'static str, Fail> {
-    let status = match row.report {
-        NOT_IMAGE => 7,
-        DAMAGED => 8,
-        _ => 0,
-    };
-    let image = spoil(alloc, row)?;
-    let wrong = wrong_in_check(alloc, row, &image, status)?;
+/// What of a run on the image of the row is not as the row says, if anything is.
+fn wrong_in_run(alloc: Global, row: &Spoiled, image: &[u8]) -> Result<&'static str, NoMemory> {
+    let ran = call(alloc, &["run"], image, b"list /q\n")?;
+    wrong_in_end(alloc, row, image, &ran)
+}
+
+/// What of a check and a run on the image of the row is not as the row says, if anything is.
+fn wrong_in_image(alloc: Global, row: &Spoiled, image: &[u8]) -> Result<&'static str, NoMemory> {
+    let wrong = wrong_in_check(alloc, row, image)?;
     if wrong.is_empty() {
-        wrong_in_run(alloc, row, &image, status)
+        wrong_in_run(alloc, row, image)
     } else {
         Ok(wrong)
     }
+}
+
+/// What of the image of the row is not as the row says, if anything is.
+fn wrong_in(alloc: Global, row: &Spoiled) -> Result<&'static str, NoMemory> {
+    let image = spoil(alloc, row)?;
+    wrong_in_image(alloc, row, &image)
 }
 
 #[test]

@@ -1,10 +1,12 @@
 //! Scripts on the image of the empty tree: the replies, the calls of the disk, and the image that is left.
 
 use super::support::{
-    COUNTING, FLAT, FOUR, Format, LEAST, ZEROS, call, first_false, image_of, is_left,
+    COUNTING, Ended, FLAT, FOUR, Format, LEAST, ZEROS, call, first_false, image_of, is_left,
+    is_reported,
 };
 use std::alloc::Global;
 use std::test::Fail;
+use store_base::NoMemory;
 
 /// A script on the image of the empty tree, and what is wanted of it.
 struct Row {
@@ -307,20 +309,45 @@ static ROWS: [Row; 29] = [
     },
 ];
 
+/// What of the answers of this run is not as the row says, if anything is.
+fn wrong_in_answers(row: &Row, ran: &Ended) -> &'static str {
+    let [lines, writes, syncs] = row.calls;
+    first_false(&[
+        ("status", ran.status == 0),
+        ("replies", ran.written() == row.replies.as_bytes()),
+        ("lines", ran.done == lines),
+        ("writes", ran.disk.write_count() == writes),
+        ("syncs", ran.disk.sync_count() == syncs),
+    ])
+}
+
+/// What of the image that is left is not as the row says, if anything is.
+fn wrong_in_left(alloc: Global, row: &Row, left: &[u8]) -> Result<&'static str, NoMemory> {
+    let is_reported = is_reported(alloc, left, row.report)?;
+    let is_same = is_left(alloc, &row.format, row.same, left)?;
+    Ok(first_false(&[("report", is_reported), ("image", is_same)]))
+}
+
+/// What of this run is not as the row says, if anything is.
+fn wrong_in_end(alloc: Global, row: &Row, ran: &Ended) -> Result<&'static str, NoMemory> {
+    let wrong = wrong_in_answers(row, ran);
+    if wrong.is_empty() {
+        wrong_in_left(alloc, row, ran.disk.bytes())
+    } else {
+        Ok(wrong)
+    }
+}
+
+/// What of the script of the row on this image is not as the row says, if anything is.
+fn wrong_on(alloc: Global, row: &Row, empty: &[u8]) -> Result<&'static str, NoMemory> {
+    let ran = call(alloc, &["run"], empty, row.script.as_bytes())?;
+    wrong_in_end(alloc, row, &ran)
+}
+
 /// What of the script of the row is not as the row says, if anything is.
-fn wrong_in(alloc: Global, row: &Row) -> Result<&'static str, Fail> {
+fn wrong_in(alloc: Global, row: &Row) -> Result<&'static str, NoMemory> {
     let empty = image_of(alloc, &row.format, b"")?;
-    let ran = call(alloc, &["run"], &empty, row.script.as_bytes())?;
-    let calls = [ran.done, ran.disk.write_count(), ran.disk.sync_count()];
-    let checked = call(alloc, &["check"], ran.disk.bytes(), b"")?;
-    let is_same = is_left(alloc, &row.format, row.same, ran.disk.bytes())?;
-    Ok(first_false(&[
-        ("status", ran.status.code() == 0),
-        ("replies", ran.sink.written() == row.replies.as_bytes()),
-        ("calls", calls == row.calls),
-        ("report", checked.sink.written() == row.report.as_bytes()),
-        ("image", is_same),
-    ]))
+    wrong_on(alloc, row, &empty)
 }
 
 #[test]
@@ -376,29 +403,56 @@ static LONG_ROWS: [LongRow; 3] = [
     },
 ];
 
-/// The texts, each so many times, one behind the other.
-fn text_of(alloc: Global, parts: &[(&str, usize)]) -> Result<Vec<u8>, Fail> {
-    let mut text = Vec::new(alloc);
+/// Adds the texts, each so many times.
+fn add_texts(text: &mut Vec<u8>, parts: &[(&str, usize)]) -> Result<(), NoMemory> {
     for (part, times) in parts {
         for _ in 0..*times {
             text.extend_from_slice(part.as_bytes())?;
         }
     }
+    Ok(())
+}
+
+/// The texts, each so many times, one behind the other.
+fn text_of(alloc: Global, parts: &[(&str, usize)]) -> Result<Vec<u8>, NoMemory> {
+    let mut text = Vec::new(alloc);
+    add_texts(&mut text, parts)?;
     Ok(text)
 }
 
+/// Whether the run wrote what the row says, and carried out as many lines.
+fn is_replied(alloc: Global, row: &LongRow, ran: &Ended) -> Result<bool, NoMemory> {
+    let replies = text_of(alloc, row.replies)?;
+    Ok(ran.done == row.done && ran.written() == replies.as_slice())
+}
+
+/// Whether this script of the row, on the image of the empty tree, is answered as the row says.
+fn is_script_answered(
+    alloc: Global,
+    row: &LongRow,
+    empty: &[u8],
+    script: &[u8],
+) -> Result<bool, NoMemory> {
+    let ran = call(alloc, &["run"], empty, script)?;
+    is_replied(alloc, row, &ran)
+}
+
+/// Whether the script of the row, on this image, is answered as the row says.
+fn is_answered_on(alloc: Global, row: &LongRow, empty: &[u8]) -> Result<bool, NoMemory> {
+    let script = text_of(alloc, row.script)?;
+    is_script_answered(alloc, row, empty, &script)
+}
+
 /// Whether the script of the row is answered as the row says.
-fn is_answered(alloc: Global, empty: &[u8], row: &LongRow) -> Result<bool, Fail> {
-    let (script, replies) = (text_of(alloc, row.script)?, text_of(alloc, row.replies)?);
-    let ran = call(alloc, &["run"], empty, &script)?;
-    Ok(ran.done == row.done && ran.sink.written() == replies.as_slice())
+fn is_answered(alloc: Global, row: &LongRow) -> Result<bool, NoMemory> {
+    let empty = image_of(alloc, &FLAT, b"")?;
+    is_answered_on(alloc, row, &empty)
 }
 
 #[test]
 fn long_lines_are_answered(rt: HostRuntime) -> Result<(), Fail> {
-    let empty = image_of(rt.alloc(), &FLAT, b"")?;
     for row in &LONG_ROWS {
-        let holds = is_answered(rt.alloc(), &empty, row)?;
+        let holds = is_answered(rt.alloc(), row)?;
         assert!(rt; holds, "{} lines", row.done);
     }
     Ok(())

@@ -1,10 +1,14 @@
 //! Scrubs and wipes: what they print, write and leave, and what the next one makes of what a crash left of them.
 
-use super::images::{DAMAGED, NOT_IMAGE, ONE_DIRECTORY, Spoiled, TWO_PAGES, spoil};
-use super::support::{CHOICES, LEAST, MOST_CALLS, call, crash, first_false, image_of};
+use super::crashes::{Next, torn_at};
+use super::images::{ONE_DIRECTORY, Spoiled, TWO_PAGES, spoil};
+use super::support::{
+    CHOICES, DAMAGED, Ended, LEAST, NOT_IMAGE, call, crash, first_false, image_of, is_reported,
+};
 use disk_model::StopChoice;
 use std::alloc::Global;
 use std::test::Fail;
+use store_base::NoMemory;
 
 /// An image, and what comes of it where it is scrubbed.
 struct Scrubbing {
@@ -85,36 +89,46 @@ static SCRUBBINGS: [Scrubbing; 8] = [
     },
 ];
 
-/// The image of the row, and what a scrub leaves of it.
-fn images_of(alloc: Global, row: &Scrubbing) -> Result<(Vec<u8>, Vec<u8>), Fail> {
-    let image = spoil(alloc, &row.image)?;
-    let left = match row.tree {
-        Some(script) => image_of(alloc, &row.image.format, script.as_bytes())?,
-        None => Vec::from_slice(alloc, &image)?,
-    };
-    Ok((image, left))
+/// What a scrub leaves of this image of the row.
+fn left_of(alloc: Global, row: &Scrubbing, image: &[u8]) -> Result<Vec<u8>, NoMemory> {
+    match row.tree {
+        Some(script) => image_of(alloc, &row.image.format, script.as_bytes()),
+        None => Ok(Vec::from_slice(alloc, image)?),
+    }
 }
 
-/// What of a scrub of these bytes is not as the row says, if anything is, where it makes so many writes and syncs and
-/// leaves durably what is wanted.
+/// What of this scrub is not as the row says, if anything is, where it makes so many writes and syncs.
+fn wrong_in_end(row: &Scrubbing, scrubbed: &Ended, calls: [u64; 2]) -> &'static str {
+    first_false(&[
+        ("status of a scrub", scrubbed.status == row.status),
+        (
+            "report of a scrub",
+            scrubbed.written() == row.report.as_bytes(),
+        ),
+        ("writes of a scrub", scrubbed.disk.write_count() == calls[0]),
+        ("syncs of a scrub", scrubbed.disk.sync_count() == calls[1]),
+    ])
+}
+
+/// Whether a crash behind this scrub leaves what is wanted.
+fn leaves(scrubbed: Ended, wanted: &[u8]) -> bool {
+    let left = scrubbed.into_left(StopChoice::Fill(0xA5));
+    left.bytes() == wanted
+}
+
+/// What of a scrub of these bytes is not as the row says, if anything is, where it makes so many writes and syncs and leaves
+/// durably what is wanted.
 fn wrong_in_scrub(
     alloc: Global,
     row: &Scrubbing,
     bytes: &[u8],
     calls: [u64; 2],
     wanted: &[u8],
-) -> Result<&'static str, Fail> {
+) -> Result<&'static str, NoMemory> {
     let scrubbed = call(alloc, &["scrub"], bytes, b"")?;
-    let is_status = scrubbed.status.code() == row.status;
-    let is_report = scrubbed.sink.written() == row.report.as_bytes();
-    let made = [scrubbed.disk.write_count(), scrubbed.disk.sync_count()];
-    let left = scrubbed.disk.stopped(StopChoice::Fill(0xA5));
-    Ok(first_false(&[
-        ("status of a scrub", is_status),
-        ("report of a scrub", is_report),
-        ("calls of a scrub", made == calls),
-        ("what a scrub leaves", left.bytes() == wanted),
-    ]))
+    let wrong = wrong_in_end(row, &scrubbed, calls);
+    let is_left = leaves(scrubbed, wanted);
+    Ok(first_false(&[(wrong, wrong.is_empty()), ("what a scrub leaves", is_left)]))
 }
 
 /// What of these bytes is not as the row says, if anything is, where a scrub leaves what is wanted: what `check` finds, the
@@ -124,10 +138,8 @@ fn wrong_in_bytes(
     row: &Scrubbing,
     bytes: &[u8],
     wanted: &[u8],
-) -> Result<&'static str, Fail> {
-    let is_reported = call(alloc, &["check"], bytes, b"")?.sink.written()
-        == row.image.report.as_bytes();
-    if !is_reported {
+) -> Result<&'static str, NoMemory> {
+    if !is_reported(alloc, bytes, row.image.report)? {
         return Ok("report of check");
     }
     let wrong = wrong_in_scrub(alloc, row, bytes, row.calls, wanted)?;
@@ -137,10 +149,16 @@ fn wrong_in_bytes(
     wrong_in_scrub(alloc, row, wanted, [0, row.calls[1].min(2)], wanted)
 }
 
+/// What of this image of the row is not as it says, if anything is.
+fn wrong_in_image(alloc: Global, row: &Scrubbing, image: &[u8]) -> Result<&'static str, NoMemory> {
+    let left = left_of(alloc, row, image)?;
+    wrong_in_bytes(alloc, row, image, &left)
+}
+
 /// What of the row is not as it says, if anything is.
-fn wrong_in(alloc: Global, row: &Scrubbing) -> Result<&'static str, Fail> {
-    let (image, left) = images_of(alloc, row)?;
-    wrong_in_bytes(alloc, row, &image, &left)
+fn wrong_in(alloc: Global, row: &Scrubbing) -> Result<&'static str, NoMemory> {
+    let image = spoil(alloc, &row.image)?;
+    wrong_in_image(alloc, row, &image)
 }
 
 #[test]
@@ -152,33 +170,26 @@ fn images_are_scrubbed(rt: HostRuntime) -> Result<(), Fail> {
     Ok(())
 }
 
-/// The first call of the disk at which a crash of this word, with this choice of what it leaves, keeps the next call with
-/// the word from leaving what is wanted; none where there is no such call.
-fn torn_at(
+/// The first call at which a crash of a scrub of this image of the row keeps the next scrub from leaving what is wanted.
+fn torn_in_image(
     alloc: Global,
-    word: &str,
-    bytes: &[u8],
-    wanted: &[u8],
+    row: &Scrubbing,
+    image: &[u8],
     choice: StopChoice,
-) -> Result<Option<u64>, Fail> {
-    for from in 0..MOST_CALLS {
-        let crashed = crash(alloc, word, bytes, b"", from)?;
-        let is_last = crashed.status != 5;
-        let again = call(alloc, &[word], crashed.disk.stopped(choice).bytes(), b"")?;
-        if again.disk.bytes() != wanted {
-            return Ok(Some(from));
-        }
-        if is_last {
-            return Ok(None);
-        }
-    }
-    Ok(Some(MOST_CALLS))
+) -> Result<Option<u64>, NoMemory> {
+    let left = left_of(alloc, row, image)?;
+    let next = Next {
+        word: "scrub",
+        status: row.status,
+        bytes: &left,
+    };
+    torn_at(alloc, image, choice, &next)
 }
 
 /// The first call at which a crash of a scrub of the row keeps the next scrub from leaving what is wanted.
-fn torn_in(alloc: Global, row: &Scrubbing, choice: StopChoice) -> Result<Option<u64>, Fail> {
-    let (image, left) = images_of(alloc, row)?;
-    torn_at(alloc, "scrub", &image, &left, choice)
+fn torn_in(alloc: Global, row: &Scrubbing, choice: StopChoice) -> Result<Option<u64>, NoMemory> {
+    let image = spoil(alloc, &row.image)?;
+    torn_in_image(alloc, row, &image, choice)
 }
 
 #[test]
@@ -198,35 +209,40 @@ fn is_whole_or_none(
     bytes: &[u8],
     from: u64,
     choice: StopChoice,
-) -> Result<bool, Fail> {
-    let crashed = crash(alloc, "wipe", bytes, b"", from)?;
-    let left = crashed.disk.stopped(choice);
+) -> Result<bool, NoMemory> {
+    let left = crash(alloc, "wipe", bytes, b"", from)?.into_left(choice);
     let is_kept = !bytes.is_empty() && left.bytes().ends_with(&bytes[1..]);
     Ok(is_kept || left.bytes().starts_with(&[0]))
 }
 
-/// The first call of the disk at which a crash of a wipe of these bytes, with this choice of what it leaves, leaves a torn
-/// image, or keeps the next wipe from leaving zeros, of which there are as many; none where there is no such call.
-fn torn_in_wipe(
-    alloc: Global,
-    bytes: &[u8],
-    zeros: &[u8],
-    choice: StopChoice,
-) -> Result<Option<u64>, Fail> {
+/// The first call of the disk at which a crash of a wipe of this image of one slot, with this choice of what it leaves, leaves
+/// a torn image, or keeps the next wipe from leaving zeros; none where there is no such call.
+fn torn_in_wipe(alloc: Global, image: &[u8], choice: StopChoice) -> Result<Option<u64>, NoMemory> {
     // A byte and a sync, five blocks and a sync: from call 8 on none is left to fail.
     for from in 0..9 {
-        if !is_whole_or_none(alloc, bytes, from, choice)? {
+        if !is_whole_or_none(alloc, image, from, choice)? {
             return Ok(Some(from));
         }
     }
-    torn_at(alloc, "wipe", bytes, zeros, choice)
+    let zeros = [0; 20_480];
+    let next = Next {
+        word: "wipe",
+        status: 0,
+        bytes: &zeros,
+    };
+    torn_at(alloc, image, choice, &next)
+}
+
+/// The same where the image is that of one directory.
+fn torn_in_wiped_directory(alloc: Global, choice: StopChoice) -> Result<Option<u64>, NoMemory> {
+    let image = image_of(alloc, &LEAST, b"make /a\n")?;
+    torn_in_wipe(alloc, &image, choice)
 }
 
 #[test]
 fn a_crash_in_a_wipe_leaves_no_torn_image(rt: HostRuntime) -> Result<(), Fail> {
-    let image = image_of(rt.alloc(), &LEAST, b"make /a\n")?;
     for choice in &CHOICES {
-        let torn = torn_in_wipe(rt.alloc(), &image, &[0; 20_480], *choice)?;
+        let torn = torn_in_wiped_directory(rt.alloc(), *choice)?;
         assert_eq!(rt; torn, None, "{choice:?}");
     }
     Ok(())
