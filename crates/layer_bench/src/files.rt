@@ -10,7 +10,7 @@ use std::alloc::Global;
 use std::collections::BTreeMap;
 use std::io;
 use std::time::Duration;
-use store_base::{Answer, Bytes, Fault, Key, Value};
+use store_base::{Answer, Bytes, Fault, Key, NoMemory, Value};
 use subtree_move::{prune, rename};
 
 /// The bytes of each file.
@@ -19,8 +19,42 @@ const FILE_LEN: u32 = 4096;
 /// How many pairs each file has: one of its own, and one for each 256 bytes.
 const FILE_PAIRS: u32 = 17;
 
-/// What is timed: the names of the five kinds of calls.
-const KINDS: [&str; 5] = ["write", "read", "list", "rename", "prune"];
+/// A kind of call.
+#[derive(Clone, Copy)]
+enum Call {
+    /// Writes each file into the directory `/d`.
+    Write,
+    /// Reads each file.
+    Read,
+    /// Lists the directory.
+    List,
+    /// Moves the directory to `/e`.
+    Rename,
+    /// Prunes that.
+    Prune,
+}
+
+/// Each kind of call, in the order in which they are made.
+const CALLS: [Call; 5] = [
+    Call::Write,
+    Call::Read,
+    Call::List,
+    Call::Rename,
+    Call::Prune,
+];
+
+impl Call {
+    /// The word for it.
+    fn name(self) -> &'static str {
+        match self {
+            Call::Write => "write",
+            Call::Read => "read",
+            Call::List => "list",
+            Call::Rename => "rename",
+            Call::Prune => "prune",
+        }
+    }
+}
 
 /// What a call answers that is not refused and meets no fault.
 fn done<T: Drop>(outcome: Result<Answer<T>, Fault>) -> io::Result<T> {
@@ -58,32 +92,19 @@ fn read_files(pairs: &mut UnseenPairs, files: &[Path]) -> io::Result<()> {
     Ok(())
 }
 
-/// How long it takes to write the files into the directory `/d`, to read them, to list them, to move the directory to
-/// `/e`, and to prune that.
-fn time_calls(
-    rt: &HostRuntime,
-    pairs: &mut UnseenPairs,
-    files: &[Path],
-) -> io::Result<[Duration; 5]> {
+/// Makes the calls of a kind on a list that holds the directory `/d`.
+fn call_list(alloc: Global, pairs: &mut UnseenPairs, call: Call, files: &[Path]) -> io::Result<()> {
     let (from, to) = (path_of("/d")?, path_of("/e")?);
-    done(make(pairs, &from))?;
-    let mut watch = Stopwatch::start(rt)?;
-    write_files(pairs, files)?;
-    let written = watch.lap(rt)?;
-    read_files(pairs, files)?;
-    let read = watch.lap(rt)?;
-    done(list(rt.alloc(), pairs, &from))?;
-    let listed = watch.lap(rt)?;
-    done(rename(pairs, &from, &to))?;
-    let renamed = watch.lap(rt)?;
-    done(prune(pairs, &to))?;
-    Ok([written, read, listed, renamed, watch.lap(rt)?])
-}
-
-/// The same on a list of its own.
-fn time_list(rt: &HostRuntime, files: &[Path]) -> io::Result<[Duration; 5]> {
-    let mut pairs = UnseenPairs::new(rt.alloc()).map_err(no_memory)?;
-    time_calls(rt, &mut pairs, files)
+    match call {
+        Call::Write => write_files(pairs, files),
+        Call::Read => read_files(pairs, files),
+        Call::List => {
+            done(list(alloc, pairs, &from))?;
+            Ok(())
+        }
+        Call::Rename => done(rename(pairs, &from, &to)),
+        Call::Prune => done(prune(pairs, &to)),
+    }
 }
 
 /// Puts the pairs of the files into a map.
@@ -110,8 +131,8 @@ fn copy_files(map: &BTreeMap<Key, Value>, files: &[Path]) -> io::Result<usize> {
 }
 
 /// Looks for the first pair of each file, and answers how many are there.
-fn find_files(map: &BTreeMap<Key, Value>, files: &[Path]) -> u32 {
-    let mut found = 0u32;
+fn find_files(map: &BTreeMap<Key, Value>, files: &[Path]) -> usize {
+    let mut found = 0usize;
     for file in files {
         if map.get(&file.key(0)).is_some() {
             found = found.saturating_add(1);
@@ -144,22 +165,76 @@ fn remove_files(map: &mut BTreeMap<Key, Value>, files: &[Path]) {
     }
 }
 
-/// How long the same takes with the same keys in std's ordered map, made bare.
-fn time_map(rt: &HostRuntime, files: &[Path], others: &[Path]) -> io::Result<[Duration; 5]> {
-    let mut map = BTreeMap::new(rt.alloc());
+/// Does the same with the same keys in std's ordered map, made bare. Answers how many bytes were copied, or how many files
+/// were found.
+fn call_map(
+    map: &mut BTreeMap<Key, Value>,
+    call: Call,
+    files: &[Path],
+    others: &[Path],
+) -> io::Result<usize> {
+    match call {
+        Call::Write => put_files(map, files)?,
+        Call::Read => return copy_files(map, files),
+        Call::List => return Ok(find_files(map, files)),
+        Call::Rename => move_files(map, files, others)?,
+        Call::Prune => remove_files(map, others),
+    }
+    Ok(0)
+}
+
+/// Times the calls of a kind on the list and on std's ordered map, and prints both times. Answers what the map answers.
+fn time_call(
+    rt: &HostRuntime,
+    pairs: &mut UnseenPairs,
+    map: &mut BTreeMap<Key, Value>,
+    call: Call,
+    files: &[Path],
+    others: &[Path],
+) -> io::Result<usize> {
     let mut watch = Stopwatch::start(rt)?;
-    put_files(&mut map, files)?;
-    let written = watch.lap(rt)?;
-    let len = copy_files(&map, files)?;
-    let read = watch.lap(rt)?;
-    let found = find_files(&map, files);
-    let listed = watch.lap(rt)?;
-    move_files(&mut map, files, others)?;
-    let renamed = watch.lap(rt)?;
-    remove_files(&mut map, others);
-    let removed = watch.lap(rt)?;
-    println!(rt; "{found} files with {len} bytes in their pairs are moved")?;
-    Ok([written, read, listed, renamed, removed])
+    call_list(rt.alloc(), pairs, call, files)?;
+    let time = watch.lap(rt)?;
+    let answer = call_map(map, call, files, others)?;
+    print_call(rt, call, time, watch.lap(rt)?)?;
+    Ok(answer)
+}
+
+/// Prints how long the calls of a kind took.
+fn print_call(rt: &HostRuntime, call: Call, time: Duration, bare: Duration) -> io::Result<()> {
+    eprintln!(rt;
+        "  {} {} us, std's ordered map {} us: {}",
+        call.name(),
+        time.as_micros(),
+        bare.as_micros(),
+        Ratio::new(time, bare)
+    )
+}
+
+/// Times the calls of each kind on the list and on std's ordered map, and prints what was found.
+fn time_calls(
+    rt: &HostRuntime,
+    pairs: &mut UnseenPairs,
+    map: &mut BTreeMap<Key, Value>,
+    files: &[Path],
+    others: &[Path],
+) -> io::Result<()> {
+    done(make(pairs, &path_of("/d")?))?;
+    let mut answers = [0; 5];
+    for (i, call) in CALLS.iter().enumerate() {
+        answers[i] = time_call(rt, pairs, map, *call, files, others)?;
+    }
+    let [_, len, found, _, _] = answers;
+    println!(rt; "{found} files with {len} bytes in their pairs are moved")
+}
+
+/// Measures the calls on the files, on a list of their own.
+fn measure_calls(rt: &HostRuntime, files: &[Path], others: &[Path]) -> io::Result<()> {
+    let mut map = BTreeMap::new(rt.alloc());
+    let Ok(mut pairs) = UnseenPairs::new(rt.alloc()) else {
+        return Err(no_memory(NoMemory));
+    };
+    time_calls(rt, &mut pairs, &mut map, files, others)
 }
 
 /// Measures the calls on so many files of 4,096 bytes in one directory, at most 10,000.
@@ -167,15 +242,5 @@ pub fn measure(rt: &HostRuntime, count: u32) -> io::Result<()> {
     let count = count.min(10_000);
     let files = paths_below(rt.alloc(), "/d", count)?;
     let others = paths_below(rt.alloc(), "/e", count)?;
-    let bare = time_map(rt, &files, &others)?;
-    let times = time_list(rt, &files)?;
-    for (i, name) in KINDS.iter().enumerate() {
-        eprintln!(rt;
-            "  {name} {} us, std's ordered map {} us: {}",
-            times[i].as_micros(),
-            bare[i].as_micros(),
-            Ratio::new(times[i], bare[i])
-        )?;
-    }
-    Ok(())
+    measure_calls(rt, &files, &others)
 }

@@ -2,7 +2,6 @@
 //! memory, as ratios to the same keys in std's ordered map. `store_bench` is the program.
 #![tactic(auto)]
 
-mod counted_pages;
 pub mod files;
 pub mod lists;
 mod paths;

@@ -1,8 +1,8 @@
 //! How long calls on a skip list take.
 
-use crate::counted_pages::CountedPages;
 use crate::paths::{path_of, scattered};
 use crate::{Ratio, Stopwatch};
+use base_tests::CountedPages;
 use seeded_draw::AnyDraw;
 use skip_levels::{OrderedPairs, SkipList};
 use std::alloc::Global;
@@ -37,6 +37,15 @@ impl Call {
             Call::Take => "take",
         }
     }
+}
+
+/// Calls that were timed: how many pairs were there, how long the calls on a list took, and how long those on std's
+/// ordered map.
+#[derive(Clone, Copy)]
+struct Timed {
+    found: u32,
+    time: Duration,
+    bare: Duration,
 }
 
 /// The key with this number. Of twenty keys three are those of a directory and of two directories in it, and the others
@@ -112,35 +121,41 @@ fn call_map_for_each(map: &mut BTreeMap<Key, Value>, call: Call, keys: &[Key]) -
     Ok(found)
 }
 
-/// Prints for calls of a kind the ratio of their times, the time of one, and how many pages one asks for on the average.
+/// Prints for calls of a kind how many pairs were there and how many pages there are, the ratio of their times, the time
+/// of one, and how many pages one asks for on the average.
 fn print_call(
     rt: &HostRuntime,
+    pages: &mut CountedPages,
     call: Call,
     calls: usize,
-    times: (Duration, Duration),
-    lookups: u64,
+    timed: Timed,
 ) -> io::Result<()> {
+    println!(rt;
+        "{}: {} pairs, {} pages",
+        call.name(),
+        timed.found,
+        pages.len()
+    )?;
     let calls = calls.max(1) as u128;
-    let tenths = u128::from(lookups) * 10 / calls;
+    let tenths = u128::from(pages.lookups()) * 10 / calls;
     eprintln!(rt;
         "  {}: {}, {} ns, {}.{} pages asked for",
         call.name(),
-        Ratio::new(times.0, times.1),
-        times.0.as_nanos() / calls,
+        Ratio::new(timed.time, timed.bare),
+        timed.time.as_nanos() / calls,
         tenths / 10,
         tenths % 10
     )
 }
 
-/// Makes calls of a kind for each key, on a list and on std's ordered map, and answers how many pairs were there, and both
-/// times.
+/// Times calls of a kind for each key, on a list and on std's ordered map.
 fn time_call(
     rt: &HostRuntime,
     list: &mut List,
     map: &mut BTreeMap<Key, Value>,
     call: Call,
     keys: &[Key],
-) -> io::Result<(u32, (Duration, Duration))> {
+) -> io::Result<Timed> {
     let mut watch = Stopwatch::start(rt)?;
     let Ok(found) = call_list_for_each(list, call, keys) else {
         return Err(io::ErrorKind::OutOfMemory.into());
@@ -151,7 +166,7 @@ fn time_call(
     if found != found_bare {
         return Err(io::ErrorKind::InvalidData.into());
     }
-    Ok((found, (time, bare)))
+    Ok(Timed { found, time, bare })
 }
 
 /// Makes calls of a kind for each key, on a list over the pages and on std's ordered map, and prints their times. The pages
@@ -165,12 +180,24 @@ fn measure_call(
     keys: &[Key],
 ) -> io::Result<CountedPages> {
     let mut list = SkipList::new(rt.alloc(), pages, draw);
-    let (found, times) = time_call(rt, &mut list, map, call, keys)?;
+    let timed = time_call(rt, &mut list, map, call, keys);
     let mut pages = list.into_pages();
-    let lookups = pages.lookups();
-    println!(rt; "{}: {found} pairs, {} pages", call.name(), pages.len())?;
-    print_call(rt, call, keys.len(), times, lookups)?;
+    print_call(rt, &mut pages, call, keys.len(), timed?)?;
     Ok(pages)
+}
+
+/// Makes the calls of each kind on a list of their own and on std's ordered map, and prints their times.
+fn measure_calls(
+    rt: &HostRuntime,
+    map: &mut BTreeMap<Key, Value>,
+    draw: AnyDraw,
+    keys: &[Key],
+) -> io::Result<()> {
+    let mut pages = CountedPages::new(rt.alloc());
+    for call in [Call::Put, Call::Get, Call::Next, Call::Take] {
+        pages = measure_call(rt, pages, map, draw, call, keys)?;
+    }
+    Ok(())
 }
 
 /// Measures the calls on a list of these keys with so many levels.
@@ -178,14 +205,9 @@ fn measure_levels(rt: &HostRuntime, keys: &[Key], height: u8) -> io::Result<()> 
     let Ok(params) = Params::new(1, height, DrawKind::Sha256, [0; 32]) else {
         return Err(io::ErrorKind::InvalidInput.into());
     };
-    let draw = AnyDraw::new(&params);
-    let mut pages = CountedPages::new(rt.alloc());
-    let mut map = BTreeMap::new(rt.alloc());
     println!(rt; "{} keys on {height} levels", keys.len())?;
-    for call in [Call::Put, Call::Get, Call::Next, Call::Take] {
-        pages = measure_call(rt, pages, &mut map, draw, call, keys)?;
-    }
-    Ok(())
+    let mut map = BTreeMap::new(rt.alloc());
+    measure_calls(rt, &mut map, AnyDraw::new(&params), keys)
 }
 
 /// Measures the calls on lists of so many keys, at most 1,000,000, with three, four and five levels.

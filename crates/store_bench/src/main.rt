@@ -5,7 +5,6 @@
 //! | `build PAGES` | layouts from nothing | sorting the same keys |
 //! | `files COUNT` | files in a list in memory: written, read, listed, moved, pruned | the same keys in std's ordered map |
 //! | `lists COUNT` | the calls on a skip list over pages in memory | the same keys in std's ordered map |
-//! | `run LINES` | a run | its writes and syncs |
 //! | `table SLOTS` | the calls on an ordered table | their reads and writes of slots |
 //!
 //! What was done is printed to standard output, and the times, which differ from one time to the next, to standard error.
@@ -14,7 +13,6 @@
 
 mod build;
 mod image;
-mod run;
 mod table;
 
 use layer_bench::{files, lists};
@@ -37,7 +35,6 @@ fn measure(rt: &HostRuntime, word: &str, number: u32) -> io::Result<bool> {
         "files" => files::measure(rt, number),
         "image" => image::write(rt, number),
         "lists" => lists::measure(rt, number),
-        "run" => run::measure(rt, number),
         "table" => table::measure(rt, number),
         _ => return Ok(false),
     };

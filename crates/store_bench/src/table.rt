@@ -201,17 +201,17 @@ fn insertion(
     beside(rt, slots, draw, from, reads, before, calls)
 }
 
-/// Times a removal of the page of the label.
+/// Times a removal of the page of a label that is there.
 fn removal(
     rt: &HostRuntime,
     slots: &mut MemSlots,
     draw: &AnyDraw,
-    label: &Label,
+    there: &Label,
 ) -> io::Result<Times>
     requires count { (mem_state slots.old).count ≡ (any_draw draw.now).slots }
     ensures { (mem_state slots.new).count ≡ (any_draw draw.now).slots }
 {
-    let found = look_for::<Brand>(slots, draw, label, Blank::new(1)).map_err(broken)?;
+    let found = look_for::<Brand>(slots, draw, there, Blank::new(1)).map_err(broken)?;
     let Some(at) = found else {
         return Err(io::ErrorKind::NotFound.into());
     };
