@@ -24,7 +24,8 @@ enum Call {
 }
 
 /// Calls on one file, one behind the other.
-static CALLS: [Call; 11] = [
+static CALLS: [Call; 12] = [
+    Call::Stands(Kind::Absent),
     Call::Write(1, &[0], Err(Refusal::Gap)),
     Call::Write(0, &[], Ok(())),
     Call::Stands(Kind::File(0)),
@@ -69,6 +70,7 @@ fn small_files(rt: HostRuntime) {
         );
     }
     assert_eq!(rt; list.len(), 2);
+    assert!(rt; kind_of(&mut list, &Path::root()) == Ok(Kind::Dir));
     assert!(rt; cut(&mut list, &Path::root(), 0) == Ok(Err(Refusal::Kind)));
 }
 
