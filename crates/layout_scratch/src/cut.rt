@@ -35,7 +35,7 @@ fn cut_level(
     while start < ranked.len() {
         let group = first_group(level, &ranked[start..]);
         let cells = cells_of_group(alloc, level, group)?;
-        append_group(pages, level, &lead_of_group(level, group), &cells)?;
+        append_group(pages, &lead_of_group(level, group), &cells)?;
         start += group.len();
     }
     Ok(())

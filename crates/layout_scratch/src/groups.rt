@@ -70,13 +70,12 @@ fn cell(level: u8, pair: &(Key, Value)) -> Result<Cell, NoMemory>
 
 /// The cells of a group.
 pub fn cells_of_group(alloc: Global, level: u8, group: &[Ranked]) -> Result<Cells, NoMemory>
-    ensures value { IfOk result (λ cells. cells ≡ cells_on level group.now) }
-    ensures each { IfOk result (AllByRecursion (IsCell level)) }
+    ensures { IfOk result (λ cells. cells ≡ record { level = level; cells = cells_on level group.now }) }
 {
-    let mut cells = Cells::new(alloc);
+    let mut cells = Cells::new(alloc, level);
     for ranked in group {
         if level <= ranked.level {
-            cells.push(cell(level, ranked.pair)?)?;
+            cells.push(&cell(level, ranked.pair)?)?;
         }
     }
     Ok(cells)

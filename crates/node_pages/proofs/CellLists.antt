@@ -27,6 +27,10 @@ pub key_within : (level : ℕ) → 124 ≤ cell_size level
 key_within zero = omega arith
 key_within (suc level) = omega arith
 
+pub size_most : (level : ℕ) → cell_size level ≤ 382
+size_most zero = omega arith
+size_most (suc level) = omega arith
+
 -- the next cell and those behind it
 pub next_cell : (level count done : ℕ) (bytes last rest cell after key : List ℕ) → done < count → GoesOn level count done bytes last rest
     → cell ≡ take (cell_size level) rest → after ≡ drop (cell_size level) rest → key ≡ take 124 cell

@@ -1,6 +1,5 @@
 -- Pages and their slots: what stands where in a slot, and that a slot is one page's alone.
-use Rattle.std.proofs.Common.{◌≡◌, ℕ, zero, suc, ◌+◌, ◌-◌, ◌*◌, ◌≤◌, ◌<◌, Bool, List, [], ◌∷◌, ◌++◌, map, length, take, drop, set, slice_index, refl, sym, ap, ap₂, subst, ◌∙◌, arith, append_assoc, length-append, cond, true, false, ◌==◌, Less, mul-suc, mul-le-mul_left, take-add, Some}
-use Rattle.std.specs.Prelude.{slice_get}
+use Rattle.std.proofs.Common.{◌≡◌, ℕ, zero, suc, ◌+◌, ◌-◌, ◌*◌, ◌≤◌, ◌<◌, Bool, List, [], ◌∷◌, ◌++◌, map, length, take, drop, set, slice_index, refl, sym, ap, ap₂, subst, ◌∙◌, arith, append_assoc, length-append, cond, true, false, ◌==◌, Less, mul-suc, take-add}
 use Rattle.std.specs.List.{flat_map, AllByRecursion}
 use Rattle.std.specs.List.Sorted.{IsStrictlySortedBy}
 use Rattle.std.specs.Cmp.Lexicographic.{nat_list_cmp_total}
@@ -239,33 +238,6 @@ shown page slot is spells =
       cells = cells_spelled page slot is spells;
       read = page_in-page_bytes page slot is.label is.cells spells;
     }
-
--- ---- one cell of a page
-
--- cell i of some that are spelled
-pub nth_cell : (level count i : ℕ) (last bytes : List ℕ) → SpellsRising level last count bytes → i < count
-    → SpellsCell level (take (cell_size level) (drop (cell_size level * i) bytes)) × (slice_get (cells_in level count bytes) i ≡ Some (cell_in level (take (cell_size level) (drop (cell_size level * i) bytes))))
-unfolding SpellsRising cells_in
-nth_cell level zero i last bytes spells below = absurd (omega arith)
-nth_cell level (suc count) zero last bytes spells below =
-    let start : cell_size level * 0 ≡ 0 = omega arith in
-    let here : take (cell_size level) bytes ≡ take (cell_size level) (drop (cell_size level * 0) bytes) = ap (λ n. take (cell_size level) (drop n bytes)) (sym start) in
-    (subst (SpellsCell level) here spells.0, ap (λ (b : List ℕ). Some (cell_in level b)) here)
-nth_cell level (suc count) (suc i) last bytes spells below =
-    let size = cell_size level in
-    let rest = nth_cell level count i (take 124 bytes) (drop size bytes) spells.2 (omega arith) in
-    let there : take size (drop (size * i) (drop size bytes)) ≡ take size (drop (size * suc i) bytes) = ap (take size) (drop-drop (size * i) size bytes ∙ ap (λ n. drop n bytes) (let sum : size + size * i ≡ size * suc i = omega arith in sum)) in
-    (subst (SpellsCell level) there rest.0, rest.1 ∙ ap (λ (b : List ℕ). Some (cell_in level b)) there)
-
--- where cell i lies
-pub cell_within : (level count i : ℕ) (area : List ℕ) → count ≤ page_room level → i < count → length area ≡ 3964 → cell_size level * i + cell_size level ≤ length area
-cell_within level count i area room below long =
-    let more : cell_size level * suc i ≤ cell_size level * count = mul-le-mul_left (cell_size level) below in
-    omega (arith, more, mul-suc (cell_size level) i, cells_fit level count room)
-
--- a page's slot spells its cells
-pub spelled_in_slot : (label : Label) (slot : List ℕ) → IsSlotOf label slot → SpellsCells label.level (slice_index slot 131) (drop 132 slot)
-spelled_in_slot label slot is = cells_spelled (page_in label slot) slot is.page is.bytes
 
 -- ---- one cell more
 

@@ -1,15 +1,18 @@
 -- The runs of a group, one after the other.
-use Rattle.std.proofs.Common.{◌≡◌, ℕ, zero, suc, ◌+◌, ◌-◌, ◌*◌, ◌≤◌, ◌<◌, Bool, true, false, cond, List, [], ◌∷◌, ◌++◌, map, length, take, drop, get_or, refl, sym, ap, ap₂, subst, ◌∙◌, arith, append_assoc, take-add, ◌==◌}
-use Rattle.std.specs.List.{enumerate_from, AllByRecursion}
+use Rattle.std.proofs.Common.{◌≡◌, ℕ, zero, suc, ◌+◌, ◌-◌, ◌*◌, ◌≤◌, ◌<◌, Bool, true, false, cond, List, [], ◌∷◌, ◌++◌, map, min, length, take, drop, Some, mul-suc, refl, sym, ap, ap₂, subst, ◌∙◌, arith, ◌==◌}
+use Rattle.std.specs.Int.{div_ceil}
+use Rattle.std.specs.List.{slice_get, enumerate_from, AllByRecursion}
 use Rattle.std.specs.List.Sorted.{IsStrictlySortedBy}
-use Rattle.std.proofs.lemmas.List.{drop-drop, length-drop, length-take, take-append-drop, append-nil, map-append, take_more, length-take-le}
-use Rattle.std.proofs.lemmas.List.Elements.{All-get_or, All-from_recursion}
+use Rattle.std.proofs.lemmas.List.{drop-drop, length-drop, length-take, take-append-drop, map-append, length-map, take_min}
+use Rattle.std.proofs.lemmas.List.FromFn.{length-enumerate_from}
+use Rattle.std.proofs.lemmas.Slice.{between_is}
 use Rattle.store_model.specs.Lists.{numbers_from, run_count, run_at, runs}
-use Rattle.store_model.specs.Labels.{Lead, Label, IsLead}
+use Rattle.store_model.specs.Labels.{Lead, IsLead}
 use Rattle.store_model.specs.Paths.{key_cmp}
-use Rattle.store_model.specs.Pages.{Cell, Page, page_room, IsCell, IsPage, group_pages}
-use Rattle.store_model.proofs.ListsLemmas.{all_front, all_back, rising_front, rising_back}
+use Rattle.store_model.specs.Pages.{Cell, page_room, IsCell, IsPage, group_pages}
+use Rattle.store_model.proofs.ListsLemmas.{length-numbers_from, all_front, all_back, rising_front, rising_back}
 use Rattle.store_model.proofs.PagesLemmas.{some_room}
+use Rattle.node_pages.specs.Groups.{page_of_run, pages_from}
 
 -- the runs from a run on are those of the list from there on
 shifted : {A : Type 0} (n first count : ℕ) (xs : List A) → map (run_at n xs) (numbers_from (suc first) count) ≡ map (run_at n (drop n xs)) (numbers_from first count)
@@ -42,13 +45,7 @@ runs_none : (level : ℕ) → runs {A = Cell} (page_room level) [] ≡ []
 unfolding runs numbers_from
 runs_none level = ap (λ k. map (run_at (page_room level) []) (numbers_from 0 k)) (none (level == 0))
 
--- the page of a run
-abbrev pub page_of_run : ℕ → Lead → ℕ → List Cell → Page
-page_of_run level lead index run = record { label = record { level = level; lead = lead; index = index }; cells = run }
-
--- the pages of the rest of a group, numbered from an index on
-unfoldable pub pages_from : ℕ → Lead → ℕ → List Cell → List Page
-pages_from level lead index cells = map (λ run. page_of_run level lead run.0 run.1) (enumerate_from index (runs (page_room level) cells))
+-- ---- pages numbered from an index on
 
 pub all_pages : (level : ℕ) (lead : Lead) (cells : List Cell) → pages_from level lead 0 cells ≡ group_pages level lead cells
 unfolding pages_from group_pages
@@ -63,92 +60,81 @@ pub no_page : (level : ℕ) (lead : Lead) (index : ℕ) (cells : List Cell) → 
 unfolding pages_from
 no_page level lead index cells empty = ap (λ rs. map (λ run. page_of_run level lead run.0 run.1) (enumerate_from index rs)) (ap (runs (page_room level)) empty ∙ runs_none level)
 
--- ---- a page of a run, cell by cell
+-- ---- the page of one run
 
--- the page of a label and cells
-abbrev page_with : Label → List Cell → Page
-page_with label cells = record { label = label; cells = cells }
+-- it is the number of cells over the room of a page, rounded up
+pub div_ceil-room : (level n : ℕ) → div_ceil n (page_room level) ≡ run_count (page_room level) n
+div_ceil-room level n = elim (level == 0) as (λ b. div_ceil n (cond b 10 31) ≡ run_count (cond b 10 31) n) [ true ↦ omega arith | false ↦ omega arith ]
 
--- one cell on
-pub record IsNext (label : Label) (run : List Cell) (i : ℕ) (page : Page) (cell : Cell) : Type 0 where
-  pub cell_is : IsCell page.label.level cell
-  pub room : length page.cells < page_room page.label.level
-  pub rising : IsStrictlySortedBy key_cmp (map (λ c. c.key) (page.cells ++ cell ∷ []))
-  pub more : page_with page.label (page.cells ++ cell ∷ []) ≡ page_with label (take (i + 1) run)
+div_counted : (b : Bool) (count : ℕ) → run_count (cond b 10 31) count ≤ count
+div_counted true count = omega arith
+div_counted false count = omega arith
 
-next_at : (label : Label) (run : List Cell) (i : ℕ) (cell : Cell) → IsPage (page_with label run) → i < length run → cell ≡ get_or run i cell → IsNext label run i (page_with label (take i run)) cell
-next_at label run i cell is below cell_is =
-    let more : take i run ++ cell ∷ [] ≡ take (i + 1) run = ap (λ x. take i run ++ x ∷ []) cell_is ∙ sym (take_more run i cell below) in
-    let keys : List Cell → List (List ℕ) = map (λ c. c.key) in
-    let whole : keys run ≡ keys (take (i + 1) run) ++ keys (drop (i + 1) run) = ap keys (sym (take-append-drop (i + 1) run)) ∙ map-append (λ (c : Cell). c.key) (take (i + 1) run) (drop (i + 1) run) in
-    record {
-      cell_is = subst (IsCell label.level) (sym cell_is) (All-get_or (IsCell label.level) run i cell below (All-from_recursion (IsCell label.level) run is.cells));
-      room = omega (arith, length-take-le i run (omega arith), is.room);
-      rising = subst (λ xs. IsStrictlySortedBy key_cmp (keys xs)) (sym more) (rising_front key_cmp (keys (take (i + 1) run)) (keys (drop (i + 1) run)) (subst (IsStrictlySortedBy key_cmp) whole is.rising));
-      more = ap (page_with label) more;
-    }
+run_begins : (b : Bool) (count i : ℕ) → i < run_count (cond b 10 31) count → cond b 10 31 * i < count
+run_begins true count i within = omega arith
+run_begins false count i within = omega arith
 
-pub next : (label : Label) (run : List Cell) (i : ℕ) (page : Page) (cell : Cell) → IsPage (page_with label run) → page ≡ page_with label (take i run) → i < length run → cell ≡ get_or run i cell → IsNext label run i page cell
-next label run i page cell is page_is below cell_is = subst (λ p. IsNext label run i p cell) (sym page_is) (next_at label run i cell is below cell_is)
+pub length-runs : (level : ℕ) (cells : List Cell) → length (runs (page_room level) cells) ≡ run_count (page_room level) (length cells)
+unfolding runs
+length-runs level cells =
+    let count = run_count (page_room level) (length cells) in
+    length-map (numbers_from 0 count) (run_at (page_room level) cells) ∙ length-numbers_from 0 count
 
--- ---- a group, run by run
+pub room_most : (level : ℕ) → page_room level ≤ 31
+room_most level = elim (level == 0) as (λ b. cond b 10 31 ≤ 31) [ true ↦ omega arith | false ↦ omega arith ]
 
--- behind the pages of a front stand those of the group that are made, and the rest of the group makes the others
-pub record CutsOn (level : ℕ) (lead : Lead) (cells : List Cell) (front pages : List Page) (index : ℕ) (rest : List Cell) : Type 0 where
-  pub made : pages ≡ front ++ take index (group_pages level lead cells)
-  pub left : pages_from level lead index rest ≡ drop index (group_pages level lead cells)
-  pub each : AllByRecursion (IsCell level) rest
-  pub rising : IsStrictlySortedBy key_cmp (map (λ c. c.key) rest)
-  pub few : index + length rest < 4294967296
+-- there are no more runs than cells
+pub runs_few : (level : ℕ) (cells : List Cell) → length (runs (page_room level) cells) ≤ length cells
+runs_few level cells = omega (arith, length-runs level cells, div_counted (level == 0) (length cells))
 
-pub cut_none : (level : ℕ) (lead : Lead) (cells : List Cell) (front : List Page) → AllByRecursion (IsCell level) cells → IsStrictlySortedBy key_cmp (map (λ c. c.key) cells) → length cells < 4294967296 → CutsOn level lead cells front front 0 cells
-cut_none level lead cells front each rising few = record { made = sym (append-nil front); left = all_pages level lead cells; each = each; rising = rising; few = omega arith }
+-- a run begins within the cells
+pub run_within : (level i : ℕ) (cells : List Cell) → i < length (runs (page_room level) cells) → page_room level * i < length cells
+run_within level i cells within = run_begins (level == 0) (length cells) i (omega (arith, within, length-runs level cells))
 
-pub cut_all : (level : ℕ) (lead : Lead) (cells : List Cell) (front pages : List Page) (index : ℕ) (rest : List Cell) → CutsOn level lead cells front pages index rest → rest ≡ [] → pages ≡ front ++ group_pages level lead cells
-cut_all level lead cells front pages index rest so_far empty =
-    let whole = group_pages level lead cells in
-    let none : drop index whole ≡ [] = sym so_far.left ∙ no_page level lead index rest empty in
-    let all : take index whole ≡ whole = sym (append-nil (take index whole)) ∙ ap (λ ps. take index whole ++ ps) (sym none) ∙ take-append-drop index whole in
-    so_far.made ∙ ap (λ ps. front ++ ps) all
+-- how many pages cells make
+pub length-pages_from : (level : ℕ) (lead : Lead) (first : ℕ) (cells : List Cell) → length (pages_from level lead first cells) ≡ length (runs (page_room level) cells)
+unfolding pages_from
+length-pages_from level lead first cells = length-map (enumerate_from first (runs (page_room level) cells)) (λ run. page_of_run level lead run.0 run.1) ∙ length-enumerate_from first (runs (page_room level) cells)
 
--- the next run is a page's
-pub run_is_page : (level : ℕ) (lead : Lead) (cells : List Cell) (front pages : List Page) (index : ℕ) (rest : List Cell) → CutsOn level lead cells front pages index rest → 1 ≤ length rest → level < 256 → IsLead lead
-    → IsPage (page_of_run level lead index (take (page_room level) rest))
-run_is_page level lead cells front pages index rest so_far some low valid =
+-- the page of a run
+pub page_at : (level : ℕ) (lead : Lead) (first index : ℕ) (cells : List Cell) → page_room level * index < length cells
+    → slice_get (pages_from level lead first cells) index ≡ Some (page_of_run level lead (first + index) (take (page_room level) (drop (page_room level * index) cells)))
+page_at level lead first zero cells within =
+    let n = page_room level in
+    let start : 0 ≡ n * 0 = omega arith in
+    let number : first ≡ first + 0 = omega arith in
+    ap (λ ps. slice_get ps 0) (next_page level lead first cells (omega arith)) ∙ ap₂ (λ i k. Some (page_of_run level lead i (take n (drop k cells)))) number start
+page_at level lead first (suc index) cells within =
+    let n = page_room level in
+    let behind : n + n * index ≡ n * suc index = omega arith in
+    let number : first + 1 + index ≡ first + suc index = omega arith in
+    ap (λ ps. slice_get ps (suc index)) (next_page level lead first cells (omega arith))
+    ∙ page_at level lead (first + 1) index (drop n cells) (omega (arith, within, mul-suc n index, length-drop n cells))
+    ∙ ap₂ (λ i xs. Some (page_of_run level lead i (take n xs))) number (drop-drop (n * index) n cells ∙ ap (λ k. drop k cells) behind)
+
+-- it is one
+pub run_is_page : (level : ℕ) (lead : Lead) (index done : ℕ) (cells : List Cell) → AllByRecursion (IsCell level) cells → IsStrictlySortedBy key_cmp (map (λ c. c.key) cells) → done < length cells → level < 256 → IsLead lead → index < 4294967296
+    → IsPage (page_of_run level lead index (take (page_room level) (drop done cells)))
+run_is_page level lead index done cells each rising some low valid number =
     let room = page_room level in
+    let rest = drop done cells in
     let keys : List Cell → List (List ℕ) = map (λ c. c.key) in
-    let whole : keys rest ≡ keys (take room rest) ++ keys (drop room rest) = ap keys (sym (take-append-drop room rest)) ∙ map-append (λ (c : Cell). c.key) (take room rest) (drop room rest) in
+    let parted : (n : ℕ) (xs : List Cell) → keys xs ≡ keys (take n xs) ++ keys (drop n xs) = λ n xs. ap keys (sym (take-append-drop n xs)) ∙ map-append (λ (c : Cell). c.key) (take n xs) (drop n xs) in
+    let rest_each = all_back (IsCell level) (take done cells) rest (subst (AllByRecursion (IsCell level)) (sym (take-append-drop done cells)) each) in
+    let rest_rising = rising_back key_cmp (keys (take done cells)) (keys rest) (subst (IsStrictlySortedBy key_cmp) (parted done cells) rising) in
     let long = length-take room rest in
     record {
-      label = record { level = low; lead = valid; index = omega (arith, so_far.few) };
-      some_cell = omega (arith, long, some_room level);
+      label = record { level = low; lead = valid; index = number };
+      some_cell = omega (arith, long, some_room level, length-drop done cells);
       room = omega (arith, long);
-      cells = all_front (IsCell level) (take room rest) (drop room rest) (subst (AllByRecursion (IsCell level)) (sym (take-append-drop room rest)) so_far.each);
-      rising = rising_front key_cmp (keys (take room rest)) (keys (drop room rest)) (subst (IsStrictlySortedBy key_cmp) whole so_far.rising);
+      cells = all_front (IsCell level) (take room rest) (drop room rest) (subst (AllByRecursion (IsCell level)) (sym (take-append-drop room rest)) rest_each);
+      rising = rising_front key_cmp (keys (take room rest)) (keys (drop room rest)) (subst (IsStrictlySortedBy key_cmp) (parted room rest) rest_rising);
     }
 
--- one element on in a list
-take_next : {A : Type 0} (n : ℕ) (xs ys : List A) (x : A) → drop n xs ≡ x ∷ ys → take (n + 1) xs ≡ take n xs ++ x ∷ []
-take_next n xs ys x here = take-add n 1 xs ∙ ap (λ zs. take n xs ++ take 1 zs) here
-
-drop_next : {A : Type 0} (n : ℕ) (xs ys : List A) (x : A) → drop n xs ≡ x ∷ ys → drop (n + 1) xs ≡ ys
-drop_next n xs ys x here = sym (drop-drop 1 n xs) ∙ ap (drop 1) here
-
--- one run on
-pub cut_more : (level : ℕ) (lead : Lead) (cells : List Cell) (front pages : List Page) (index : ℕ) (rest : List Cell) → CutsOn level lead cells front pages index rest → 1 ≤ length rest
-    → CutsOn level lead cells front (pages ++ page_of_run level lead index (take (page_room level) rest) ∷ []) (index + 1) (drop (page_room level) rest)
-cut_more level lead cells front pages index rest so_far some =
-    let room = page_room level in
-    let keys : List Cell → List (List ℕ) = map (λ c. c.key) in
-    let whole : keys rest ≡ keys (take room rest) ++ keys (drop room rest) = ap keys (sym (take-append-drop room rest)) ∙ map-append (λ (c : Cell). c.key) (take room rest) (drop room rest) in
-    let group = group_pages level lead cells in
-    let page = page_of_run level lead index (take room rest) in
-    let behind = pages_from level lead (index + 1) (drop room rest) in
-    let here : drop index group ≡ page ∷ behind = sym so_far.left ∙ next_page level lead index rest some in
-    record {
-      made = ap (λ ps. ps ++ page ∷ []) so_far.made ∙ append_assoc front (take index group) (page ∷ []) ∙ ap (λ ps. front ++ ps) (sym (take_next index group behind page here));
-      left = sym (drop_next index group behind page here);
-      each = all_back (IsCell level) (take room rest) (drop room rest) (subst (AllByRecursion (IsCell level)) (sym (take-append-drop room rest)) so_far.each);
-      rising = rising_back key_cmp (keys (take room rest)) (keys (drop room rest)) (subst (IsStrictlySortedBy key_cmp) whole so_far.rising);
-      few = omega (arith, so_far.few, length-drop room rest, some_room level);
-    }
+-- the next run, which is as long as there is room
+pub run_next : (level done n room left : ℕ) (cells : List Cell) → n ≡ min room left → left ≡ length cells - done → room ≡ page_room level → drop done (take (done + n) cells) ≡ take (page_room level) (drop done cells)
+run_next level done n room left cells n_is left_is room_is =
+    let rest = drop done cells in
+    let long : done + n - done ≡ n = omega arith in
+    let fits : left ≡ length rest = left_is ∙ sym (length-drop done cells) in
+    sym (between_is cells done (done + n)) ∙ ap (λ k. take k rest) (long ∙ n_is ∙ ap₂ min room_is fits) ∙ take_min (page_room level) rest

@@ -1,13 +1,25 @@
 -- Where the cells of a page lie in its slot, and how they are read there.
-use Rattle.std.specs.Prelude.{◌≡◌, ℕ, zero, suc, ◌+◌, ◌-◌, ◌≤◌, ◌*◌, length, List, [], ◌∷◌, ◌++◌, take, drop, Option, Some, None, slice_index}
+use Rattle.std.specs.Prelude.{◌≡◌, ℕ, zero, suc, ◌+◌, ◌-◌, ◌<◌, ◌≤◌, ◌*◌, length, List, [], ◌∷◌, ◌++◌, take, drop, Option, Some, None, slice_index}
 use Rattle.std.specs.Int.{w16, from_be_bytes}
+use Rattle.std.specs.List.{flat_map, AllByRecursion}
 use Rattle.std.specs.declared.cmp.Ordering.TheVariants.{Less}
 use Rattle.store_model.specs.Lists.{zeros, zero_filled}
 use Rattle.store_model.specs.Paths.{key_cmp}
 use Rattle.store_model.specs.Labels.{Label}
-use Rattle.store_model.specs.Pages.{Cell, Page, page_room, IsPage}
-use Rattle.store_model.specs.Images.{page_bytes}
+use Rattle.store_model.specs.Pages.{Cell, Page, page_room, IsCell, IsPage}
+use Rattle.store_model.specs.Images.{cell_bytes, page_bytes}
 use Rattle.store_model.specs.Pairs.{value_limit}
+
+-- cells of one level
+pub record CellList : Type 0 where
+  pub level : ℕ
+  pub cells : List Cell
+
+-- what a list of cells can be
+pub record IsCellList (list : CellList) : Type 0 where
+  pub level : list.level < 256
+  pub each : AllByRecursion (IsCell list.level) list.cells
+  pub few : length list.cells < 4294967296
 
 -- how many bytes a cell of a level has
 abbrev pub cell_size : ℕ → ℕ
@@ -33,6 +45,17 @@ pub record SpellsValue (bytes : List ℕ) : Type 0 where
   pub some : 1 ≤ from_be_bytes w16 bytes
   pub fits : from_be_bytes w16 bytes ≤ value_limit
   pub fill : drop (from_be_bytes w16 bytes) (drop 2 bytes) ≡ zeros (value_limit - from_be_bytes w16 bytes)
+
+-- the list of so many cells that bytes are, one cell behind the other
+abbrev pub list_in : ℕ → ℕ → List ℕ → CellList
+list_in level count bytes = record { level = level; cells = cells_in level count bytes }
+
+-- bytes are those of so many cells of the level, and no others
+pub record ArePacked (level count : ℕ) (bytes : List ℕ) : Type 0 where
+  pub low : level < 256
+  pub few : count < 4294967296
+  pub each : AllByRecursion (IsCell level) (cells_in level count bytes)
+  pub spelled : flat_map cell_bytes (cells_in level count bytes) ≡ bytes
 
 -- bytes of the size of a cell spell one: at level 0 there is a value behind the key
 abbrev pub SpellsCell : ℕ → List ℕ → Type 0

@@ -1,5 +1,6 @@
 pub mod Cells
 pub mod Entries
 pub mod EntriesLemmas
+pub mod Groups
 pub mod PagesState
 pub mod Places

@@ -5,6 +5,7 @@
 #![tactic(auto)]
 
 mod cell;
+mod cells;
 mod group;
 mod map;
 mod page;
@@ -13,9 +14,10 @@ mod sequence;
 mod spelling;
 
 pub use cell::Cell;
+pub use cells::Cells;
 pub use group::{append_group, cut_group, join_group};
 pub use map::MapPages;
 pub use page::{Page, decode_page, encode_page, label_in};
 pub use pages::Pages;
-pub use sequence::{Cells, PageList, PairList, Sequence};
+pub use sequence::{PageList, PairList, Sequence};
 pub use spelling::room;

@@ -1,6 +1,7 @@
 //! Pages, and their slots.
 
 ghost use Rattle.std.specs.Prelude.{◌≡◌, ◌+◌, ◌-◌, ◌*◌, ◌<◌, ◌≤◌, ◌↔◌, [], ◌∷◌, ◌++◌, length, map, take, drop, None, Some, IfSome, IsTrue, nat_eq, slice_get, slice_index};
+ghost use Rattle.std.specs.List.{flat_map};
 ghost use Rattle.std.specs.List.Sorted.{IsStrictlySortedBy};
 ghost use Rattle.std.specs.Cmp.{partial_equiv_from_equiv, on_equiv, on_per};
 ghost use Rattle.std.specs.Cmp.Lexicographic.{pointwise, nat_list_eq_equiv};
@@ -64,28 +65,22 @@ fn are_whole(level: u8, count: u8, area: &[u8]) -> bool
     spelling::are_zero(rest) && spelling::are_cells(level, count, area)
 }
 
-/// The bytes of cell `i` of the page that a slot of the label holds.
-fn bytes_of_cell<'a>(label: &Label, slot: &'a Slot, i: u32) -> &'a [u8]
-    requires holds { cells.IsSlotOf label.now slot.now }
-    requires below { i < length (cells.page_in label.now slot.now).cells }
-    ensures long { length result.now ≡ cells.cell_size label.now.level }
-    ensures valid { cells.SpellsCell label.now.level result.now }
-    ensures value { slice_get (cells.page_in label.now slot.now).cells i ≡ Some (cells.cell_in label.now.level result.now) }
+/// The level of a label.
+fn level_of(label: &Label) -> u8
+    ensures { result ≡ label.now.level }
 {
-    let len = spelling::cell_len(label.level);
-    let (_, area) = slot.split_at(CELLS_AT);
-    let (_, cells) = area.split_at(len * i as usize);
-    let (cell, _) = cells.split_at(len);
-    cell
+    label.level
 }
 
-/// Cell `i` of that page.
-fn cell_of(label: &Label, slot: &Slot, i: u32) -> Cell
+/// The bytes of the cells from number `first` up to number `past` of the page that a slot of the label holds.
+fn bytes_in<'a>(label: &Label, slot: &'a Slot, first: u32, past: u32) -> &'a [u8]
     requires holds { cells.IsSlotOf label.now slot.now }
-    requires below { i < length (cells.page_in label.now slot.now).cells }
-    ensures { slice_get (cells.page_in label.now slot.now).cells i ≡ Some result }
+    requires order { first ≤ past }
+    requires within { past ≤ length (cells.page_in label.now slot.now).cells }
+    ensures { result.now ≡ flat_map cell_bytes (drop first (take past (cells.page_in label.now slot.now).cells)) }
 {
-    spelling::read_cell(label.level, bytes_of_cell(label, slot, i))
+    let (_, area) = slot.split_at(CELLS_AT);
+    spelling::cells_between(level_of(label), area, first, past)
 }
 
 /// Begins the slot of a page of the label, with no cell yet.
@@ -109,6 +104,18 @@ fn append(label: &Label, slot: &mut Slot, cell: &Cell)
     let at = CELLS_AT + spelling::cell_len(label.level) * usize::from(slot[COUNT_AT]);
     slot[COUNT_AT] += 1;
     spelling::write_cell(&mut slot[at..], cell);
+}
+
+/// Adds so many cells to the slot of a page of the label that has none yet; their bytes are given.
+fn fill(label: &Label, slot: &mut Slot, count: u8, run: &[u8])
+    requires valid { IsLabel label.now }
+    requires empty { slot.old ≡ page_bytes (record { label = label.now; cells = [] }) }
+    requires packed { cells.ArePacked label.now.level count run.now }
+    requires room { count ≤ page_room label.now.level }
+    ensures { slot.new ≡ page_bytes (record { label = label.now; cells = cells.cells_in label.now.level count run.now }) }
+{
+    slot[COUNT_AT] = count;
+    slot[CELLS_AT..CELLS_AT + run.len()].copy_from_slice(run);
 }
 
 /// The label of the page that a slot holds, by its first 131 bytes alone: the cells are not looked at.
@@ -196,6 +203,20 @@ impl Page {
         append(&self.label, &mut self.slot, cell);
     }
 
+    /// The page of a label and so many cells, whose bytes are given.
+    // Apart from its caller it would answer a page that is copied once more.
+    #[inline(always)]
+    pub fn of_run(label: Label, count: u8, run: &[u8]) -> Self
+        requires packed { cells.ArePacked label.level count run.now }
+        requires page { IsPage (record { label = label; cells = cells.cells_in label.level count run.now }) }
+        ensures { result ≡ record { label = label; cells = cells.cells_in label.level count run.now } }
+    {
+        let mut slot = [0; BLOCK];
+        begin(&label, &mut slot);
+        fill(&label, &mut slot, count, run);
+        Page { label, slot }
+    }
+
     /// Its label.
     pub fn label(&self) -> Label
         ensures value { result ≡ self.now.label }
@@ -220,13 +241,39 @@ impl Page {
         &self.slot
     }
 
+    /// The bytes of the cells from number `first` up to number `past`, one cell behind the other.
+    pub fn bytes_between(&self, first: u32, past: u32) -> &[u8]
+        requires order { first ≤ past }
+        requires within { past ≤ length self.now.cells }
+        ensures { result.now ≡ flat_map cell_bytes (drop first (take past self.now.cells)) }
+    {
+        bytes_in(&self.label, &self.slot, first, past)
+    }
+
+    /// Whether its cells have these bytes, one cell behind the other.
+    pub fn has_bytes(&self, run: &[u8]) -> bool
+        ensures { IsTrue result ↔ (flat_map cell_bytes self.now.cells ≡ run.now) }
+    {
+        self.bytes_between(0, self.len()) == run
+    }
+
     /// Cell `i`, the first being 0.
     pub fn cell(&self, i: u32) -> Cell
         requires { i < length self.now.cells }
         ensures value { slice_get self.now.cells i ≡ Some result }
         ensures valid { IsPage self.now × IsCell self.now.label.level result }
     {
-        cell_of(&self.label, &self.slot, i)
+        spelling::read_cell(level_of(&self.label), self.bytes_between(i, i + 1))
+    }
+
+    /// The bytes of the key of cell `i`.
+    pub fn key_bytes(&self, i: u32) -> &[u8]
+        requires { i < length self.now.cells }
+        ensures value { IfSome (slice_get self.now.cells i) (λ cell. cell.key ≡ result.now) }
+        ensures valid { IsPage self.now × IsKey result.now }
+    {
+        let _ = self.len();
+        spelling::key_part(self.bytes_between(i, i + 1))
     }
 
     /// The key of cell `i`, without its value.
@@ -235,8 +282,7 @@ impl Page {
         ensures value { IfSome (slice_get self.now.cells i) (λ cell. cell.key ≡ result) }
         ensures valid { IsPage self.now × IsKey result }
     {
-        let (key, _) = bytes_of_cell(&self.label, &self.slot, i).split_at(spelling::KEY_LEN);
-        spelling::read_key(key)
+        spelling::read_key(self.key_bytes(i))
     }
 }
 

@@ -1,15 +1,12 @@
-//! Lists of cells, of pages and of pairs.
+//! Lists of pages and of pairs.
 
-ghost use Rattle.std.specs.Prelude.{◌≡◌, ◌<◌, ◌≤◌, ◌↔◌, [], ◌∷◌, ◌++◌, length, insert, remove, Some, IfOk, OnOk, OnErr, IsTrue, slice_get, slice_index_or};
+ghost use Rattle.std.specs.Prelude.{◌≡◌, ◌<◌, ◌↔◌, [], ◌∷◌, ◌++◌, length, Some, IfOk, OnOk, OnErr, IsTrue, slice_get};
 
-use crate::cell::Cell;
 use crate::page::Page;
 use std::alloc::Global;
 use std::marker::Model;
+use std::slice;
 use store_base::{Key, NoMemory, Value};
-
-/// A list of cells.
-pub type Cells = Sequence<Cell>;
 
 /// A list of pages.
 pub type PageList = Sequence<Page>;
@@ -89,15 +86,6 @@ impl<T> Sequence<T> {
     {
         &self.items[i as usize]
     }
-
-    /// Takes item `i` out, the first being 0. Those behind it move up.
-    pub fn remove(&mut self, i: u32) -> T
-        requires { i < length self.old }
-        ensures value { result ≡ slice_index_or self.old i result }
-        ensures rest { self.new ≡ remove self.old i }
-    {
-        self.items.remove(i as usize)
-    }
 }
 
 impl<T: Drop> Sequence<T> {
@@ -113,16 +101,18 @@ impl<T: Drop> Sequence<T> {
         self.items.push(item)?;
         Ok(())
     }
-    /// Puts an item before item `i`, the first being 0, or at the end. `NoMemory` comes as from `push`, and leaves the list as it was.
-    pub fn insert(&mut self, i: u32, item: T) -> Result<(), NoMemory>
-        requires { i ≤ length self.old }
-        ensures ok { OnOk result (self.new ≡ insert self.old i item) }
+}
+
+impl Sequence<Page> {
+    /// As `push`, by one copy of a page that stays where it is.
+    pub fn push_copy(&mut self, page: &Page) -> Result<(), NoMemory>
+        ensures ok { OnOk result (self.new ≡ self.old ++ page.now ∷ []) }
         ensures err { OnErr result (self.new ≡ self.old) }
     {
         if self.items.len() >= u32::MAX as usize {
             return Err(NoMemory);
         }
-        self.items.insert(i as usize, item)?;
+        self.items.extend_from_slice(slice::from_ref(page))?;
         Ok(())
     }
 }

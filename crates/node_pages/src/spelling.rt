@@ -1,7 +1,7 @@
 //! The bytes of cells: a key of 124 bytes, and at level 0 the length of its value in two bytes and the
 //! value, zero-filled to 256 bytes.
 
-ghost use Rattle.std.specs.Prelude.{◌≡◌, ◌↔◌, ◌*◌, ◌≤◌, [], length, take, drop, IsTrue, Some};
+ghost use Rattle.std.specs.Prelude.{◌≡◌, ◌↔◌, ◌*◌, ◌≤◌, ◌++◌, [], length, take, drop, IsTrue, Some, OnOk, OnErr};
 ghost use Rattle.store_model.specs.Lists.{zeros, zero_filled};
 ghost use Rattle.std.specs.declared.cmp.Ordering.TheVariants.{Less};
 ghost use Rattle.store_model.specs.Paths.{key_cmp};
@@ -10,16 +10,19 @@ ghost use Rattle.store_model.specs.Images.{cell_bytes, value_bytes};
 ghost use Rattle.node_pages.specs.Cells as cells;
 
 use crate::cell::Cell;
-use store_base::{Key, Value};
+use store_base::{Key, NoMemory, Value};
 
 /// The bytes of a key.
 pub const KEY_LEN: usize = 124;
+
+/// The bytes of a cell of level 0, which are the most.
+const MOST_LEN: usize = 382;
 
 /// How many bytes a cell of the level has.
 pub fn cell_len(level: u8) -> usize
     ensures { result ≡ cells.cell_size level }
 {
-    if level == 0 { 382 } else { KEY_LEN }
+    if level == 0 { MOST_LEN } else { KEY_LEN }
 }
 
 /// How many cells a page of the level holds at most: 10 at level 0, 31 above.
@@ -80,6 +83,18 @@ pub fn are_cells(level: u8, count: u8, bytes: &[u8]) -> bool
     true
 }
 
+/// The bytes of the cells from number `first` up to number `past`, of cells of the level that stand one behind the other.
+pub fn cells_between(level: u8, bytes: &[u8], first: u32, past: u32) -> &[u8]
+    requires order { first ≤ past }
+    requires within { cells.cell_size level * past ≤ length bytes.now }
+    ensures { result.now ≡ drop (cells.cell_size level * first) (take (cells.cell_size level * past) bytes.now) }
+{
+    let len = cell_len(level);
+    let (front, _) = bytes.split_at(len * past as usize);
+    let (_, cells) = front.split_at(len * first as usize);
+    cells
+}
+
 /// The key with these bytes.
 pub fn read_key(bytes: &[u8]) -> Key
     requires { length bytes.now ≡ KEY_LEN }
@@ -99,6 +114,15 @@ fn read_value(bytes: &[u8]) -> Value
 {
     let len = usize::from(u16::from_be_bytes([bytes[0], bytes[1]]));
     Value::new(&bytes[2..2 + len])
+}
+
+/// The key in front of the bytes of a cell.
+pub fn key_part(bytes: &[u8]) -> &[u8]
+    requires { KEY_LEN ≤ length bytes.now }
+    ensures { result.now ≡ take KEY_LEN bytes.now }
+{
+    let (key, _) = bytes.split_at(KEY_LEN);
+    key
 }
 
 /// The cell of the level that the bytes spell.
@@ -141,4 +165,16 @@ pub fn write_cell(area: &mut [u8], cell: &Cell)
     if let Some(value) = &cell.value {
         write_value(&mut area[KEY_LEN..], value);
     }
+}
+
+/// Adds the bytes of a cell of the level behind those of others.
+pub fn push_cell(bytes: &mut Vec<u8>, level: u8, cell: &Cell) -> Result<(), NoMemory>
+    requires { model.IsCell level cell.now }
+    ensures ok { OnOk result (bytes.new.items ≡ bytes.old.items ++ cell_bytes cell.now) }
+    ensures err { OnErr result (bytes.new.items ≡ bytes.old.items) }
+{
+    let mut area = [0; MOST_LEN];
+    write_cell(&mut area, cell);
+    bytes.extend_from_slice(&area[..cell_len(level)])?;
+    Ok(())
 }

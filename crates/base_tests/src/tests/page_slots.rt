@@ -61,24 +61,34 @@ fn slots_of_no_page(rt: HostRuntime) {
 
 #[test]
 fn group_of_no_cell(rt: HostRuntime) {
-    let cells = Cells::new(rt.alloc());
-    let pages = cut_group(rt.alloc(), 1, &Lead::Start, &cells).expect(&rt, "memory");
+    let cells = Cells::new(rt.alloc(), 1);
+    let pages = cut_group(rt.alloc(), &Lead::Start, &cells).expect(&rt, "memory");
     assert_eq!(rt; pages.len(), 0);
 }
 
-/// The pages of level 0 that hold one cell, with the key `a`.
-fn one_page(alloc: Global) -> Result<PageList, NoMemory> {
-    let mut cells = Cells::new(alloc);
-    cells.push(Cell::with_value(key(b"a"), Value::new(&[1])))?;
-    cut_group(alloc, 0, &Lead::Start, &cells)
+/// The page of level 0 that holds one cell, with the key `a`, and again with the number 1.
+fn two_pages(alloc: Global) -> Result<PageList, NoMemory> {
+    let mut cells = Cells::with_room(alloc, 0, 1)?;
+    cells.push(&Cell::with_value(key(b"a"), Value::new(&[1])))?;
+    let mut pages = cut_group(alloc, &Lead::Start, &cells)?;
+    if cells.page_count() == 1 {
+        let page = cells.page(&Lead::Start, 1, 0);
+        if cells.is_page(&Lead::Start, 1, 0, &page) && !cells.is_page(&Lead::Start, 0, 0, &page) {
+            pages.push_copy(&page)?;
+        }
+    }
+    Ok(pages)
 }
 
 #[test]
 fn group_of_one_cell(rt: HostRuntime) {
-    let pages = one_page(rt.alloc()).expect(&rt, "memory");
-    assert!(rt; pages.len() == 1 && *pages.get(0).as_slot() == slot_with(&ONE_DIRECTORY));
-    let joined = join_group(rt.alloc(), &pages).expect(&rt, "memory");
-    assert!(rt; joined.len() == 1 && joined.get(0).key == key(b"a"));
+    let pages = two_pages(rt.alloc()).expect(&rt, "memory");
+    assert!(rt; pages.len() == 2 && *pages.get(0).as_slot() == slot_with(&ONE_DIRECTORY));
+    assert!(rt; pages.get(1).label() == start_label(0, 1));
+    assert!(rt; pages.get(0).key_bytes(0) == key(b"a").as_bytes().as_slice());
+    let joined = join_group(rt.alloc(), 0, &pages).expect(&rt, "memory");
+    assert!(rt; joined.len() == 2 && joined.level() == 0 && !joined.is_empty());
+    assert!(rt; joined.key(1) == key(b"a") && joined.cell(0).value == Some(Value::new(&[1])));
 }
 
 #[test]

@@ -1,0 +1,211 @@
+//! Lists of cells of one level, kept as the bytes that they have in pages.
+
+ghost use Rattle.std.specs.Prelude.{◌≡◌, ◌+◌, ◌*◌, ◌<◌, ◌≤◌, ◌↔◌, [], ◌∷◌, ◌++◌, length, map, take, drop, Some, IfSome, IfOk, OnOk, OnErr, IsTrue, slice_get};
+ghost use Rattle.std.specs.List.{flat_map, AllByRecursion};
+ghost use Rattle.std.specs.List.Sorted.{IsStrictlySortedBy};
+ghost use Rattle.store_model.specs.Lists.{runs};
+ghost use Rattle.store_model.specs.Paths.{key_cmp};
+ghost use Rattle.store_model.specs.Pages.{IsCell, page_room};
+ghost use Rattle.store_model.specs.Labels.{IsLabel};
+ghost use Rattle.store_model.specs.Images.{cell_bytes};
+ghost use Rattle.store_base.specs.Keys.{IsKey};
+ghost use Rattle.store_base.specs.Leads.{lead_of};
+ghost use Rattle.node_pages.specs.Cells.{IsCellList};
+ghost use Rattle.node_pages.specs.Groups.{pages_from};
+
+use crate::cell::Cell;
+use crate::page::Page;
+use crate::spelling;
+use std::alloc::Global;
+use std::marker::Model;
+use store_base::{Key, Label, Lead, NoMemory};
+
+/// A list of fewer than 2^32 cells of one level. Contracts see its level and the list of its cells; each is one of the
+/// level, as `IsCellList` says.
+#[derive(Debug, Drop)]
+pub struct Cells {
+    level: u8,
+    count: u32,
+    bytes: Vec<u8>,
+}
+
+impl Model for Cells {
+    ghost use Rattle.node_pages.specs.Cells.{CellList, list_in, ArePacked};
+
+    ghost Value = { CellList };
+
+    ghost view = { λ c. list_in c.level c.count c.bytes.items };
+
+    ghost invariant = { λ c. ArePacked c.level c.count c.bytes.items };
+}
+
+impl Cells {
+    /// The empty list of a level. It takes no memory.
+    pub fn new(alloc: Global, level: u8) -> Self
+        ensures { result ≡ record { level = level; cells = [] } }
+    {
+        Cells {
+            level,
+            count: 0,
+            bytes: Vec::new(alloc),
+        }
+    }
+
+    /// The empty list of a level, with memory for so many cells.
+    pub fn with_room(alloc: Global, level: u8, room: u32) -> Result<Self, NoMemory>
+        ensures { IfOk result (λ list. list ≡ record { level = level; cells = [] }) }
+    {
+        let room = spelling::cell_len(level) * room as usize;
+        Ok(Cells {
+            level,
+            count: 0,
+            bytes: Vec::with_capacity(alloc, room)?,
+        })
+    }
+
+    /// The level of its cells.
+    pub fn level(&self) -> u8
+        ensures value { result ≡ self.now.level }
+        ensures valid { IsCellList self.now }
+    {
+        self.level
+    }
+
+    /// How many cells it has.
+    pub fn len(&self) -> u32
+        ensures value { result ≡ length self.now.cells }
+        ensures valid { IsCellList self.now }
+    {
+        self.count
+    }
+
+    /// Whether it has none.
+    pub fn is_empty(&self) -> bool
+        ensures { IsTrue result ↔ (self.now.cells ≡ []) }
+    {
+        self.count == 0
+    }
+
+    /// The bytes of the cells from number `first` up to number `past`, one cell behind the other.
+    fn bytes_between(&self, first: u32, past: u32) -> &[u8]
+        requires order { first ≤ past }
+        requires within { past ≤ length self.now.cells }
+        ensures { result.now ≡ flat_map cell_bytes (drop first (take past self.now.cells)) }
+    {
+        spelling::cells_between(self.level, &self.bytes, first, past)
+    }
+
+    /// The key of cell `i`, the first being 0, without its value.
+    pub fn key(&self, i: u32) -> Key
+        requires { i < length self.now.cells }
+        ensures value { IfSome (slice_get self.now.cells i) (λ cell. cell.key ≡ result) }
+        ensures valid { IsKey result }
+    {
+        let _ = self.len();
+        spelling::read_key(spelling::key_part(self.bytes_between(i, i + 1)))
+    }
+
+    /// Cell `i`, the first being 0.
+    pub fn cell(&self, i: u32) -> Cell
+        requires { i < length self.now.cells }
+        ensures value { slice_get self.now.cells i ≡ Some result }
+        ensures valid { IsCell self.now.level result }
+    {
+        spelling::read_cell(self.level, self.bytes_between(i, i + 1))
+    }
+
+    /// How many pages the cells make as a group: runs of 10 at level 0 and of 31 above, the last run holding the rest.
+    pub fn page_count(&self) -> u32
+        ensures { result ≡ length (runs (page_room self.now.level) self.now.cells) }
+    {
+        self.count.div_ceil(u32::from(spelling::room(self.level)))
+    }
+
+    /// From which number up to which the cells of run `index` stand, the first run being 0.
+    fn run(&self, index: u32) -> (u32, u32)
+        requires { index < length (runs (page_room self.now.level) self.now.cells) }
+        ensures order { result.0 ≤ result.1 }
+        ensures within { result.1 ≤ length self.now.cells }
+        ensures few { result.1 ≤ result.0 + 31 }
+        ensures cells { drop result.0 (take result.1 self.now.cells) ≡ take (page_room self.now.level) (drop (page_room self.now.level * index) self.now.cells) }
+    {
+        let room = u32::from(spelling::room(self.level));
+        let done = room * index;
+        (done, done + room.min(self.count - done))
+    }
+
+    /// The label of the level with this lead and number.
+    fn label(&self, lead: &Lead, number: u32) -> Label
+        ensures value { result ≡ record { level = self.now.level; lead = lead_of lead.now; index = number } }
+        ensures valid { IsLabel result }
+    {
+        let _ = lead.key_bytes();
+        Label {
+            level: self.level,
+            lead: *lead,
+            index: number,
+        }
+    }
+
+    /// The page of run `index`, the first being 0, in the group that `lead` leads. Its label has the number `first + index`.
+    // Apart from its caller it would answer a page that is copied once more.
+    #[inline(always)]
+    pub fn page(&self, lead: &Lead, first: u32, index: u32) -> Page
+        requires rising { IsStrictlySortedBy key_cmp (map (λ c. c.key) self.now.cells) }
+        requires number { first + index < 4294967296 }
+        requires within { index < length (runs (page_room self.now.level) self.now.cells) }
+        ensures { slice_get (pages_from self.now.level (lead_of lead.now) first self.now.cells) index ≡ Some result }
+    {
+        let _ = self.len();
+        let label = self.label(lead, first + index);
+        let (done, past) = self.run(index);
+        Page::of_run(label, (past - done) as u8, self.bytes_between(done, past))
+    }
+
+    /// Whether `page`, with the same lead and numbers, is this page. None is made for it.
+    pub fn is_page(&self, lead: &Lead, first: u32, index: u32, page: &Page) -> bool
+        requires number { first + index < 4294967296 }
+        requires within { index < length (runs (page_room self.now.level) self.now.cells) }
+        ensures { IsTrue result ↔ (slice_get (pages_from self.now.level (lead_of lead.now) first self.now.cells) index ≡ Some page.now) }
+    {
+        let _ = self.len();
+        let (done, past) = self.run(index);
+        if !page.has_bytes(self.bytes_between(done, past)) {
+            return false;
+        }
+        page.label() == self.label(lead, first + index)
+    }
+
+    /// Adds a cell of the level at the end. `NoMemory` comes where memory ran out, or where the list has 2^32 - 1 cells;
+    /// the list is then as it was.
+    pub fn push(&mut self, cell: &Cell) -> Result<(), NoMemory>
+        requires { IsCell self.old.level cell.now }
+        ensures ok { OnOk result (self.new ≡ record self.old { cells = self.old.cells ++ cell.now ∷ [] }) }
+        ensures err { OnErr result (self.new ≡ self.old) }
+    {
+        let Some(count) = self.count.checked_add(1) else {
+            return Err(NoMemory);
+        };
+        spelling::push_cell(&mut self.bytes, self.level, cell)?;
+        self.count = count;
+        Ok(())
+    }
+
+    /// Adds the cells of a page from number `first` up to number `past`, which is not among them; each has to be one of the
+    /// list's level. `NoMemory` comes as from `push`, and leaves the list as it was.
+    pub fn append_from(&mut self, page: &Page, first: u32, past: u32) -> Result<(), NoMemory>
+        requires order { first ≤ past }
+        requires within { past ≤ length page.now.cells }
+        requires fits { AllByRecursion (IsCell self.old.level) (drop first (take past page.now.cells)) }
+        ensures ok { OnOk result (self.new ≡ record self.old { cells = self.old.cells ++ drop first (take past page.now.cells) }) }
+        ensures err { OnErr result (self.new ≡ self.old) }
+    {
+        let Some(count) = self.count.checked_add(past - first) else {
+            return Err(NoMemory);
+        };
+        self.bytes
+            .extend_from_slice(page.bytes_between(first, past))?;
+        self.count = count;
+        Ok(())
+    }
+}
