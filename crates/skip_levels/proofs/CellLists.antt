@@ -25,7 +25,7 @@ pub no_last : (cells : List Cell) → cells ≡ [] → None ≡ last_key_of cell
 unfolding last_of
 no_last cells e = sym (ap last_key_of e)
 
-less_from_test : (o : Ordering) → is_lt o ≡ true → o ≡ Less
+pub less_from_test : (o : Ordering) → is_lt o ≡ true → o ≡ Less
 less_from_test Less e = refl
 less_from_test Equal e = absurd (cc)
 less_from_test Greater e = absurd (cc)
@@ -98,11 +98,10 @@ module _ (order : Ordering) (key : List ℕ) where
   side_stays from i cell below is e = side_next from i cell below is ∙ ap (λ xs. side order key (take i from) ++ xs) (side_none cell e) ∙ append-nil (side order key (take i from))
 
   -- one more of them behind the cells so far
-  pub side_step : (old from cells : List Cell) (i : ℕ) (item copy : Cell) → i < length from → item ≡ get_or from i item → copy ≡ item → compares order key item ≡ true → cells ≡ old ++ side order key (take i from)
-      → old ++ side order key (take (i + 1) from) ≡ cells ++ copy ∷ []
-  side_step old from cells i item copy below is same e so_far =
-      ap (λ xs. old ++ xs) (side_goes_on from i item below is e) ∙ sym (append_assoc old (side order key (take i from)) (item ∷ []))
-      ∙ ap (λ xs. xs ++ item ∷ []) (sym so_far) ∙ ap (λ x. cells ++ x ∷ []) (sym same)
+  pub side_step : (old from cells : List Cell) (i : ℕ) (item : Cell) → i < length from → item ≡ get_or from i item → compares order key item ≡ true → cells ≡ old ++ side order key (take i from)
+      → old ++ side order key (take (i + 1) from) ≡ cells ++ item ∷ []
+  side_step old from cells i item below is e so_far =
+      ap (λ xs. old ++ xs) (side_goes_on from i item below is e) ∙ sym (append_assoc old (side order key (take i from)) (item ∷ [])) ∙ ap (λ xs. xs ++ item ∷ []) (sym so_far)
 
   -- the cells so far, where all of them are cells of the level
   pub side_within : (level : ℕ) (front from : List Cell) (i : ℕ) → AreCells level (front ++ side order key from) → AreCells level (front ++ side order key (take i from))

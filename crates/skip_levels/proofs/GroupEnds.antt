@@ -1,5 +1,5 @@
 -- Where a group ends: which page is its last one, and how many cells stand up to a full page.
-use Rattle.std.proofs.Common.{◌≡◌, ◌↔◌, ℕ, zero, suc, ◌+◌, ◌*◌, ◌/◌, ◌<◌, ◌≤◌, List, [], ◌∷◌, length, take, drop, Bool, IsTrue, true, false, cond, ◌==◌, Some, None, refl, sym, ap, ◌∙◌, arith}
+use Rattle.std.proofs.Common.{◌≡◌, ◌↔◌, ℕ, zero, suc, ◌+◌, ◌*◌, ◌/◌, ◌<◌, ◌≤◌, List, [], ◌∷◌, length, take, drop, Bool, IsTrue, true, false, cond, ◌==◌, Some, None, refl, sym, ap, subst, ◌∙◌, arith}
 use Rattle.std.specs.List.{slice_get, enumerate_from}
 use Rattle.std.proofs.lemmas.List.{length-map, length-take, length-drop, drop-drop}
 use Rattle.std.proofs.lemmas.List.FromFn.{length-enumerate_from}
@@ -8,7 +8,8 @@ use Rattle.store_model.specs.Lists.{runs, run_count}
 use Rattle.store_model.specs.Labels.{Lead}
 use Rattle.store_model.specs.Pages.{Cell, Page, page_room, group_pages}
 use Rattle.store_model.proofs.ListsLemmas.{length-runs}
-use Rattle.node_pages.proofs.Runs.{pages_from, page_of_run, all_pages, next_page, no_page}
+use Rattle.node_pages.specs.Groups.{pages_from, page_of_run}
+use Rattle.node_pages.proofs.Runs.{all_pages, next_page, no_page}
 use Rattle.skip_levels.specs.SearchPath.{group_cost}
 
 -- what is found at a number of a group's pages has the run of that number
@@ -35,6 +36,10 @@ pub full_page : (level : ℕ) (lead : Lead) (index : ℕ) (cells : List Cell) (p
 full_page level lead index cells page is full before =
     let n = page_room level in
     omega (arith, run_of_page level lead index cells page is, length-take n (drop (n * index) cells), length-drop (n * index) cells)
+
+-- cells have no more runs than there are of them
+pub few_runs : (n : ℕ) (cells : List Cell) → length (runs (page_room n) cells) ≤ length cells
+few_runs n cells = subst (λ k. k ≤ length cells) (sym (length-runs (page_room n) cells)) (elim (n == 0) as (λ b. run_count (cond b 10 31) (length cells) ≤ length cells) [ true ↦ omega arith | false ↦ omega arith ])
 
 -- a group has as many pages as runs
 pub length_of_group : (level : ℕ) (lead : Lead) (cells : List Cell) → length (group_pages level lead cells) ≡ length (runs (page_room level) cells)

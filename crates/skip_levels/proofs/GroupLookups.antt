@@ -14,7 +14,7 @@ use Rattle.store_model.specs.PageMaps.{page_at, map_of_pages}
 use Rattle.store_model.proofs.TreesLemmasBytes.{labels_same}
 use Rattle.node_pages.specs.Entries.{entry_of}
 use Rattle.node_pages.proofs.PlaceLemmas.{same_key}
-use Rattle.node_pages.proofs.Runs.{page_of_run}
+use Rattle.node_pages.specs.Groups.{page_of_run}
 use Rattle.skip_levels.specs.Groups.{label_of, HoldsGroup}
 
 -- a page of another group

@@ -1,25 +1,20 @@
 -- The pages of a group read one after another.
-use Rattle.std.proofs.Common.{◌≡◌, ℕ, ◌+◌, ◌<◌, ◌≤◌, List, [], ◌∷◌, ◌++◌, length, take, Option, Some, None, Result, Ok, Err, IfOk, true, false, cond, ◌==◌, refl, sym, ap, subst, ◌∙◌, arith, take-add}
+use Rattle.std.proofs.Common.{◌≡◌, ℕ, ◌+◌, ◌<◌, ◌≤◌, List, [], ◌∷◌, ◌++◌, length, take, Option, Some, None, Result, Ok, Err, IfOk, refl, sym, ap, ◌∙◌, arith, take-add}
 use Rattle.std.specs.List.{slice_get}
 use Rattle.std.proofs.lemmas.List.{length-drop, take_all}
 use Rattle.store_base.specs.declared.store_fault.Fault.{Fault}
 use Rattle.store_base.specs.declared.store_fault.Fault.TheVariants.{NoMemory}
-use Rattle.store_model.specs.Lists.{runs, run_count}
 use Rattle.store_model.specs.Labels.{Lead}
 use Rattle.store_model.specs.Pages.{Cell, Page, page_room, group_pages}
-use Rattle.store_model.proofs.ListsLemmas.{length-runs}
 use Rattle.node_pages.specs.PagesState.{PagesState, IsPageGet, most_pages}
 use Rattle.skip_levels.specs.Groups.{label_of}
 use Rattle.skip_levels.specs.GroupChanges.{IsGroupRead}
-use Rattle.skip_levels.proofs.GroupEnds.{length_of_group, last_page}
+use Rattle.skip_levels.proofs.GroupEnds.{few_runs, length_of_group, last_page}
 use Rattle.skip_levels.proofs.GroupSteps.{WalksTo, EndsWalk, begins, breaks, ends, goes_on, is_over}
 use Rattle.skip_levels.proofs.MapChanges.{page_behind, nothing_behind}
 use Rattle.skip_levels.proofs.ValueLemmas.{same_count}
 
 -- a group has no more pages than cells
-few_runs : (n : ℕ) (cells : List Cell) → length (runs (page_room n) cells) ≤ length cells
-few_runs n cells = subst (λ k. k ≤ length cells) (sym (length-runs (page_room n) cells)) (elim (n == 0) as (λ b. run_count (cond b 10 31) (length cells) ≤ length cells) [ true ↦ omega arith | false ↦ omega arith ])
-
 pub few_group_pages : (level : ℕ) (lead : Lead) (cells : List Cell) → length (group_pages level lead cells) ≤ length cells
 few_group_pages level lead cells = omega (arith, length_of_group level lead cells, few_runs level cells)
 

@@ -10,7 +10,7 @@ use Rattle.store_model.proofs.ListsLemmas.{rising_head, rising_tail}
 use Rattle.node_pages.proofs.PlaceLemmas.{same_key}
 use Rattle.skip_levels.specs.Floors.{is_not_above}
 
-same_cell : (a b : Cell) → Some a ≡ Some b → a ≡ b
+pub same_cell : (a b : Cell) → Some a ≡ Some b → a ≡ b
 same_cell a b e = cc
 
 pub prefix_len-le : {X : Type 0} (p : X → Bool) (xs : List X) → prefix_len p xs ≤ length xs

@@ -1,5 +1,5 @@
 -- The place of a key on level 0 is that of every key between what leads its group and the next leader.
-use Rattle.std.proofs.Common.{◌≡◌, ℕ, List, [], ◌∷◌, map, filter, Bool, true, false, not, cond, nat_lt, Option, Some, None, Less, Equal, Greater, Ok, refl, sym, ap, subst, ◌∙◌}
+use Rattle.std.proofs.Common.{◌≡◌, ℕ, List, [], ◌∷◌, map, filter, Bool, true, false, not, cond, nat_lt, Option, Some, None, Less, Equal, Greater, refl, sym, ap, subst, ◌∙◌}
 use Rattle.std.specs.Ordering.{is_le, is_lt}
 use Rattle.std.specs.declared.cmp.Ordering.{Ordering}
 use Rattle.std.specs.List.{AllByRecursion, slice_get}
@@ -12,14 +12,12 @@ use Rattle.store_model.specs.Paths.{key_cmp}
 use Rattle.store_model.specs.Draws.{Draw}
 use Rattle.store_model.specs.Labels.{Lead}
 use Rattle.store_model.specs.Labels.Lead.{Start, Leader}
-use Rattle.store_model.specs.Pairs.{Pair}
+use Rattle.store_model.specs.Pairs.{Pair, IsPairs}
 use Rattle.store_model.proofs.ListsLemmas.{all_filter, all_weaker, rising_head, rising_tail, rising_from_is_sorted}
 use Rattle.node_pages.proofs.PlaceLemmas.{same_key}
 use Rattle.skip_levels.specs.declared.search.PathEnd.{PathEnd}
-use Rattle.skip_levels.specs.declared.search.KeyPlace.{KeyPlace}
-use Rattle.node_pages.specs.PagesState.{PagesState, IsObservable}
 use Rattle.skip_levels.specs.SearchPath.{last_lead, not_above, above}
-use Rattle.skip_levels.specs.Descent.{IsPlace, LiesIn, IsKnownIn, HoldsPairs, IsKeySearch, is_from, is_before}
+use Rattle.skip_levels.specs.Descent.{IsPlace, LiesIn, IsKnown, is_from, is_before}
 
 -- ---- keys in order
 
@@ -172,12 +170,6 @@ module _ (d : Draw) (s : List Pair) (known : List ℕ) (end : PathEnd) (rising :
           (all_weaker (λ pair. stands pair ≡ true → lies known pair ≡ lies key pair) (λ pair. stands pair ≡ true → not (lies known pair) ≡ not (lies key pair)) (λ pair h on. ap not (h on)) s same_side));
     }
 
--- ---- what is known of pages
-
-module _ (old new : PagesState) (height : ℕ) where
-  -- what a search found is known from then on
-  pub known_behind : (key : List ℕ) (place : KeyPlace) → IsKeySearch old new height 0 key (Ok place) → IsObservable new → IsKnownIn height new.pages (Some place.low)
-  known_behind key place search o d s h high other here =
-      let n = search.observed (search.hidden o) in
-      let held = subst (HoldsPairs d s) n.unchanged h in
-      place_of_all d s key place.low (rising_from_is_sorted key_cmp s held.pairs.sorted) (n.found d s held high).low other here
+-- the place of one key is known from then on
+pub known_at : (d : Draw) (s : List Pair) (key : List ℕ) (place : PathEnd) → IsPairs s → IsPlace d s 0 key place → IsKnown d s (Some place)
+known_at d s key place valid at other here = place_of_all d s key place (rising_from_is_sorted key_cmp s valid.sorted) at other here

@@ -1,19 +1,22 @@
 -- The calls that change one level: read, merged and written, a group after another.
-use Rattle.std.proofs.Common.{◌≡◌, ℕ, ◌+◌, ◌<◌, ◌≤◌, List, [], ◌++◌, length, Ok, refl, sym, ap, subst, ◌∙◌, append_assoc, arith}
+use Rattle.std.proofs.Common.{◌≡◌, ℕ, ◌+◌, ◌<◌, ◌≤◌, List, [], ◌++◌, length, Ok, Result, refl, sym, ap, subst, ◌∙◌, append_assoc, arith}
 use Rattle.std.proofs.Math.Path.{subst₂}
 use Rattle.std.specs.FinMap as maps
 use Rattle.store_base.specs.declared.label.Lead as declared
+use Rattle.store_base.specs.declared.store_fault.Fault.{Fault}
 use Rattle.store_model.specs.Labels.{Lead}
 use Rattle.store_model.specs.Labels.Lead.{Leader}
 use Rattle.store_model.specs.Pages.{Cell, Page, group_pages}
 use Rattle.store_model.specs.PageMaps.{map_of_pages}
+use Rattle.node_pages.specs.Cells.{CellList}
 use Rattle.node_pages.specs.PagesState.{PagesState, IsObservable, most_pages}
 use Rattle.node_pages.proofs.Runs.{all_pages, no_page}
 use Rattle.skip_levels.specs.Groups.{HoldsGroup}
 use Rattle.skip_levels.specs.GroupCells.{AreCells, IsMerged, merged}
-use Rattle.skip_levels.specs.GroupChanges.{IsChange, IsGroupRead, IsGroupChange}
+use Rattle.skip_levels.specs.GroupChanges.{renewed_pages, IsChange, IsGroupRead, IsGroupChange}
 use Rattle.skip_levels.specs.CellChanges.{HasRoom, SetsCells, SplitsGroup, JoinsGroups}
 use Rattle.skip_levels.proofs.GroupReads.{few_group_pages}
+use Rattle.skip_levels.proofs.KeptPages.{renewed_whole}
 
 -- a group of no cell has no page
 pub no_group_pages : (level : ℕ) (lead : Lead) → group_pages level lead [] ≡ []
@@ -29,6 +32,15 @@ Merges level lead key own low high next cells = AreCells level (merged key low o
 
 abbrev pub MergesFew : List Cell → List Cell → List Cell → List Cell → Type 0
 MergesFew own low high cells = length cells ≤ length low + (length own + length high)
+
+-- a group changed to the pages of a list of cells alone
+pub change_whole : {T : Type 0} (old new : PagesState) (olds : List Page) (lead : Lead) {level : ℕ} {result : Result T Fault} (list : CellList) → list.level ≡ level → IsGroupChange old new olds (renewed_pages 0 lead olds list) result
+    → IsGroupChange old new olds (group_pages level lead list.cells) result
+change_whole old new olds lead {level} {result} list same = subst (λ ps. IsGroupChange old new olds ps result) (renewed_whole level lead olds list same)
+
+-- new pages of a group: those of its cells, if the old ones were those of a group
+abbrev pub Renews : ℕ → Lead → List Page → List Page → List Cell → Type 0
+Renews level lead olds news cells = (group : List Cell) → olds ≡ group_pages level lead group → news ≡ group_pages level lead cells
 
 -- ---- the room for what is written
 
@@ -56,9 +68,9 @@ module _ (old mid : PagesState) (level : ℕ) (lead : Lead) (olds : List Page) (
   pub room_to_split : (cells : List Cell) → MergesFew [] joined [] cells → IsObservable mid → maps.len mid.pages + (length olds + length cells) < most_pages
   room_to_split cells merge o = let f = few_read o in omega (arith, f.olds_few, f.all_few, f.few, merge)
 
-  pub room_behind : {T : Type 0} (next : PagesState) (unit : T) (none : List Page) (own low high : List Cell) → none ≡ [] → length own ≤ 1 → MergesFew [] joined [] low → MergesFew own [] joined high → IsGroupChange mid next olds (group_pages level lead low) (Ok unit)
+  pub room_behind : {T : Type 0} (next : PagesState) (unit : T) (none news : List Page) (own low high : List Cell) → none ≡ [] → length own ≤ 1 → length news ≤ length olds + length low → MergesFew [] joined [] low → MergesFew own [] joined high → IsGroupChange mid next olds news (Ok unit)
       → IsObservable next → maps.len next.pages + (length none + length high) < most_pages
-  room_behind next unit none own low high is one low_merge high_merge write o =
+  room_behind next unit none news own low high is one few low_merge high_merge write o =
       let f = few_read (write.hidden o) in
       let w = write.observed (write.hidden o) in
       omega (
@@ -67,7 +79,7 @@ module _ (old mid : PagesState) (level : ℕ) (lead : Lead) (olds : List Page) (
         f.all_few,
         f.few,
         ap length is,
-        few_group_pages level lead low,
+        few,
         w.room,
         low_merge,
         high_merge,
@@ -75,8 +87,8 @@ module _ (old mid : PagesState) (level : ℕ) (lead : Lead) (olds : List Page) (
 
 -- ---- the cells of a key set
 
-module _ (old mid new : PagesState) (level : ℕ) (lead : Lead) (key : List ℕ) (own : List Cell) (olds : List Page) (joined : List Cell) (join : Joins olds joined) (next : declared.Lead) (cells : List Cell) where
-  pub cells_set : {T : Type 0} (unit : T) → IsGroupRead old mid level lead (Ok olds) → Merges level lead key own joined joined next cells → IsGroupChange mid new olds (group_pages level lead cells) (Ok unit) → SetsCells old new level lead key own (Ok next)
+module _ (old mid new : PagesState) (level : ℕ) (lead : Lead) (key : List ℕ) (own : List Cell) (olds : List Page) (joined : List Cell) (join : Joins olds joined) (next : declared.Lead) (news : List Page) (cells : List Cell) (renews : Renews level lead olds news cells) where
+  pub cells_set : {T : Type 0} (unit : T) → IsGroupRead old mid level lead (Ok olds) → Merges level lead key own joined joined next cells → IsGroupChange mid new olds news (Ok unit) → SetsCells old new level lead key own (Ok next)
   cells_set unit read merge write = record {
     call = record {
       faults = write.faults ∙ read.faults;
@@ -88,10 +100,11 @@ module _ (old mid new : PagesState) (level : ℕ) (lead : Lead) (key : List ℕ)
         let r = read.observed o in
         let olds_are : olds ≡ group_pages level lead group = r.found group h.holds h.few in
         let made = subst (λ xs. Merges level lead key own xs xs next cells) (join level lead group olds_are) merge h.valid in
+        let whole = subst (λ ps. IsGroupChange mid new olds ps (Ok unit)) (renews group olds_are) write in
         let change : IsChange level lead front back olds (group_pages level lead cells) =
         subst (λ ps. IsChange level lead front back ps (group_pages level lead cells)) (sym olds_are) (subst (λ xs. IsChange level lead front back (group_pages level lead group) (group_pages level lead xs)) (sym made.cells) h.change) in
         record {
-          pages_are = (write.observed r.observable).changed level lead front back change (r.unchanged ∙ h.pages_are ∙ ap (λ ps. map_of_pages (front ++ (ps ++ back))) (sym olds_are))
+          pages_are = (whole.observed r.observable).changed level lead front back change (r.unchanged ∙ h.pages_are ∙ ap (λ ps. map_of_pages (front ++ (ps ++ back))) (sym olds_are))
               ∙ ap (λ xs. map_of_pages (front ++ (group_pages level lead xs ++ back))) made.cells;
           next_is = made.next;
         };
@@ -100,9 +113,9 @@ module _ (old mid new : PagesState) (level : ℕ) (lead : Lead) (key : List ℕ)
 
 -- ---- a group cut in two
 
-module _ (old mid between new : PagesState) (level : ℕ) (lead : Lead) (key : List ℕ) (own : List Cell) (olds none : List Page) (joined : List Cell) (join : Joins olds joined) (next : declared.Lead) (low high : List Cell) where
+module _ (old mid between new : PagesState) (level : ℕ) (lead : Lead) (key : List ℕ) (own : List Cell) (olds none : List Page) (joined : List Cell) (join : Joins olds joined) (next : declared.Lead) (news : List Page) (low high : List Cell) (renews : Renews level lead olds news low) where
   pub group_split : {T : Type 0} (unit unit' : T) (other : declared.Lead) (other_lead : Lead) → none ≡ [] → IsGroupRead old mid level lead (Ok olds) → Merges level lead key [] joined [] next low → Merges level other_lead key own [] joined other high
-      → IsGroupChange mid between olds (group_pages level lead low) (Ok unit) → IsGroupChange between new none (group_pages level (Leader key) high) (Ok unit') → SplitsGroup old new level lead key own (Ok next)
+      → IsGroupChange mid between olds news (Ok unit) → IsGroupChange between new none (group_pages level (Leader key) high) (Ok unit') → SplitsGroup old new level lead key own (Ok next)
   group_split unit unit' other other_lead empty read low_merge high_merge write write' = record {
     call = record {
       faults = write'.faults ∙ write.faults ∙ read.faults;
@@ -112,9 +125,10 @@ module _ (old mid between new : PagesState) (level : ℕ) (lead : Lead) (key : L
     };
     split = λ o group front back h.
         let r = read.observed o in
-        let w = write.observed r.observable in
-        let w' = write'.observed w.observable in
         let olds_are : olds ≡ group_pages level lead group = r.found group h.holds h.few in
+        let whole = subst (λ ps. IsGroupChange mid between olds ps (Ok unit)) (renews group olds_are) write in
+        let w = whole.observed r.observable in
+        let w' = write'.observed w.observable in
         let joined_are = join level lead group olds_are in
         let lows = subst (λ xs. Merges level lead key [] xs [] next low) joined_are low_merge h.low_valid in
         let highs = subst (λ xs. Merges level other_lead key own [] xs other high) joined_are high_merge h.high_valid in
@@ -138,9 +152,9 @@ module _ (old mid between new : PagesState) (level : ℕ) (lead : Lead) (key : L
 
 -- ---- two groups joined
 
-module _ (old mid read_all between new : PagesState) (level : ℕ) (lead : Lead) (key : List ℕ) (lows highs : List Page) (low_cells high_cells : List Cell) (join : Joins lows low_cells) (join' : Joins highs high_cells) (next : declared.Lead) (none cells : List Cell)
+module _ (old mid read_all between new : PagesState) (level : ℕ) (lead : Lead) (key : List ℕ) (lows highs : List Page) (low_cells high_cells : List Cell) (join : Joins lows low_cells) (join' : Joins highs high_cells) (next : declared.Lead) (news : List Page) (none cells : List Cell) (renews : Renews level lead lows news cells)
     (read : IsGroupRead old mid level lead (Ok lows)) (read' : IsGroupRead mid read_all level (Leader key) (Ok highs)) where
-  pub groups_joined : {T : Type 0} (unit unit' : T) → none ≡ [] → Merges level lead key [] low_cells high_cells next cells → IsGroupChange read_all between highs (group_pages level (Leader key) none) (Ok unit) → IsGroupChange between new lows (group_pages level lead cells) (Ok unit')
+  pub groups_joined : {T : Type 0} (unit unit' : T) → none ≡ [] → Merges level lead key [] low_cells high_cells next cells → IsGroupChange read_all between highs (group_pages level (Leader key) none) (Ok unit) → IsGroupChange between new lows news (Ok unit')
       → JoinsGroups old new level lead key (Ok next)
   groups_joined unit unit' empty merge write write' = record {
     call = record {
@@ -152,11 +166,12 @@ module _ (old mid read_all between new : PagesState) (level : ℕ) (lead : Lead)
     joined = λ o low high front back h.
         let r = read.observed o in
         let r' = read'.observed r.observable in
-        let w = write.observed r'.observable in
-        let w' = write'.observed w.observable in
         let low_pages = group_pages level lead low in
         let high_pages = group_pages level (Leader key) high in
         let lows_are : lows ≡ low_pages = r.found low h.low_holds h.low_few in
+        let whole = subst (λ ps. IsGroupChange between new lows ps (Ok unit')) (renews low lows_are) write' in
+        let w = write.observed r'.observable in
+        let w' = whole.observed w.observable in
         let highs_are : highs ≡ high_pages = r'.found high (subst (λ m. HoldsGroup m level (Leader key) high) (sym r.unchanged) h.high_holds) h.high_few in
         let made = subst₂ (λ xs ys. Merges level lead key [] xs ys next cells) (join level lead low lows_are) (join' level (Leader key) high highs_are) merge h.valid in
         let none_are : group_pages level (Leader key) none ≡ [] = ap (group_pages level (Leader key)) empty ∙ no_group_pages level (Leader key) in
@@ -209,8 +224,8 @@ module _ (old mid read_all between new : PagesState) (level : ℕ) (lead : Lead)
     pub room_to_drop : none ≡ [] → IsObservable read_all → maps.len read_all.pages + (length highs + length none) < most_pages
     room_to_drop empty o = let f = few_joined o in omega (arith, f.highs_few, f.all_few, ap length empty)
 
-    pub room_to_join : {T : Type 0} (unit : T) → none ≡ [] → MergesFew [] low_cells high_cells cells → IsGroupChange read_all between highs (group_pages level (Leader key) none) (Ok unit) → IsObservable between → maps.len between.pages + (length lows + length cells) < most_pages
-    room_to_join unit empty merge write o =
+    pub room_to_join : {T : Type 0} (unit : T) (list : List Cell) → none ≡ [] → MergesFew [] low_cells high_cells list → IsGroupChange read_all between highs (group_pages level (Leader key) none) (Ok unit) → IsObservable between → maps.len between.pages + (length lows + length list) < most_pages
+    room_to_join unit list empty merge write o =
         let f = few_joined (write.hidden o) in
         let w = write.observed (write.hidden o) in
         omega (arith, f.lows_few, f.highs_few, f.all_few, f.low_few, f.high_few, ap length empty, few_group_pages level (Leader key) none, w.room, merge)

@@ -12,11 +12,13 @@ pub mod GroupLookups
 pub mod GroupReads
 pub mod GroupSteps
 pub mod Halving
-pub mod InPlace
+pub mod KnownBehind
 pub mod KnownPlaces
 pub mod LedGroups
 pub mod LevelCalls
 pub mod LevelChanges
+pub mod KeptPages
+pub mod KeyRanges
 pub mod ListCalls
 pub mod Looks
 pub mod MapChanges
@@ -37,6 +39,7 @@ pub mod PlaceMerges
 pub mod PlaceSplits
 pub mod PlaceSteps
 pub mod PlaceTakes
+pub mod PutSearches
 pub mod ValidLemmas
 pub mod ValueLemmas
 pub mod Walks

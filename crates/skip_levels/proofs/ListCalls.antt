@@ -1,5 +1,5 @@
 -- The calls of a list over pages: what holds of the list behind a change that succeeded.
-use Rattle.std.proofs.Common.{◌≡◌, ℕ, ◌+◌, ◌<◌, ◌≤◌, List, [], ◌∷◌, length, not, Bool, true, Option, Ok, Less, Equal, Greater, refl, arith}
+use Rattle.std.proofs.Common.{◌≡◌, ℕ, ◌+◌, ◌<◌, ◌≤◌, List, [], ◌∷◌, length, not, Bool, true, Some, Ok, Less, Equal, Greater, refl, sym, subst, arith}
 use Rattle.std.specs.Ordering.{eq_by_cmp}
 use Rattle.std.specs.FinMap.{put}
 use Rattle.std.specs.FinMap.Entries.{by_order}
@@ -9,10 +9,13 @@ use Rattle.store_model.specs.Draws.{Draw}
 use Rattle.store_model.specs.Pairs.{Pair, IsValue}
 use Rattle.store_model.proofs.ListsLemmasCuts.{length-filter-le}
 use Rattle.node_pages.specs.PagesState.{PagesState, IsObservable}
-use Rattle.skip_levels.specs.Descent.{HoldsPairs}
+use Rattle.skip_levels.specs.declared.changes.Taken.{Taken}
+use Rattle.skip_levels.specs.declared.search.PathEnd.{PathEnd}
+use Rattle.skip_levels.specs.Descent.{HoldsPairs, IsPlace, IsKnown}
 use Rattle.skip_levels.specs.PagePairs.{pairs_of_map, list_over}
 use Rattle.skip_levels.specs.PairsState.{most_pairs, without, IsPairPut, IsPairTake}
 use Rattle.skip_levels.specs.PairChanges.{PutsPairIn, TakesPairIn}
+use Rattle.skip_levels.proofs.KnownPlaces.{known_at}
 use Rattle.skip_levels.proofs.PagePairsLemmas.{holds_own, holds_its_pairs}
 use Rattle.skip_levels.proofs.ValidLemmas.{IsPairs-put, IsPairs-without}
 
@@ -31,7 +34,7 @@ module _ (d : Draw) (old new : PagesState) (key : List ℕ) (is_whole : Bool) (w
   abbrev s : List Pair
   s = pairs_of_map old.pages
 
-  module _ {T : Type 0} (value : List ℕ) (unit : T) (is_key : IsKey key) (is_value : IsValue value) (room : IsObservable old → length s < most_pairs) (call : PutsPairIn d old new key value (Ok unit)) where
+  module _ (value : List ℕ) (low : PathEnd) (is_key : IsKey key) (is_value : IsValue value) (room : IsObservable old → length s < most_pairs) (call : PutsPairIn d old new key value (Ok low)) where
     put_holds : IsObservable old → HoldsPairs d (put key_cmp key value s) new.pages
     put_holds o =
         let h = held o in
@@ -46,14 +49,17 @@ module _ (d : Draw) (old new : PagesState) (key : List ℕ) (is_whole : Bool) (w
     pub whole_behind_put : IsObservable new → HoldsPairs d (pairs_of_map new.pages) new.pages
     whole_behind_put o = holds_its_pairs d (put key_cmp key value s) new.pages (put_holds (call.call.hidden o))
 
-    pub list_put : IsPairPut (list_over is_whole old) (list_over true new) key value (Ok unit)
-    list_put = record {
+    pub known_behind_put : IsObservable new → IsKnown d (pairs_of_map new.pages) (Some low)
+    known_behind_put n = let o = call.call.hidden n in subst (λ pairs. IsKnown d pairs (Some low)) (sym (holds_own d (put key_cmp key value s) new.pages (put_holds o))) (call.known o)
+
+    pub list_put : {T : Type 0} (unit : T) → IsPairPut (list_over is_whole old) (list_over true new) key value (Ok unit)
+    list_put unit = record {
       faults = call.call.faults;
       hidden = λ o. (whole, call.call.hidden o.1);
       observed = λ o. record { observable = (refl, call.call.observable o.1); changed = holds_own d (put key_cmp key value s) new.pages (put_holds o.1) };
     }
 
-  module _ (taken : Option (List ℕ)) (call : TakesPairIn d old new key (Ok taken)) where
+  module _ (taken : Taken) (call : TakesPairIn d old new key (Ok taken)) where
     take_holds : IsObservable old → HoldsPairs d (without key s) new.pages
     take_holds o =
         let h = held o in
@@ -68,9 +74,20 @@ module _ (d : Draw) (old new : PagesState) (key : List ℕ) (is_whole : Bool) (w
     pub whole_behind_take : IsObservable new → HoldsPairs d (pairs_of_map new.pages) new.pages
     whole_behind_take o = holds_its_pairs d (without key s) new.pages (take_holds (call.call.hidden o))
 
-    pub list_taken : IsPairTake (list_over is_whole old) (list_over true new) key (Ok taken)
+    pub known_behind_take : IsObservable new → IsKnown d (pairs_of_map new.pages) taken.known
+    known_behind_take n = let o = call.call.hidden n in subst (λ pairs. IsKnown d pairs taken.known) (sym (holds_own d (without key s) new.pages (take_holds o))) (call.known o)
+
+    pub list_taken : IsPairTake (list_over is_whole old) (list_over true new) key (Ok taken.value)
     list_taken = record {
       faults = call.call.faults;
       hidden = λ o. (whole, call.call.hidden o.1);
       observed = λ o. record { observable = (refl, call.call.observable o.1); found = call.found o.1; changed = holds_own d (without key s) new.pages (take_holds o.1) };
     }
+
+-- a search leaves the list as it was, and tells the place of its key
+module _ (d : Draw) (old new : PagesState) (same : new.pages ≡ old.pages) (held : HoldsPairs d (pairs_of_map old.pages) old.pages) where
+  pub whole_still : HoldsPairs d (pairs_of_map new.pages) new.pages
+  whole_still = subst (λ m. HoldsPairs d (pairs_of_map m) m) (sym same) held
+
+  pub known_by_search : (key : List ℕ) (low : PathEnd) → IsPlace d (pairs_of_map old.pages) 0 key low → IsKnown d (pairs_of_map new.pages) (Some low)
+  known_by_search key low at = subst (λ m. IsKnown d (pairs_of_map m) (Some low)) (sym same) (known_at d (pairs_of_map old.pages) key low held.pairs at)

@@ -2,99 +2,147 @@
 use Rattle.std.proofs.Common.{◌≡◌, inl, inr, ℕ, ◌+◌, ◌<◌, ◌≤◌, List, length, Option, Some, None, Result, Ok, Err, refl, sym, ap, subst, ◌∙◌, arith}
 use Rattle.store_base.specs.declared.store_fault.Fault.{Fault}
 use Rattle.store_base.specs.Faults.{disk_faults_after}
+use Rattle.store_base.specs.Keys.{IsKey}
 use Rattle.store_base.specs.Leads.{lead_of}
 use Rattle.store_model.specs.Paths.{key_cmp}
 use Rattle.store_model.specs.Draws.{Draw}
-use Rattle.store_model.specs.Labels.{Lead}
-use Rattle.store_model.specs.Pairs.{Pair}
+use Rattle.store_model.specs.Pairs.{Pair, IsValue}
 use Rattle.store_model.specs.PageMaps.{map_of_pages}
 use Rattle.store_model.specs.Pages.{pages_of_pairs}
 use Rattle.store_model.proofs.ListsLemmas.{rising_from_is_sorted}
 use Rattle.node_pages.specs.PagesState.{PagesState, IsObservable}
+use Rattle.skip_levels.specs.declared.changes.Taken.{Taken}
 use Rattle.skip_levels.specs.declared.search.KeyPlace.{KeyPlace}
+use Rattle.skip_levels.specs.declared.search.PathEnd.{PathEnd}
+use Rattle.skip_levels.specs.declared.put_place.PutPlace.{PutPlace}
 use Rattle.skip_levels.specs.CellChanges.{IsPagesCall}
-use Rattle.skip_levels.specs.Descent.{HoldsPairs, IsKeySearch}
+use Rattle.skip_levels.specs.Descent.{HoldsPairs, IsKnown, IsKeyPlace, IsKeySearch}
 use Rattle.skip_levels.specs.PagePairs.{pairs_of_map}
 use Rattle.skip_levels.specs.PairChanges.{IsPutting, IsTaking, PutsPairFrom, TakesPairFrom, PutsPairIn, TakesPairIn}
-use Rattle.skip_levels.specs.PairsState.{most_pairs}
+use Rattle.skip_levels.specs.PairsState.{most_pairs, without}
+use Rattle.skip_levels.specs.PutPlaces.{IsPutPlace, IsPutSearch, behind}
 use Rattle.skip_levels.specs.SearchPath.{path_cost, path_cost_below, low_cost}
+use Rattle.skip_levels.proofs.KnownBehind.{known_by_put, known_by_take}
+use Rattle.skip_levels.proofs.KnownPlaces.{known_at}
 use Rattle.skip_levels.proofs.PairSides.{lacks_pair}
 use Rattle.skip_levels.proofs.PathCosts.{levels_up_to}
+use Rattle.skip_levels.proofs.ValidLemmas.{IsPairs-put, IsPairs-without}
 use Rattle.skip_levels.proofs.ValueLemmas.{same_count}
 
-module _ (d : Draw) (old mid : PagesState) (height top : ℕ) (key : List ℕ) (high : height ≡ d.height) (own : top ≡ d.level key) (whole : IsObservable old → HoldsPairs d (pairs_of_map old.pages) old.pages) where
+-- one call behind a search, which leaves the faults as they were
+call_behind : {S T : Type 0} (old mid new : PagesState) → mid.faults ≡ old.faults → old.lookups ≤ mid.lookups → (IsObservable mid → IsObservable old) → (IsObservable old → IsObservable mid)
+    → (first : Result S Fault) (result : Result T Fault) → disk_faults_after {T = S} old.faults first ≡ disk_faults_after {T = T} old.faults result → IsPagesCall mid new first → IsPagesCall old new result
+call_behind old mid new faults lookups hidden observable first result same call = record {
+  faults = call.faults ∙ ap (λ n. disk_faults_after n first) faults ∙ same;
+  lookups_kept = omega (arith, call.lookups_kept, lookups);
+  hidden = λ o. hidden (call.hidden o);
+  observable = λ o. call.observable (observable o);
+}
+
+module _ (d : Draw) (old mid : PagesState) (known : Option PathEnd) (key : List ℕ) (whole : IsObservable old → HoldsPairs d (pairs_of_map old.pages) old.pages) (right : IsObservable old → IsKnown d (pairs_of_map old.pages) known) where
   abbrev s : List Pair
   s = pairs_of_map old.pages
 
-  module _ (place : KeyPlace) (search : IsKeySearch old mid height top key (Ok place)) where
-    -- the pages are those of the list still
-    holds_still : (o : IsObservable old) → HoldsPairs d s mid.pages
-    holds_still o = subst (HoldsPairs d s) (sym (search.observed o).unchanged) (whole o)
+  -- ---- a put
 
-    -- one call behind the search
-    pub call_behind : {T : Type 0} (new : PagesState) (result : Result T Fault) → IsPagesCall mid new result → IsPagesCall old new result
-    call_behind new result call = record {
-      faults = call.faults ∙ ap (λ n. disk_faults_after n result) search.faults;
-      lookups_kept = omega (arith, call.lookups_kept, search.lookups_kept);
-      hidden = λ o. search.hidden (call.hidden o);
-      observable = λ o. call.observable (search.observed o).observable;
+  module _ (value : List ℕ) where
+    pub no_place_to_put : (fault : Fault) → IsPutSearch d old mid known key (Err fault) → PutsPairIn d old mid key value (Err fault)
+    no_place_to_put fault search = record {
+      call = record { faults = search.faults ∙ same_count PutPlace PathEnd old.faults fault; lookups_kept = search.lookups_kept; hidden = search.hidden; observable = λ o. (search.observed o).observable };
+      known = λ o. tt;
+      put = λ o. tt;
+      lookups = λ o. omega (arith, (search.observed o).lookups s (whole o) (right o));
     }
 
-    module _ (room : IsObservable old → length s < most_pairs) where
-      pub is_new : place.value ≡ None → (o : IsObservable old) → IsPutting d s mid.pages top (lead_of place.lead) key
-      is_new none o = let f = (search.observed o).found d s (whole o) high in record { holds = holds_still o; leads = f.lead; room = room o; place = inl (record { lacks = sym f.value ∙ none; own = own }) }
+    module _ (place : PutPlace) (search : IsPutSearch d old mid known key (Ok place)) (room : IsObservable old → length s < most_pairs) where
+      at : IsObservable old → IsPutPlace d s key place
+      at o = (search.observed o).found s (whole o) (right o)
 
-      pub is_there : (value : List ℕ) → place.value ≡ Some value → (o : IsObservable old) → IsPutting d s mid.pages 0 (lead_of place.low.lead) key
-      is_there value some o = let f = (search.observed o).found d s (whole o) high in record { holds = holds_still o; leads = f.low.lead; room = room o; place = inr (record { value = value; has = sym f.value ∙ some; lowest = refl }) }
+      -- from there on a value is put
+      pub is_putting : (o : IsObservable old) → IsPutting d s mid.pages place.top (lead_of place.lead) key
+      is_putting o = record { holds = subst (HoldsPairs d s) (sym (search.observed o).unchanged) (whole o); leads = (at o).lead; room = room o; place = (at o).own }
 
-    pub pair_put : {T : Type 0} (new : PagesState) (value : List ℕ) (from : ℕ) (lead : Lead) (result : Result T Fault) → from ≤ top → ((o : IsObservable old) → IsPutting d s mid.pages from lead key) → PutsPairFrom mid new from lead key value result
-        → PutsPairIn d old new key value result
-    pair_put new value from lead result low putting puts = record {
-      call = call_behind new result puts.call;
-      put = λ o. puts.put (search.observed o).observable d s (putting o);
-      lookups = λ o.
+      pub may_put : IsObservable mid → (e : Draw) × (t : List Pair) × IsPutting e t mid.pages place.top (lead_of place.lead) key
+      may_put o = (d, s, is_putting (search.hidden o))
+
+      -- the level is the key's own at most
+      top_within : IsObservable old → place.top ≤ d.level key
+      top_within o = elim (at o).own [ inl new ↦ let own = new.own in omega arith | inr there ↦ let lowest = there.lowest in omega arith ]
+
+      -- what both cost
+      cost_of_put : {T : Type 0} (new : PagesState) (result : Result T Fault) → PutsPairFrom mid new place.top (lead_of place.lead) key value result → (o : IsObservable old) → new.lookups ≤ old.lookups + (path_cost d s key + low_cost d s key)
+      cost_of_put new result puts o =
           let n = search.observed o in
-          omega (arith, puts.lookups n.observable d s (putting o), n.lookups d s (whole o) high, levels_up_to d s key from (d.level key) (omega arith));
-    }
+          omega (arith, puts.lookups n.observable d s (is_putting o), n.lookups s (whole o) (right o), levels_up_to d s key place.top (d.level key) (top_within o))
+
+      pub pair_not_put : {T : Type 0} (new : PagesState) (fault : Fault) → PutsPairFrom {T = T} mid new place.top (lead_of place.lead) key value (Err fault) → PutsPairIn d old new key value (Err fault)
+      pair_not_put {T} new fault puts = record {
+        call = call_behind old mid new search.faults search.lookups_kept search.hidden (λ o. (search.observed o).observable) (Err fault) (Err fault) (same_count T PathEnd old.faults fault) puts.call;
+        known = λ o. tt;
+        put = λ o. tt;
+        lookups = cost_of_put new (Err fault) puts;
+      }
+
+      pub pair_put : {T : Type 0} (new : PagesState) (unit : T) → IsKey key → IsValue value → PutsPairFrom mid new place.top (lead_of place.lead) key value (Ok unit) → PutsPairIn d old new key value (Ok (behind place key))
+      pair_put new unit is_key is_value puts = record {
+        call = call_behind old mid new search.faults search.lookups_kept search.hidden (λ o. (search.observed o).observable) (Ok unit) (Ok (behind place key)) refl puts.call;
+        known = λ o. known_by_put d s key value (whole o).pairs (IsPairs-put key value s is_key is_value (whole o).pairs) place (at o);
+        put = λ o. puts.put (search.observed o).observable d s (is_putting o);
+        lookups = cost_of_put new (Ok unit) puts;
+      }
+
+  -- ---- a pair taken out
+
+  module _ (height top : ℕ) (high : height ≡ d.height) (own : top ≡ d.level key) (place : KeyPlace) (search : IsKeySearch old mid height known top key (Ok place)) where
+    found : IsObservable old → IsKeyPlace d s top key place
+    found o = (search.observed o).found d s (record { holds = whole o; high = high; right = right o })
+
+    searched : (o : IsObservable old) → mid.lookups ≤ old.lookups + path_cost d s key
+    searched o = (search.observed o).lookups d s (record { holds = whole o; high = high; right = right o })
 
     pub is_taken : (value : List ℕ) → place.value ≡ Some value → (o : IsObservable old) → IsTaking d s mid.pages top (lead_of place.lead) key
-    is_taken value some o = let f = (search.observed o).found d s (whole o) high in record { holds = holds_still o; leads = f.lead; value = value; has = sym f.value ∙ some; own = own }
+    is_taken value some o = record { holds = subst (HoldsPairs d s) (sym (search.observed o).unchanged) (whole o); leads = (found o).lead; value = value; has = sym (found o).value ∙ some; own = own }
 
     -- the cost of both searches
     cost_of_take : {T : Type 0} (new : PagesState) (result : Result T Fault) (value : List ℕ) (some : place.value ≡ Some value) (o : IsObservable old) → TakesPairFrom mid new top (lead_of place.lead) key result
         → new.lookups ≤ old.lookups + (path_cost d s key + (low_cost d s key + path_cost_below d s key))
     cost_of_take new result value some o takes =
-        let n = search.observed o in
-        omega (arith, takes.lookups n.observable d s (is_taken value some o), n.lookups d s (whole o) high, levels_up_to d s key top (d.level key) (omega arith))
+        omega (arith, takes.lookups (search.observed o).observable d s (is_taken value some o), searched o, levels_up_to d s key top (d.level key) (omega arith))
 
-    pub pair_taken : {T : Type 0} (new : PagesState) (unit : T) (value : List ℕ) → place.value ≡ Some value → TakesPairFrom mid new top (lead_of place.lead) key (Ok unit) → TakesPairIn d old new key (Ok (Some value))
-    pair_taken new unit value some takes =
-        let call = call_behind new (Ok unit) takes.call in
+    pub pair_taken : {T : Type 0} (new : PagesState) (unit : T) (value : List ℕ) (behind : Option PathEnd) → place.value ≡ Some value → TakesPairFrom mid new top (lead_of place.lead) key (Ok unit)
+        → (IsObservable old → IsKnown d (without key s) behind) → TakesPairIn d old new key (Ok (record { value = Some value; known = behind }))
+    pair_taken new unit value behind some takes known_behind =
         record {
-          call = record { faults = call.faults; lookups_kept = call.lookups_kept; hidden = call.hidden; observable = call.observable };
-          found = λ o. sym some ∙ ((search.observed o).found d s (whole o) high).value;
+          call = call_behind old mid new search.faults search.lookups_kept search.hidden (λ o. (search.observed o).observable) (Ok unit) (Ok (record { value = Some value; known = behind })) refl takes.call;
+          found = λ o. sym some ∙ (found o).value;
           taken = λ o. takes.taken (search.observed o).observable d s (is_taken value some o);
+          known = known_behind;
           lookups = λ o. cost_of_take new (Ok unit) value some o takes;
         }
 
+    -- a key of level 0 leaves the place known
+    pub known_still : (value : List ℕ) → place.value ≡ Some value → top ≡ 0 → IsObservable old → IsKnown d (without key s) (Some place.low)
+    known_still value some lowest o =
+        known_by_take d s key value (whole o).pairs (IsPairs-without key s (whole o).pairs) (sym (found o).value ∙ some) place.low (sym own ∙ lowest) (found o).low
+
     pub pair_not_taken : {T : Type 0} (new : PagesState) (fault : Fault) (value : List ℕ) → place.value ≡ Some value → TakesPairFrom {T = T} mid new top (lead_of place.lead) key (Err fault) → TakesPairIn d old new key (Err fault)
-    pair_not_taken {T} new fault value some takes =
-        let call = call_behind new (Err fault) takes.call in
-        record {
-          call = record { faults = call.faults ∙ same_count T (Option (List ℕ)) old.faults fault; lookups_kept = call.lookups_kept; hidden = call.hidden; observable = call.observable };
-          found = λ o. tt;
-          taken = λ o. tt;
-          lookups = λ o. cost_of_take new (Err fault) value some o takes;
-        }
+    pair_not_taken {T} new fault value some takes = record {
+      call = call_behind old mid new search.faults search.lookups_kept search.hidden (λ o. (search.observed o).observable) (Err fault) (Err fault) (same_count T Taken old.faults fault) takes.call;
+      found = λ o. tt;
+      taken = λ o. tt;
+      known = λ o. tt;
+      lookups = λ o. cost_of_take new (Err fault) value some o takes;
+    }
 
     -- a list that lacks the key stays as it was
-    pub none_to_take : place.value ≡ None → TakesPairIn d old mid key (Ok None)
+    pub none_to_take : place.value ≡ None → TakesPairIn d old mid key (Ok (record { value = None; known = Some place.low }))
     none_to_take none = record {
       call = record { faults = search.faults; lookups_kept = search.lookups_kept; hidden = search.hidden; observable = λ o. (search.observed o).observable };
-      found = λ o. sym none ∙ ((search.observed o).found d s (whole o) high).value;
-      taken = λ o.
-          let n = search.observed o in
-          let lacks = lacks_pair key s (rising_from_is_sorted key_cmp s (whole o).pairs.sorted) (sym (n.found d s (whole o) high).value ∙ none) in
-          n.unchanged ∙ (whole o).map_is ∙ ap (λ pairs. map_of_pages (pages_of_pairs d pairs)) (sym lacks.kept);
-      lookups = λ o. let cost = (search.observed o).lookups d s (whole o) high in omega arith;
+      found = λ o. sym none ∙ (found o).value;
+      taken = λ o. (search.observed o).unchanged ∙ (whole o).map_is ∙ ap (λ pairs. map_of_pages (pages_of_pairs d pairs)) (sym (kept o));
+      known = λ o. subst (λ pairs. IsKnown d pairs (Some place.low)) (sym (kept o)) (known_at d s key place.low (whole o).pairs (found o).low);
+      lookups = λ o. let cost = searched o in omega arith;
     }
+      where
+        kept : IsObservable old → without key s ≡ s
+        kept o = (lacks_pair key s (rising_from_is_sorted key_cmp s (whole o).pairs.sorted) (sym (found o).value ∙ none)).kept

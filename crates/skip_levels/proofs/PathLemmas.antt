@@ -51,7 +51,7 @@ sides_of key (e ∷ s) rising = by_test (is_le (key_cmp e.0 key)) refl (sides_of
         sym (ap (λ xs. xs ++ (e ∷ above key s)) (none_below key s fails) ∙ ap (λ xs. e ∷ xs) (all_above key s fails))
 
 -- what a filter keeps passes
-all_kept : {X : Type 0} (p : X → Bool) (xs : List X) → AllByRecursion (λ x. p x ≡ true) (filter p xs)
+pub all_kept : {X : Type 0} (p : X → Bool) (xs : List X) → AllByRecursion (λ x. p x ≡ true) (filter p xs)
 all_kept p [] = tt
 all_kept p (x ∷ xs) = by_test (p x) refl (all_kept p xs)
   where

@@ -55,6 +55,12 @@ module _ (key : List ℕ) (low own high : List Cell) (h : AreAround key low own 
       ∙ ap₂ (λ xs ys. xs ++ ys) (side_all Less key low h.below) (filter-append (compares Less key) own high ∙ ap₂ (λ xs ys. xs ++ ys) (side_no Less Equal key own refl h.same) (side_no Less Greater key high refl h.above))
       ∙ append-nil low
 
+  pub own_side : side Equal key (low ++ (own ++ high)) ≡ own
+  own_side =
+      filter-append (compares Equal key) low (own ++ high)
+      ∙ ap₂ (λ xs ys. xs ++ ys) (side_no Equal Less key low refl h.below) (filter-append (compares Equal key) own high ∙ ap₂ (λ xs ys. xs ++ ys) (side_all Equal key own h.same) (side_no Equal Greater key high refl h.above))
+      ∙ append-nil own
+
   pub high_side : side Greater key (low ++ (own ++ high)) ≡ high
   high_side =
       filter-append (compares Greater key) low (own ++ high)

@@ -5,9 +5,15 @@ use Rattle.std.proofs.lemmas.List.{take-append-drop, append-nil, take_all, drop-
 use Rattle.store_model.specs.Labels.{Lead}
 use Rattle.store_model.specs.Pages.{Cell, Page, page_room, group_pages}
 use Rattle.store_model.proofs.ListsLemmas.{all_append}
-use Rattle.node_pages.proofs.Runs.{pages_from, page_of_run, all_pages, next_page, no_page}
-use Rattle.node_pages.proofs.Joined.{take_next}
+use Rattle.node_pages.specs.Groups.{pages_from, page_of_run}
+use Rattle.node_pages.proofs.Runs.{all_pages, next_page, no_page}
 use Rattle.skip_levels.specs.Floors.{last_of}
+
+-- one element more
+take_next : {X : Type 0} (xs : List X) (i : ℕ) (x : X) → slice_get xs i ≡ Some x → take (i + 1) xs ≡ take i xs ++ x ∷ []
+take_next [] i x e = absurd (cc)
+take_next {X = X} (y ∷ ys) zero x e = let same : (a b : X) → Some a ≡ Some b → a ≡ b = λ a b f. cc in ap (λ z. z ∷ []) (same y x e)
+take_next (y ∷ ys) (suc i) x e = let next : suc i + 1 ≡ suc (i + 1) = omega arith in ap (λ n. take n (y ∷ ys)) next ∙ ap (λ rest. y ∷ rest) (take_next ys i x e)
 
 -- ---- the last of some cells
 

@@ -27,14 +27,6 @@ pub record HoldsPairs (d : Draw) (s : List Pair) (m : PageMap) : Type 0 where
   pub few : length s ≤ most_pairs
   pub map_is : m ≡ map_of_pages (pages_of_pairs d s)
 
--- the lead is that of a level's group on the search path of the key, whatever list the map holds
-abbrev pub LeadsPath : PagesState → ℕ → ℕ → List ℕ → declared.Lead → Type 0
-LeadsPath pages height level key lead = (d : Draw) (s : List Pair) → HoldsPairs d s pages.pages → height ≡ d.height → lead_of lead ≡ leader_behind d level (not_above key s)
-
--- the key is the first above that leads a group of a level, whatever list the map holds
-abbrev pub LeadsAhead : PagesState → ℕ → ℕ → List ℕ → Option (List ℕ) → Type 0
-LeadsAhead pages height level key next = (d : Draw) (s : List Pair) → HoldsPairs d s pages.pages → height ≡ d.height → next ≡ leader_ahead d level (above key s)
-
 -- what is known at a level on the search path of a key: what leads the group of the level, and the next one of that level
 pub record IsPlace (d : Draw) (s : List Pair) (level : ℕ) (key : List ℕ) (place : PathEnd) : Type 0 where
   pub lead : lead_of place.lead ≡ leader_behind d level (not_above key s)
@@ -59,9 +51,19 @@ abbrev pub IsKnown : Draw → List Pair → Option PathEnd → Type 0
 IsKnown d s None = Unit {0}
 IsKnown d s (Some place) = (key : List ℕ) → LiesIn place key → IsPlace d s 0 key place
 
--- it is known of whatever list the map holds
-abbrev pub IsKnownIn : ℕ → PageMap → Option PathEnd → Type 0
-IsKnownIn height m known = (d : Draw) (s : List Pair) → HoldsPairs d s m → height ≡ d.height → IsKnown d s known
+-- the map is that of the pages of a list under a draw of this height, and what is known is right of that list
+pub record IsSearched (d : Draw) (s : List Pair) (m : PageMap) (height : ℕ) (known : Option PathEnd) : Type 0 where
+  pub holds : HoldsPairs d s m
+  pub high : height ≡ d.height
+  pub right : IsKnown d s known
+
+-- the lead is that of a level's group on the search path of the key, whatever list is searched
+abbrev pub LeadsPath : PagesState → ℕ → Option PathEnd → ℕ → List ℕ → declared.Lead → Type 0
+LeadsPath pages height known level key lead = (d : Draw) (s : List Pair) → IsSearched d s pages.pages height known → lead_of lead ≡ leader_behind d level (not_above key s)
+
+-- the key is the first above that leads a group of a level, whatever list is searched
+abbrev pub LeadsAhead : PagesState → ℕ → Option PathEnd → ℕ → List ℕ → Option (List ℕ) → Type 0
+LeadsAhead pages height known level key next = (d : Draw) (s : List Pair) → IsSearched d s pages.pages height known → next ≡ leader_ahead d level (above key s)
 
 -- the map is that of the pages of a list, and this is the place of the key at a level of it
 pub record IsWayFrom (d : Draw) (s : List Pair) (m : PageMap) (top : ℕ) (key : List ℕ) (from : PathEnd) : Type 0 where
@@ -84,33 +86,33 @@ pub record IsWayDown (old new : PagesState) (top : ℕ) (from : PathEnd) (bottom
   pub observed : IsObservable old → GoesDown old new top from bottom key result
 
 -- what the descent leaves of observable pages
-pub record FindsPathEnd (old new : PagesState) (height bottom : ℕ) (key : List ℕ) (result : Result PathEnd Fault) : Type 0 where
+pub record FindsPathEnd (old new : PagesState) (height : ℕ) (known : Option PathEnd) (bottom : ℕ) (key : List ℕ) (result : Result PathEnd Fault) : Type 0 where
   pub observable : IsObservable new
   pub unchanged : new.pages ≡ old.pages
-  pub lead : IfOk result (λ end. LeadsPath old height bottom key end.lead)
-  pub next : IfOk result (λ end. LeadsAhead old height bottom key end.next)
-  pub lookups : (d : Draw) (s : List Pair) → HoldsPairs d s old.pages → height ≡ d.height → new.lookups ≤ old.lookups + levels_cost d s key (suc bottom) (height - suc bottom)
+  pub lead : IfOk result (λ end. LeadsPath old height known bottom key end.lead)
+  pub next : IfOk result (λ end. LeadsAhead old height known bottom key end.next)
+  pub lookups : (d : Draw) (s : List Pair) → IsSearched d s old.pages height known → new.lookups ≤ old.lookups + levels_cost d s key (suc bottom) (height - suc bottom)
 
 -- a descent to a level on the search path of the key
-pub record IsDescent (old new : PagesState) (height bottom : ℕ) (key : List ℕ) (result : Result PathEnd Fault) : Type 0 where
+pub record IsDescent (old new : PagesState) (height : ℕ) (known : Option PathEnd) (bottom : ℕ) (key : List ℕ) (result : Result PathEnd Fault) : Type 0 where
   pub faults : new.faults ≡ disk_faults_after old.faults result
   pub lookups_kept : old.lookups ≤ new.lookups
   pub hidden : IsObservable new → IsObservable old
-  pub observed : IsObservable old → FindsPathEnd old new height bottom key result
+  pub observed : IsObservable old → FindsPathEnd old new height known bottom key result
 
 -- what a search for the value of a key leaves of observable pages
-pub record FindsValue (old new : PagesState) (height : ℕ) (key : List ℕ) (result : Result (Option (List ℕ)) Fault) : Type 0 where
+pub record FindsValue (old new : PagesState) (height : ℕ) (known : Option PathEnd) (key : List ℕ) (result : Result (Option (List ℕ)) Fault) : Type 0 where
   pub observable : IsObservable new
   pub unchanged : new.pages ≡ old.pages
-  pub found : (d : Draw) (s : List Pair) → HoldsPairs d s old.pages → height ≡ d.height → IfOk result (λ value. value ≡ find key_cmp key s)
-  pub lookups : (d : Draw) (s : List Pair) → HoldsPairs d s old.pages → height ≡ d.height → new.lookups ≤ old.lookups + path_cost d s key
+  pub found : (d : Draw) (s : List Pair) → IsSearched d s old.pages height known → IfOk result (λ value. value ≡ find key_cmp key s)
+  pub lookups : (d : Draw) (s : List Pair) → IsSearched d s old.pages height known → new.lookups ≤ old.lookups + path_cost d s key
 
 -- a search for the value of a key, in pages of lists of this height
-pub record IsValueSearch (old new : PagesState) (height : ℕ) (key : List ℕ) (result : Result (Option (List ℕ)) Fault) : Type 0 where
+pub record IsValueSearch (old new : PagesState) (height : ℕ) (known : Option PathEnd) (key : List ℕ) (result : Result (Option (List ℕ)) Fault) : Type 0 where
   pub faults : new.faults ≡ disk_faults_after old.faults result
   pub lookups_kept : old.lookups ≤ new.lookups
   pub hidden : IsObservable new → IsObservable old
-  pub observed : IsObservable old → FindsValue old new height key result
+  pub observed : IsObservable old → FindsValue old new height known key result
 
 -- the groups of two levels on the search path of a key, and its value
 pub record IsKeyPlace (d : Draw) (s : List Pair) (top : ℕ) (key : List ℕ) (place : KeyPlace) : Type 0 where
@@ -119,15 +121,15 @@ pub record IsKeyPlace (d : Draw) (s : List Pair) (top : ℕ) (key : List ℕ) (p
   pub value : place.value ≡ find key_cmp key s
 
 -- what a search for the place of a key leaves of observable pages
-pub record FindsKeyPlace (old new : PagesState) (height top : ℕ) (key : List ℕ) (result : Result KeyPlace Fault) : Type 0 where
+pub record FindsKeyPlace (old new : PagesState) (height : ℕ) (known : Option PathEnd) (top : ℕ) (key : List ℕ) (result : Result KeyPlace Fault) : Type 0 where
   pub observable : IsObservable new
   pub unchanged : new.pages ≡ old.pages
-  pub found : (d : Draw) (s : List Pair) → HoldsPairs d s old.pages → height ≡ d.height → IfOk result (IsKeyPlace d s top key)
-  pub lookups : (d : Draw) (s : List Pair) → HoldsPairs d s old.pages → height ≡ d.height → new.lookups ≤ old.lookups + path_cost d s key
+  pub found : (d : Draw) (s : List Pair) → IsSearched d s old.pages height known → IfOk result (IsKeyPlace d s top key)
+  pub lookups : (d : Draw) (s : List Pair) → IsSearched d s old.pages height known → new.lookups ≤ old.lookups + path_cost d s key
 
 -- a search for the place of a key, in pages of lists of this height
-pub record IsKeySearch (old new : PagesState) (height top : ℕ) (key : List ℕ) (result : Result KeyPlace Fault) : Type 0 where
+pub record IsKeySearch (old new : PagesState) (height : ℕ) (known : Option PathEnd) (top : ℕ) (key : List ℕ) (result : Result KeyPlace Fault) : Type 0 where
   pub faults : new.faults ≡ disk_faults_after old.faults result
   pub lookups_kept : old.lookups ≤ new.lookups
   pub hidden : IsObservable new → IsObservable old
-  pub observed : IsObservable old → FindsKeyPlace old new height top key result
+  pub observed : IsObservable old → FindsKeyPlace old new height known top key result

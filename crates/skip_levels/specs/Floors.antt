@@ -35,7 +35,17 @@ abbrev pub key_ahead : Option Cell → Option (List ℕ) → Option (List ℕ)
 key_ahead None next = next
 key_ahead (Some cell) next = Some cell.key
 
+-- what leads the next group: the key that was found in this one, or else what leads this one
+abbrev pub lead_at : Option (List ℕ) → Lead → Lead
+lead_at None lead = lead
+lead_at (Some key) lead = Leader key
+
 -- the value of a key in the cell that was found, if it is the key's
 abbrev pub value_at : List ℕ → Option Cell → Option (List ℕ)
 value_at key None = None
 value_at key (Some cell) = if is_eq (key_cmp key cell.key) then cell.value else None
+
+-- the key of the cell that was found
+abbrev pub key_in : Option Cell → Option (List ℕ)
+key_in None = None
+key_in (Some cell) = Some cell.key

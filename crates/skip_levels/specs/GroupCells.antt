@@ -1,5 +1,5 @@
 -- The cells of one group, and what a change of one key makes of them.
-use Rattle.std.specs.Prelude.{◌≡◌, ℕ, suc, ◌≤◌, List, ◌++◌, map, filter, length, take, drop, Bool, true, Option, Some, None, Result, MatchResult, ◌==◌}
+use Rattle.std.specs.Prelude.{◌≡◌, ℕ, ◌≤◌, List, ◌++◌, map, filter, length, take, drop, Bool, true, Option, Some, None, ◌==◌}
 use Rattle.std.specs.List.{AllByRecursion}
 use Rattle.std.specs.List.Sorted.{IsStrictlySortedBy}
 use Rattle.std.specs.Option.{option_map}
@@ -7,7 +7,8 @@ use Rattle.std.specs.Ordering.{is_lt, ordering_index}
 use Rattle.std.specs.declared.cmp.Ordering.{Ordering}
 use Rattle.std.specs.declared.cmp.Ordering.TheVariants.{Less, Equal, Greater}
 use Rattle.store_model.specs.Paths.{key_cmp}
-use Rattle.store_model.specs.Pages.{Cell, IsCell}
+use Rattle.store_model.specs.Pages.{Cell, Page, IsCell, page_room}
+use Rattle.node_pages.specs.Cells.{CellList}
 use Rattle.store_base.specs.declared.label.Lead as declared
 use Rattle.store_base.specs.Leads as leads
 use Rattle.store_model.specs.Labels.{Lead}
@@ -17,6 +18,11 @@ use Rattle.skip_levels.specs.Floors.{last_of, lead_from}
 pub record AreCells (level : ℕ) (cells : List Cell) : Type 0 where
   pub each : AllByRecursion (IsCell level) cells
   pub rising : IsStrictlySortedBy key_cmp (map (λ c. c.key) cells)
+
+-- a list of cells of the level whose keys strictly rise
+pub record IsRisingList (level : ℕ) (list : CellList) : Type 0 where
+  pub level_is : list.level ≡ level
+  pub cells : AreCells level list.cells
 
 -- the key of the last of some cells
 abbrev pub last_key_of : List Cell → Option (List ℕ)
@@ -48,15 +54,15 @@ pub record IsMerged (lead : Lead) (key : List ℕ) (low own high : List Cell) (m
 pub record AreBetween (key : List ℕ) (cells : List Cell) (at past : ℕ) : Type 0 where
   pub within : past ≤ length cells
   pub low : take at cells ≡ side Less key cells
+  pub own : drop at (take past cells) ≡ side Equal key cells
   pub high : drop past cells ≡ side Greater key cells
 
--- the place of the cell of a key, or the place where its cell would stand
-abbrev pub IsCellPlace : List ℕ → List Cell → Result ℕ ℕ → Type 0
-IsCellPlace key cells result = MatchResult result (λ at. AreBetween key cells at (suc at)) (λ at. AreBetween key cells at at)
+-- a page that a change of the key leaves as it is: it has no room, and its cells are below the key
+pub record IsKept (level : ℕ) (key : List ℕ) (page : Page) : Type 0 where
+  pub full : page_room level ≤ length page.cells
+  pub below : AllByRecursion (λ c. key_cmp c.key key ≡ Less) page.cells
 
--- cells of a level without that of a key, and the place where it would stand
-pub record IsGap (level : ℕ) (key : List ℕ) (cells : List Cell) (at : ℕ) : Type 0 where
-  pub valid : AreCells level cells
-  pub within : at ≤ length cells
-  pub below : AllByRecursion (λ c. key_cmp c.key key ≡ Less) (take at cells)
-  pub above : AllByRecursion (λ c. key_cmp c.key key ≡ Greater) (drop at cells)
+-- so many of the first pages stay
+pub record AreKept (level : ℕ) (key : List ℕ) (pages : List Page) (count : ℕ) : Type 0 where
+  pub within : count ≤ length pages
+  pub each : AllByRecursion (IsKept level key) (take count pages)

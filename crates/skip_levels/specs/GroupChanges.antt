@@ -7,6 +7,8 @@ use Rattle.store_base.specs.Faults.{disk_faults_after}
 use Rattle.store_model.specs.Labels.{Lead, IsLead}
 use Rattle.store_model.specs.Pages.{Cell, Page, IsPage, group_pages}
 use Rattle.store_model.specs.PageMaps.{map_of_pages}
+use Rattle.node_pages.specs.Cells.{CellList}
+use Rattle.node_pages.specs.Groups.{pages_from}
 use Rattle.node_pages.specs.PagesState.{PagesState, IsObservable, most_pages}
 use Rattle.skip_levels.specs.Groups.{IsNumbered, HoldsGroup}
 use Rattle.skip_levels.specs.SearchPath.{group_cost}
@@ -28,6 +30,10 @@ pub record IsChange (level : ℕ) (lead : Lead) (front back olds news : List Pag
 -- the pages of a group of which the first so many are the new ones
 abbrev pub changed_pages : ℕ → List Page → List Page → List Page
 changed_pages count olds news = take count news ++ drop count olds
+
+-- pages of a group of which the first so many stay, and behind them those of other cells
+abbrev pub renewed_pages : ℕ → Lead → List Page → CellList → List Page
+renewed_pages first lead olds list = take first olds ++ pages_from list.level lead first list.cells
 
 -- what changing the pages of a group from one number up to another makes of observable pages
 pub record ChangesPages {T : Type 0} (old new : PagesState) (olds news : List Page) (first past : ℕ) (result : Result T Fault) : Type 0 where

@@ -8,6 +8,7 @@ pub mod NextSearch
 pub mod PagePairs
 pub mod PairChanges
 pub mod PairsState
+pub mod PutPlaces
 pub mod Searches
 pub mod SearchPath
 pub mod ValidPairs

@@ -16,7 +16,7 @@ use Rattle.store_model.specs.PageMaps.{PageMap, pages_of_map}
 use Rattle.node_pages.specs.PagesState.{PagesState, IsObservable}
 use Rattle.skip_levels.specs.PairsState.{PairsState}
 use Rattle.skip_levels.specs.ValidPairs.{IsPairs-prop}
-use Rattle.skip_levels.specs.Descent.{HoldsPairs, IsPlace, IsKnown, IsKnownIn}
+use Rattle.skip_levels.specs.Descent.{HoldsPairs, IsPlace, IsKnown}
 use Rattle.skip_levels.specs.declared.search.PathEnd.{PathEnd}
 
 -- the pair of a cell, if it has a value
@@ -75,10 +75,6 @@ IsKnown-prop : (d : Draw) (s : List Pair) (known : Option PathEnd) → IsProp (I
 IsKnown-prop d s None = hlevel props
 IsKnown-prop d s (Some place) = hlevel (IsPlace-prop)
 
--- that a place is known is one fact
-pub IsKnownIn-prop : (pages : PagesState) (height : ℕ) (m : PageMap) (known : Option PathEnd) → IsProp (IsObservable pages → IsKnownIn height m known)
-IsKnownIn-prop pages height m known = hlevel (IsKnown-prop)
-
 pub HoldsPairs-prop : (d : Draw) (s : List Pair) (m : PageMap) → IsProp (HoldsPairs d s m)
 HoldsPairs-prop d s m = hlevel (props, IsPairs-prop, Coded-set (maps.code {R = key_cmp} (coded_list coded_ℕ) page_code))
 
@@ -88,3 +84,10 @@ IsWhole d list m = list.is_observable → HoldsPairs d list.pairs m
 
 pub IsWhole-prop : (d : Draw) (list : PairsState) (m : PageMap) → IsProp (IsWhole d list m)
 IsWhole-prop d list m = hlevel (HoldsPairs-prop)
+
+-- where the list is observable, what is known is right of its pairs
+abbrev pub KnowsPlace : Draw → PairsState → Option PathEnd → Type 0
+KnowsPlace d list known = list.is_observable → IsKnown d list.pairs known
+
+pub KnowsPlace-prop : (d : Draw) (list : PairsState) (known : Option PathEnd) → IsProp (KnowsPlace d list known)
+KnowsPlace-prop d list known = hlevel (IsKnown-prop)

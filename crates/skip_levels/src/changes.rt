@@ -7,11 +7,12 @@ ghost use Rattle.store_model.specs.Pairs.{Pair};
 ghost use Rattle.store_model.specs.Pages as model;
 ghost use Rattle.node_pages.specs.PagesState.{IsObservable};
 ghost use Rattle.skip_levels.specs.PairsState.{most_pairs};
-ghost use Rattle.skip_levels.specs.Descent.{HoldsPairs, IsKnownIn};
+ghost use Rattle.skip_levels.specs.Descent.{HoldsPairs, IsKnown};
 ghost use Rattle.skip_levels.specs.PagePairs.{pairs_of_map};
 ghost use Rattle.skip_levels.specs.PairChanges.{IsPutting, IsTaking, PutsPairFrom, TakesPairFrom, PutsPairIn, TakesPairIn};
 
 use crate::levels::{join_groups, set_cells, split_group};
+use crate::put_place::{place_behind, place_to_put};
 use crate::search::{KeyPlace, PathEnd, find_place};
 use node_pages::{Cell, Pages};
 use seeded_draw::Draw;
@@ -79,7 +80,8 @@ pub fn take_from<P: Pages>(
     Ok(())
 }
 
-/// Puts the value under the key in the pages of a list. After a fault a part of the pages may be changed.
+/// Puts the value under the key in the pages of a list, and answers the place on level 0 that the key then has. After a fault a
+/// part of the pages may be changed.
 pub fn put_pair<P: Pages, W: Draw>(
     alloc: Global,
     pages: &mut P,
@@ -87,44 +89,53 @@ pub fn put_pair<P: Pages, W: Draw>(
     known: &Option<PathEnd>,
     key: &Key,
     value: &Value,
-) -> Result<(), Fault>
-    requires known { IsObservable (P.state pages.old) → IsKnownIn (W.drawn draw.now).height (P.state pages.old).pages known.now }
+) -> Result<PathEnd, Fault>
+    requires known { IsObservable (P.state pages.old) → IsKnown (W.drawn draw.now) (pairs_of_map (P.state pages.old).pages) known.now }
     requires whole { IsObservable (P.state pages.old) → HoldsPairs (W.drawn draw.now) (pairs_of_map (P.state pages.old).pages) (P.state pages.old).pages }
     requires room { IsObservable (P.state pages.old) → length (pairs_of_map (P.state pages.old).pages) < most_pairs }
     ensures call { PutsPairIn (W.drawn draw.now) (P.state pages.old) (P.state pages.new) key.now value.now result }
     ensures follows { P.follows pages.old pages.new }
 {
-    let top = draw.level(key);
-    let KeyPlace {
-        lead,
-        low,
-        value: found,
-    } = find_place(pages, known, draw.height(), top, key)?;
-    match found {
-        Some(_) => put_from(alloc, pages, 0, &low.lead, key, value),
-        None => put_from(alloc, pages, top, &lead, key, value),
-    }
+    let _ = key.as_bytes();
+    let _ = value.as_slice();
+    let place = place_to_put(pages, draw, known, key)?;
+    put_from(alloc, pages, place.top, &place.lead, key, value)?;
+    Ok(place_behind(&place, key))
 }
 
-/// Takes the pair of a key out of the pages of a list, and answers its value; `None` exactly where the list lacks the key. After
-/// a fault a part of the pages may be changed.
+/// What taking a pair out answers.
+#[derive(Drop)]
+pub struct Taken {
+    /// The value of the key; `None` exactly where the list lacked the key.
+    pub value: Option<Value>,
+    /// The place on level 0 that the key then has, where it is known.
+    pub known: Option<PathEnd>,
+}
+
+/// Takes the pair of a key out of the pages of a list, and answers its value. After a fault a part of the pages may be changed.
 pub fn take_pair<P: Pages, W: Draw>(
     alloc: Global,
     pages: &mut P,
     draw: &W,
     known: &Option<PathEnd>,
     key: &Key,
-) -> Result<Option<Value>, Fault>
-    requires known { IsObservable (P.state pages.old) → IsKnownIn (W.drawn draw.now).height (P.state pages.old).pages known.now }
+) -> Result<Taken, Fault>
+    requires known { IsObservable (P.state pages.old) → IsKnown (W.drawn draw.now) (pairs_of_map (P.state pages.old).pages) known.now }
     requires whole { IsObservable (P.state pages.old) → HoldsPairs (W.drawn draw.now) (pairs_of_map (P.state pages.old).pages) (P.state pages.old).pages }
     ensures call { TakesPairIn (W.drawn draw.now) (P.state pages.old) (P.state pages.new) key.now result }
     ensures follows { P.follows pages.old pages.new }
 {
     let top = draw.level(key);
-    let KeyPlace { lead, value, .. } = find_place(pages, known, draw.height(), top, key)?;
+    let KeyPlace { lead, low, value } = find_place(pages, known, draw.height(), top, key)?;
     let Some(value) = value else {
-        return Ok(None);
+        return Ok(Taken {
+            value: None,
+            known: Some(low),
+        });
     };
     take_from(alloc, pages, top, &lead, key)?;
-    Ok(Some(value))
+    Ok(Taken {
+        value: Some(value),
+        known: if top == 0 { Some(low) } else { None },
+    })
 }

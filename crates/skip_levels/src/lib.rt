@@ -5,13 +5,14 @@ mod cells;
 mod change;
 mod changes;
 mod group;
-mod in_place;
 mod levels;
 mod map;
 mod next;
 mod ordered;
+mod put_place;
 mod search;
 mod skip_list;
+mod wanted;
 
 pub use map::MapPairs;
 pub use ordered::OrderedPairs;

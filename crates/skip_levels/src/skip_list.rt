@@ -3,11 +3,11 @@
 ghost use Rattle.std.specs.Prelude.{◌≡◌};
 ghost use Rattle.store_model.specs.Pairs as model;
 ghost use Rattle.node_pages.specs.PagesState as pages_state;
-ghost use Rattle.skip_levels.specs.Descent.{HoldsPairs, IsKnownIn};
-ghost use Rattle.skip_levels.specs.PagePairs.{pairs_of_map, list_over, IsWhole, IsWhole-prop, IsKnownIn-prop};
+ghost use Rattle.skip_levels.specs.Descent.{HoldsPairs};
+ghost use Rattle.skip_levels.specs.PagePairs.{pairs_of_map, list_over, IsWhole, IsWhole-prop, KnowsPlace, KnowsPlace-prop};
 
-use crate::changes::{put_pair, take_pair};
-use crate::next::find_next;
+use crate::changes::{Taken, put_pair, take_pair};
+use crate::next::{NextPair, find_next};
 use crate::ordered::OrderedPairs;
 use crate::search::{KeyPlace, PathEnd, find_place};
 use node_pages::Pages;
@@ -21,7 +21,8 @@ use store_base::{Fault, Key, Value};
 /// It is observable where its pages are and no `put` or `take` of it failed. One of which a change failed is spent: its pages are
 /// given back by `into_pages`, and a further `put` or `take` answers `NoMemory` and changes nothing.
 ///
-/// It knows the group of level 0 to which the last `get` came, until a `put` or a `take`: a key that lies there needs no descent.
+/// It knows the group of level 0 to which its last call came, unless that one took out a key that led its group: a key that lies there
+/// needs no descent.
 #[derive(Drop)]
 pub struct SkipList<P: Pages, W: Draw> {
     alloc: Global,
@@ -29,7 +30,7 @@ pub struct SkipList<P: Pages, W: Draw> {
     draw: W,
     is_whole: bool,
     known: Option<PathEnd>,
-    pub ghost place: { pages_state.IsObservable (P.state pages) → IsKnownIn (W.drawn draw).height (P.state pages).pages known } by { IsKnownIn-prop (P.state pages) (W.drawn draw).height (P.state pages).pages known },
+    pub ghost place: { KnowsPlace (W.drawn draw) (list_over is_whole (P.state pages)) known } by { KnowsPlace-prop (W.drawn draw) (list_over is_whole (P.state pages)) known },
     pub ghost whole: { IsWhole (W.drawn draw) (list_over is_whole (P.state pages)) (P.state pages).pages } by { IsWhole-prop (W.drawn draw) (list_over is_whole (P.state pages)) (P.state pages).pages },
 }
 
@@ -106,7 +107,7 @@ impl<P: Pages, W: Draw + Drop> OrderedPairs for SkipList<P, W> {
         }
         self.is_whole = false;
         let known = self.known.take();
-        put_pair(
+        let low = put_pair(
             self.alloc,
             &mut self.pages,
             &self.draw,
@@ -114,6 +115,7 @@ impl<P: Pages, W: Draw + Drop> OrderedPairs for SkipList<P, W> {
             &key,
             &value,
         )?;
+        self.known = Some(low);
         self.is_whole = true;
         Ok(())
     }
@@ -129,9 +131,16 @@ impl<P: Pages, W: Draw + Drop> OrderedPairs for SkipList<P, W> {
         }
         self.is_whole = false;
         let known = self.known.take();
-        let taken = take_pair(self.alloc, &mut self.pages, &self.draw, &known, key)?;
+        let Taken { value, known } = take_pair(
+            self.alloc,
+            &mut self.pages,
+            &self.draw,
+            &known,
+            key,
+        )?;
+        self.known = known;
         self.is_whole = true;
-        Ok(taken)
+        Ok(value)
     }
 
     /// The groups of one search path are read, and where the pair leads the next group one page more.
@@ -141,6 +150,8 @@ impl<P: Pages, W: Draw + Drop> OrderedPairs for SkipList<P, W> {
         ensures lookups { IsObservable (⟦<SkipList<P, W> as OrderedPairs>⟧.state self.old) → (P.state self.new.pages).lookups ≤ (P.state self.old.pages).lookups + path_cost (W.drawn self.old.draw) (pairs_of_map (P.state self.old.pages).pages) key.now + 1 }
     {
         let height = self.draw.height();
-        find_next(&mut self.pages, &self.known, height, key)
+        let NextPair { pair, low } = find_next(&mut self.pages, &self.known, height, key)?;
+        self.known = Some(low);
+        Ok(pair)
     }
 }

@@ -1,35 +1,36 @@
-use Rattle.std.proofs.Common.{◌≡◌, ◌<◌, ◌++◌, ◌+◌, length, sym, ap, subst, ◌∙◌, arith}
-use Rattle.std.specs.Bool.{◌==◌}
-use Rattle.std.specs.Ordering.{ordering_index}
-use Rattle.store_model.specs.Paths.{key_cmp}
-use Rattle.store_model.specs.Pages.{Cell}
-use Rattle.skip_levels.specs.GroupCells.{AreCells, compares}
-use Rattle.skip_levels.proofs.CellLists.{side_step, side_stays, side_within}
+use Rattle.std.proofs.Common.{◌≡◌, ◌<◌, ◌++◌, ◌+◌, length, take, drop, sym, ap, subst, ◌∙◌, append_assoc, arith}
+use Rattle.skip_levels.specs.GroupCells.{AreCells, side}
+use Rattle.skip_levels.proofs.KeyRanges.{on_level, list_on, side_of, side_of_more, side_of_within, cells_of_more, cells_of_first}
 use Rattle.skip_levels.proofs.cells.append_side.Goals as goal
-use Rattle.skip_levels.proofs.cells.append_side.Goals.{then-eq+in_ok-copy_of+in_ok-push_rising, else-eq}
 
-pub loop-cell-preserved : goal.loop-cell-preserved
-loop-cell-preserved c =
+pub append_rising-requires-clause-cells : goal.append_rising-requires-clause-cells
+append_rising-requires-clause-cells c = let valid = c.loop-page.invariant.valid in subst (λ n. AreCells n c.loop-page.cells.cells) (sym valid.level_is) valid.cells
+
+pub loop-page-preserved : goal.loop-page-preserved
+loop-page-preserved c =
     let key = c.args.key.now in
     let order = c.args.order in
-    let from = c.args.from.now in
-    let i = c.loop-cell.cell-index in
+    let pages = c.args.pages.now in
+    let i = c.loop-page.page-index in
     let old = c.args.cells.now in
-    let item = c.cell-item.result in
-    let below : i < length from = omega arith in
-    let test : compares order key item ≡ c.eq.result =
-    ap (λ o. ordering_index o == ordering_index order) (sym (c.cmp.ensures.value ∙ ap (λ (x : Cell). key_cmp x.key key) c.cell.view_is)) ∙ sym c.eq.ensures in
-    elim c.if-eq.branch [
-      | then-eq+in_ok-copy_of+in_ok-push_rising w ↦ record {
-        valid = subst (AreCells c.args.level) (sym w.cells-is) w.in_ok-push_rising.ensures.valid;
-        added = λ all.
-            let line = side_step order key old from c.loop-cell.cells i item w.in_ok-copy_of.field-0 below c.cell-item.is w.in_ok-copy_of.ensures (test ∙ w.if-eq.true) (c.loop-cell.invariant.added all) in
-            w.cells-is ∙ w.in_ok-push_rising.ensures.added (subst (AreCells c.args.level) line (side_within order key c.args.level old from (i + 1) all)) ∙ sym line;
-        few = omega (arith, ap length w.cells-is, w.in_ok-push_rising.ensures.few, c.loop-cell.invariant.few);
-      }
-      | else-eq w ↦ record {
-        valid = subst (AreCells c.args.level) (sym w.cells-is) c.loop-cell.invariant.valid;
-        added = λ all. w.cells-is ∙ c.loop-cell.invariant.added all ∙ ap (λ xs. old ++ xs) (sym (side_stays order key from i item below c.cell-item.is (test ∙ w.if-eq.false)));
-        few = omega (arith, ap length w.cells-is, c.loop-cell.invariant.few);
-      }
-    ]
+    let page = c.page-item.result in
+    let before = c.loop-page.invariant in
+    let below : i < length pages = omega arith in
+    let now = c.loop-page.cells in
+    let range = drop c.range_of-first.result.0 (take c.range_of-first.result.1 page.cells) in
+    record {
+      valid = list_on now.level old.level c.append_rising.new.cells before.valid.level_is c.in_ok-append_rising.ensures.valid;
+      added = λ all.
+          let more : old.cells ++ side_of order key (take (i + 1) pages) ≡ now.cells ++ range =
+          ap (λ xs. old.cells ++ xs) (side_of_more order key pages i page below c.page-item.is)
+          ∙ sym (append_assoc old.cells (side_of order key (take i pages)) (side order key page.cells))
+          ∙ ap (λ xs. xs ++ side order key page.cells) (sym (before.added all))
+          ∙ ap (λ xs. now.cells ++ xs) (sym c.range_of-first.ensures.side) in
+          on_level now.level old.level (now.cells ++ range) before.valid.level_is c.in_ok-append_rising.ensures.added (subst (AreCells old.level) more (side_of_within order key old.level old.cells pages (i + 1) all)) ∙ sym more;
+      few = omega (arith, c.in_ok-append_rising.ensures.few, before.few, cells_of_more pages i page below c.page-item.is, c.range_of-first.ensures.within);
+    }
+
+pub returns-in_err-append_rising-clause-few : goal.returns-in_err-append_rising-clause-few
+returns-in_err-append_rising-clause-few c =
+    let more = cells_of_more c.args.pages.now c.loop-page.page-index c.page-item.result (omega arith) c.page-item.is in
+    omega (arith, c.append_rising.ensures.few, c.loop-page.invariant.few, more, cells_of_first c.args.pages.now (c.loop-page.page-index + 1), c.range_of-first.ensures.within)

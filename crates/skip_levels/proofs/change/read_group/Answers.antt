@@ -22,17 +22,17 @@ returns-clause-call g c =
 
 pub loop-index-preserved : goal.loop-index-preserved
 loop-index-preserved g c = record {
-  read = rw c.in_ok-push.ensures.ok (reading_goes_on (g.P.Pages.state c.args.pages.now) c.args.level (lead_of c.args.lead.now) (g.P.Pages.state c.loop-index.pages) (g.P.Pages.state c.look.follows.lender-at-none) c.loop-index.index c.loop-index.group c.loop-index.invariant.read
+  read = rw c.in_ok-push_copy.ensures.ok (reading_goes_on (g.P.Pages.state c.args.pages.now) c.args.level (lead_of c.args.lead.now) (g.P.Pages.state c.loop-index.pages) (g.P.Pages.state c.look.follows.lender-at-none) c.loop-index.index c.loop-index.group c.loop-index.invariant.read
       c.in-Some.page.now (no_room c.is_last.result _ _ c.is_last.ensures c.if-is_last.false) (omega arith) (looked_some c.label_in_group.ensures c.look.follows.holds-at-none.0 c.in_ok-found.was c.in-Some.is));
   follows = g.met.P.Pages.follows_trans c.args.pages.now c.loop-index.pages c.look.follows.lender-at-none c.loop-index.invariant.follows c.look.follows.holds-at-none.1;
 }
 
 pub returns-then-is_last-clause-call : goal.returns-then-is_last-clause-call
 returns-then-is_last-clause-call g c =
-    rw c.in_ok-push.ensures.ok (reading_stops_short (g.P.Pages.state c.args.pages.now) c.args.level (lead_of c.args.lead.now) (g.P.Pages.state c.loop-index.pages) (g.P.Pages.state c.look.follows.lender-at-none) c.loop-index.index c.loop-index.group c.loop-index.invariant.read
+    rw c.in_ok-push_copy.ensures.ok (reading_stops_short (g.P.Pages.state c.args.pages.now) c.args.level (lead_of c.args.lead.now) (g.P.Pages.state c.loop-index.pages) (g.P.Pages.state c.look.follows.lender-at-none) c.loop-index.index c.loop-index.group c.loop-index.invariant.read
     c.in-Some.page.now (c.is_last.ensures.0 c.if-is_last.true) (omega arith) (looked_some c.label_in_group.ensures c.look.follows.holds-at-none.0 c.in_ok-found.was c.in-Some.is))
 
-pub returns-in_err-push-clause-call : goal.returns-in_err-push-clause-call
-returns-in_err-push-clause-call g c =
-    let p = err_from_is_err_and c.from_residual-in_err-push.result c.from_residual-in_err-push.ensures.1 in
+pub returns-in_err-push_copy-clause-call : goal.returns-in_err-push_copy-clause-call
+returns-in_err-push_copy-clause-call g c =
+    let p = err_from_is_err_and c.from_residual-in_err-push_copy.result c.from_residual-in_err-push_copy.ensures.1 in
     rw (p.1, p.2) (reading_lacks_memory (g.P.Pages.state c.args.pages.now) c.args.level (lead_of c.args.lead.now) (g.P.Pages.state c.loop-index.pages) (g.P.Pages.state c.look.follows.lender-at-none) c.loop-index.index c.loop-index.group c.loop-index.invariant.read (Some c.in-Some.page.now) (looked_some c.label_in_group.ensures c.look.follows.holds-at-none.0 c.in_ok-found.was c.in-Some.is))

@@ -1,17 +1,27 @@
-use Rattle.std.proofs.Common.{◌∙◌, sym, arith}
-use Rattle.skip_levels.proofs.GroupChangeLemmas.{changes_by_put, changes_by_drop, changes_by_none}
+use Rattle.std.proofs.Common.{arith}
+use Rattle.store_base.specs.Leads.{lead_of}
+use Rattle.skip_levels.specs.GroupChanges.{renewed_pages}
+use Rattle.skip_levels.proofs.GroupChangeLemmas.{changes_by_put, changes_by_drop, changes_by_none, length-renewed, renewed_at}
 use Rattle.skip_levels.proofs.change.replace_page.Goals as goal
 
-pub returns-then-i-len-clause-call : goal.returns-then-i-len-clause-call
-returns-then-i-len-clause-call g c =
-    changes_by_drop (g.P.Pages.state c.args.pages.now) c.args.old.now c.args.new.now c.args.i (omega arith) (g.P.Pages.state c.drop_page.new.self) c.get.result.now c.label.result c.drop_page.result
-    c.label.ensures.value (omega (arith, c.len.ensures)) c.get.ensures c.drop_page.ensures.call
+pub get-requires : goal.get-requires
+get-requires g c = omega (arith, c.requires.within, length-renewed c.args.first (lead_of c.args.lead.now) c.args.old.now c.args.cells.now c.requires.kept, c.page_count.ensures, c.requires.behind)
 
-pub returns-then-eq-clause-call : goal.returns-then-eq-clause-call
-returns-then-eq-clause-call g c =
-    changes_by_none (g.P.Pages.state c.args.pages.now) c.args.old.now c.args.new.now c.args.i (omega arith) c.get-then-i-len-2.result.now c.get-then-i-len-2-2.result.now c.get-then-i-len-2-2.ensures c.get-then-i-len-2.ensures
-    (sym c.eq.ensures ∙ c.if-eq.true)
+pub returns-then-i-first-clause-call : goal.returns-then-i-first-clause-call
+returns-then-i-first-clause-call g c =
+    let news = renewed_pages c.args.first (lead_of c.args.lead.now) c.args.old.now c.args.cells.now in
+    changes_by_drop (g.P.Pages.state c.args.pages.now) c.args.old.now news c.args.i (omega arith) (g.P.Pages.state c.drop_page.new.self) c.get.result.now c.label.result c.drop_page.result
+    c.label.ensures.value (omega (arith, length-renewed c.args.first (lead_of c.args.lead.now) c.args.old.now c.args.cells.now c.requires.kept, c.page_count.ensures, c.requires.behind)) c.get.ensures c.drop_page.ensures.call
+
+pub returns-then-is_page-clause-call : goal.returns-then-is_page-clause-call
+returns-then-is_page-clause-call g c =
+    let lead = lead_of c.args.lead.now in
+    let old = c.get-then-i-len.result.now in
+    changes_by_none (g.P.Pages.state c.args.pages.now) c.args.old.now (renewed_pages c.args.first lead c.args.old.now c.args.cells.now) c.args.i (omega arith) old
+    (renewed_at c.args.first lead c.args.old.now c.args.cells.now c.requires.kept c.args.i old c.requires.behind (c.is_page.ensures.0 c.if-is_page.true)) c.get-then-i-len.ensures
 
 pub returns-clause-call : goal.returns-clause-call
 returns-clause-call g c =
-    changes_by_put (g.P.Pages.state c.args.pages.now) c.args.old.now c.args.new.now c.args.i (omega arith) (g.P.Pages.state c.put.new.self) c.get-2.result.now c.put.result c.get-2.ensures c.put.ensures.call
+    let lead = lead_of c.args.lead.now in
+    changes_by_put (g.P.Pages.state c.args.pages.now) c.args.old.now (renewed_pages c.args.first lead c.args.old.now c.args.cells.now) c.args.i (omega arith) (g.P.Pages.state c.put.new.self) c.page.result c.put.result
+    (renewed_at c.args.first lead c.args.old.now c.args.cells.now c.requires.kept c.args.i c.page.result c.requires.behind c.page.ensures) c.put.ensures.call

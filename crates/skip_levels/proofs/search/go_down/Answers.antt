@@ -22,7 +22,7 @@ loop-level-preserved g c = record {
   below = omega (arith, c.loop-level.invariant.below);
   above = omega arith;
   descends = way_goes_on (g.P.Pages.state c.args.pages.now) c.args.top c.args.from.now c.args.key.now (g.P.Pages.state c.loop-level.pages) (g.P.Pages.state c.neighbours_in_group.new.pages) c.loop-level.level c.loop-level.lead c.loop-level.next c.loop-level.invariant.descends
-      c.loop-level.invariant.below c.in_ok-near.near c.next_lead-lead.result c.next_ahead-next.result (c.loop-level.level - 1) (omega arith) c.in_ok-near.ensures.call c.next_lead-lead.ensures c.next_ahead-next.ensures;
+      c.loop-level.invariant.below c.in_ok-near.near c.next_lead-lead.result c.or-next.result (c.loop-level.level - 1) (omega arith) c.in_ok-near.ensures.call c.next_lead-lead.ensures c.or-next.ensures;
   follows = g.met.P.Pages.follows_trans c.args.pages.now c.loop-level.pages c.neighbours_in_group.new.pages c.loop-level.invariant.follows c.neighbours_in_group.ensures.follows;
 }
 

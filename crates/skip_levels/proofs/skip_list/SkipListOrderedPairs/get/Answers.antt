@@ -1,25 +1,24 @@
-use Rattle.std.proofs.Common.{◌∙◌, [], subst, sym, arith}
-use Rattle.skip_levels.specs.Descent.{HoldsPairs}
+use Rattle.std.proofs.Common.{[], arith}
 use Rattle.skip_levels.specs.PagePairs.{pairs_of_map}
-use Rattle.skip_levels.proofs.KnownPlaces.{known_behind}
+use Rattle.skip_levels.proofs.ListCalls.{whole_still, known_by_search}
 use Rattle.skip_levels.proofs.skip_list.SkipListOrderedPairs.get.Goals as goal
 
 -- a lawful draw has a level
-pub find_place-requires-clause-within : goal.find_place-requires-clause-within
-find_place-requires-clause-within g c =
+pub find_place-requires : goal.find_place-requires
+find_place-requires g c =
     let below = (g.met.W.Draw.lawful c.args.self.now.draw).level_in_range [] in
     omega (arith, below, c.height-height.ensures)
-
-pub find_place-requires-clause-known : goal.find_place-requires-clause-known
-find_place-requires-clause-known g c = λ o d s h high. c.args.self.now.place o d s h (sym c.height-height.ensures ∙ high)
 
 pub invariant_of-self-2 : goal.invariant_of-self-2
 invariant_of-self-2 g c =
     let search = c.in_ok-low.ensures.call in
     record {
-      place = λ o d s h high.
-          known_behind (g.P.Pages.state c.args.self.now.pages) (g.P.Pages.state c.find_place.new.pages) c.height-height.result c.args.key.now c.in_ok-low.field-0 search o d s h (c.height-height.ensures ∙ high);
+      place = λ seen.
+          let o = search.hidden seen.1 in
+          let held = c.args.self.now.whole (seen.0, o) in
+          let n = search.observed o in
+          known_by_search (g.W.Draw.drawn c.args.self.now.draw) (g.P.Pages.state c.args.self.now.pages) (g.P.Pages.state c.find_place.new.pages) n.unchanged held c.args.key.now c.in_ok-low.field-0.low (n.found (g.W.Draw.drawn c.args.self.now.draw) (pairs_of_map (g.P.Pages.state c.args.self.now.pages).pages) (record { holds = held; high = c.height-height.ensures; right = c.args.self.now.place (seen.0, o) })).low;
       whole = λ seen.
-          let n = search.observed (search.hidden seen.1) in
-          subst (λ m. HoldsPairs (g.W.Draw.drawn c.args.self.now.draw) (pairs_of_map m) m) (sym n.unchanged) (c.args.self.now.whole (seen.0, search.hidden seen.1));
+          let o = search.hidden seen.1 in
+          whole_still (g.W.Draw.drawn c.args.self.now.draw) (g.P.Pages.state c.args.self.now.pages) (g.P.Pages.state c.find_place.new.pages) (search.observed o).unchanged (c.args.self.now.whole (seen.0, o));
     }

@@ -1,0 +1,47 @@
+-- The place at which a pair is put into the pages of a list, and what a search for it does.
+use Rattle.std.specs.Prelude.{◌≡◌, ◌⊎◌, ℕ, ◌+◌, ◌≤◌, List, Bool, false, Option, Result, IfOk, ◌==◌, if◌then◌else◌}
+use Rattle.store_base.specs.declared.store_fault.Fault.{Fault}
+use Rattle.store_base.specs.declared.label.Lead.TheVariants as leads
+use Rattle.skip_levels.specs.declared.search.PathEnd.{PathEnd}
+use Rattle.skip_levels.specs.declared.put_place.PutPlace.{PutPlace}
+use Rattle.store_base.specs.Faults.{disk_faults_after}
+use Rattle.store_base.specs.Leads.{lead_of}
+use Rattle.std.specs.Ordering.{is_eq}
+use Rattle.store_model.specs.Paths.{key_cmp}
+use Rattle.store_model.specs.Draws.{Draw}
+use Rattle.store_model.specs.Labels.{Lead}
+use Rattle.store_model.specs.Labels.Lead.{Start, Leader}
+use Rattle.store_model.specs.Pairs.{Pair}
+use Rattle.node_pages.specs.PagesState.{PagesState, IsObservable}
+use Rattle.skip_levels.specs.Descent.{HoldsPairs, IsPlace, IsKnown}
+use Rattle.skip_levels.specs.PairChanges.{IsNew, IsThere}
+use Rattle.skip_levels.specs.SearchPath.{leader_behind, not_above, path_cost}
+
+-- a new key is put from its own level down, and one that is there on level 0 alone; the groups of both levels on its search path
+pub record IsPutPlace (d : Draw) (s : List Pair) (key : List ℕ) (place : PutPlace) : Type 0 where
+  pub lead : lead_of place.lead ≡ leader_behind d place.top (not_above key s)
+  pub low : IsPlace d s 0 key place.low
+  pub own : IsNew d s key place.top ⊎ IsThere s key place.top
+
+-- whether a key is what leads a group
+abbrev pub is_leader : List ℕ → Lead → Bool
+is_leader key Start = false
+is_leader key (Leader leader) = is_eq (key_cmp leader key)
+
+-- the place of the key on level 0 behind a put at this place
+abbrev pub behind : PutPlace → List ℕ → PathEnd
+behind place key = if place.top == 0 then place.low else record { lead = leads.Key key; next = place.low.next }
+
+-- what a search for the place of a put leaves of observable pages
+pub record FindsPutPlace (d : Draw) (old new : PagesState) (known : Option PathEnd) (key : List ℕ) (result : Result PutPlace Fault) : Type 0 where
+  pub observable : IsObservable new
+  pub unchanged : new.pages ≡ old.pages
+  pub found : (s : List Pair) → HoldsPairs d s old.pages → IsKnown d s known → IfOk result (IsPutPlace d s key)
+  pub lookups : (s : List Pair) → HoldsPairs d s old.pages → IsKnown d s known → new.lookups ≤ old.lookups + path_cost d s key
+
+-- a search for the place of a put, in pages of lists under this draw
+pub record IsPutSearch (d : Draw) (old new : PagesState) (known : Option PathEnd) (key : List ℕ) (result : Result PutPlace Fault) : Type 0 where
+  pub faults : new.faults ≡ disk_faults_after old.faults result
+  pub lookups_kept : old.lookups ≤ new.lookups
+  pub hidden : IsObservable new → IsObservable old
+  pub observed : IsObservable old → FindsPutPlace d old new known key result
