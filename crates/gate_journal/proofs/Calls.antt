@@ -58,6 +58,11 @@ AreCalls-failed old new error other = AreCalls-as old new (Err error) (Err other
 pub AreCalls-answered : {T E U F : Type 0} (old new : DiskState) (value : U) (other : T) → AreCalls {E = F} old new (Ok value) → AreCalls {E = E} old new (Ok other)
 AreCalls-answered old new value other = AreCalls-as old new (Ok value) (Ok other) refl
 
+-- the same, of which no more is known than that it is an error
+pub AreCalls-fault : {T E U F : Type 0} (old new : DiskState) (error : F) (result : Result T E) → IsErr result → AreCalls {T = U} old new (Err error) → AreCalls old new result
+AreCalls-fault old new error (Ok answer) fails calls = absurd (false≢true fails)
+AreCalls-fault old new error (Err other) fails calls = AreCalls-failed old new error other calls
+
 pub observable_after : {T E : Type 0} (old new : DiskState) (result : Result T E) → AreCalls old new result → IsObservable old → IsObservable new
 observable_after old new result calls observable = calls.observable ∙ observable
 

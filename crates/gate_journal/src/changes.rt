@@ -14,9 +14,9 @@ pub trait SlotChanges {
     fn count(&self) -> u32
         ensures { result ≡ (changes self.now).count };
 
-    /// Puts the new bytes of change `k` into the buffer, and gives the number of its slot.
-    fn change(&self, k: u32, into: &mut Slot) -> u32
+    /// The number of the slot of change `k`, and its new bytes.
+    fn change(&self, k: u32) -> (u32, &Slot)
         requires { k < (changes self.now).count }
-        ensures slot { result ≡ (changes self.now).slot k }
-        ensures bytes { into.new ≡ (changes self.now).bytes k };
+        ensures slot { result.0 ≡ (changes self.now).slot k }
+        ensures bytes { result.1.now ≡ (changes self.now).bytes k };
 }

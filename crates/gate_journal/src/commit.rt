@@ -12,6 +12,9 @@ use crate::changes::SlotChanges;
 use disk_model::Disk;
 use store_base::{BLOCK, DiskFault, Slot, gate_at, mark_at, shadow_at, table_at};
 
+/// The block that clears a shadow block.
+static ZEROS: Slot = [0; BLOCK];
+
 /// What a pass over the changed slots writes of each of them.
 #[derive(Clone, Copy)]
 enum Pass {
@@ -74,7 +77,7 @@ fn write_slot<D: Disk>(
     match pass {
         Pass::Journal => write_entry(disk, slots, slot, bytes, 1),
         Pass::Table => disk.write_at(table_at(slots, slot), bytes),
-        Pass::Erase => write_entry(disk, slots, slot, &[0; BLOCK], 0),
+        Pass::Erase => write_entry(disk, slots, slot, &ZEROS, 0),
     }
 }
 
@@ -94,10 +97,9 @@ fn write_slots<D: Disk, S: SlotChanges>(
     ensures makes { IsObservable (D.state disk.old) → Makes (slot_writes pass * (S.changes changes.now).count) 1 (D.state disk.old) (D.state disk.new) result }
     ensures wrote { IsObservable (D.state disk.old) → 0 < (S.changes changes.now).count → Rose (D.state disk.old).writes (D.state disk.new).writes }
 {
-    let mut bytes = [0; BLOCK];
     for k in 0..changes.count() {
-        let slot = changes.change(k, &mut bytes);
-        write_slot(disk, slots, slot, &bytes, pass)?;
+        let (slot, bytes) = changes.change(k);
+        write_slot(disk, slots, slot, bytes, pass)?;
     }
     // Durable before the next pass or flag: a crash there counts on what this one wrote.
     disk.sync()

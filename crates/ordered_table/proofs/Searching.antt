@@ -1,10 +1,11 @@
 -- A search on its way, and what it answers.
-use Rattle.std.proofs.Common.{◌≡◌, ℕ, ◌+◌, ◌%◌, ◌<◌, ◌≤◌, ◌⊎◌, inl, inr, List, Bool, true, false, Option, Some, None, length, get_or, slice_get, refl, ap, sym, subst, ◌∙◌, arith}
+use Rattle.std.proofs.Common.{◌≡◌, ◌↔◌, ℕ, ◌+◌, ◌%◌, ◌<◌, ◌≤◌, ◌⊎◌, inl, inr, List, Bool, true, false, Option, Some, None, length, get_or, slice_get, refl, ap, sym, subst, ◌∙◌, arith}
 use Rattle.std.specs.Prelude.{Ok, Err}
 use Rattle.std.specs.List.{prefix_len}
 use Rattle.std.specs.declared.cmp.Ordering.{Ordering}
 use Rattle.std.specs.declared.cmp.Ordering.TheVariants.{Less, Equal, Greater}
-use Rattle.std.specs.Ordering.{is_lt}
+use Rattle.std.specs.Ordering.{nat_cmp, is_lt, is_eq}
+use Rattle.std.specs.Cmp.Lexicographic.{slice_cmp, nat_list_cmp_total}
 use Rattle.std.specs.FinMap as maps
 use Rattle.std.proofs.lemmas.Bool.{cases_lt, false≢true}
 use Rattle.std.proofs.lemmas.Cmp.{tied_itself}
@@ -26,8 +27,8 @@ use Rattle.store_model.proofs.PageMapsLemmas.{IsOrderedTable-page_map, pages_of_
 use Rattle.store_base.specs.declared.store_fault.Fault.{Fault}
 use Rattle.store_base.specs.SlotsState.{SlotsState, IsObservable, AreSlotCalls, IsGet}
 use Rattle.store_base.proofs.SlotsCalls.{AreSlotCalls-none, AreSlotCalls-then, AreSlotCalls-value, AreSlotCalls-fault, IsObservable-later}
-use Rattle.ordered_table.specs.Tables.{is_passed, looks, Finds}
-use Rattle.ordered_table.proofs.Reading.{probe_first, probe_next, probe_within, seen, seen_page}
+use Rattle.ordered_table.specs.Tables.{is_passed, looks, IsSlotOf, Finds, Looks}
+use Rattle.ordered_table.proofs.Reading.{probe_first, probe_next, probe_within, Seen, seen, seen_page}
 
 -- ---- how many slots a search looks at
 
@@ -207,6 +208,11 @@ told : (l : Label) (what : Option Page) (buffer : List ℕ) (order : Option Orde
 told l None buffer order valid are free page = free are
 told l (Some p) buffer order valid are free page = page p (valid p refl) are
 
+-- how a page's label stands to one, from how it stands to its bytes
+pub by_bytes : (slot bytes : List ℕ) (l : Label) (order : Option Ordering) → ((page : Page) → IsPage page → slot ≡ slot_bytes (Some page) → order ≡ Some (slice_cmp nat_cmp (label_bytes page.label) bytes)) → bytes ≡ label_bytes l
+    → (page : Page) → IsPage page → slot ≡ slot_bytes (Some page) → order ≡ Some (label_cmp page.label l)
+by_bytes slot bytes l order page_is same page is held = page_is page is held ∙ ap (λ (xs : List ℕ). Some (slice_cmp nat_cmp (label_bytes page.label) xs)) same
+
 -- the table holds there what was told
 record TellsOf (d : Draw) (table : Table) (l : Label) (look at : ℕ) (order : Option Ordering) : Type 0 where
   what : Option Page
@@ -359,3 +365,70 @@ finds_none d old now l look at before after law count all most s label counted =
         limit = omega (arith, exact);
       };
 }
+
+-- ---- a look into one slot
+
+-- what was read of the slot
+pub record LooksInto (d : Draw) (old new : SlotsState) (at : ℕ) (l : Label) (buffer : List ℕ) (order : Option Ordering) : Type 0 where
+  law : IsLawful d
+  within : at < d.slots
+  get : IsGet {T = Unit {0}} old new at buffer (Ok tt)
+  free : buffer ≡ slot_bytes None → order ≡ None
+  page : (page : Page) → IsPage page → buffer ≡ slot_bytes (Some page) → order ≡ Some (label_cmp page.label l)
+
+pub looks_into : (d : Draw) (old new : SlotsState) (at : ℕ) (l : Label) (buffer : List ℕ) (order : Option Ordering) → IsLawful d → old.count ≡ d.slots → at < old.count → IsGet {T = Unit {0}} old new at buffer (Ok tt)
+    → (buffer ≡ slot_bytes None → order ≡ None) → ((page : Page) → IsPage page → buffer ≡ slot_bytes (Some page) → order ≡ Some (label_cmp page.label l)) → LooksInto d old new at l buffer order
+looks_into d old new at l buffer order law count below get free page = record { law = law; within = omega (arith, count, below); get = get; free = free; page = page }
+
+-- the page of the label stands in a slot of which just this is told
+stands_there : (d : Draw) (old new : SlotsState) (at : ℕ) (l : Label) (buffer : List ℕ) (order : Option Ordering) → LooksInto d old new at l buffer order → (m : PageMap) → IsObservable old → HoldsPages d old.slots m
+    → (order ≡ Some Equal) ↔ IsSlotOf old.slots m l at
+stands_there d old new at l buffer order s m observable holds = (there, back)
+  where
+    table : Table
+    table = place d (pages_of_map m)
+
+    is : IsTableOf d old.slots m table
+    is = held_table d old.slots m s.law holds
+
+    got : slice_get old.slots at ≡ Some buffer
+    got = (s.get.observed observable).got
+
+    what : Seen table at buffer
+    what = let within = s.within in seen table old.slots at buffer is.slots_are (omega (arith, within, is.ordered.slots)) got
+
+    there : order ≡ Some Equal → IsSlotOf old.slots m l at
+    there same =
+        let order_is = told l what.what buffer order (λ page e. seen_page d table at what.what page is.ordered what.there e) what.bytes_are s.free s.page in
+        let p = same_label_there l what.what (sym order_is ∙ same) in
+        let held : HoldsPage table at p.0 = what.there ∙ ap Some p.1 in
+        record {
+          page = p.0;
+          in_map = ap (maps.get m) (sym (tied_label_bytes p.0.label l p.2)) ∙ standing_found d old.slots m table at p.0 s.law is held;
+          in_slot = ap (λ (ss : List (List ℕ)). slice_get ss at) is.slots_are ∙ slice_get-map slot_bytes table at ∙ ap (option_map slot_bytes) held;
+        }
+
+    back : IsSlotOf old.slots m l at → order ≡ Some Equal
+    back slot =
+        let under = holds.pages (label_bytes l) slot.page slot.in_map in
+        let bytes : buffer ≡ slot_bytes (Some slot.page) = same_Some buffer (slot_bytes (Some slot.page)) (sym got ∙ slot.in_slot) in
+        let tied : label_cmp slot.page.label l ≡ Equal = ap (λ (b : List ℕ). slice_cmp nat_cmp b (label_bytes l)) (sym under.under) ∙ tied_itself nat_list_cmp_total (label_bytes l) in
+        s.page slot.page under.valid bytes ∙ ap Some tied
+
+-- the answer
+pub looks_told : (d : Draw) (old new : SlotsState) (at : ℕ) (l : Label) (buffer : List ℕ) (order : Option Ordering) (is_there : Bool) → LooksInto d old new at l buffer order → (is_there ≡ true → order ≡ Some Equal) → (order ≡ Some Equal → is_there ≡ true)
+    → Looks d old new at l (Ok is_there)
+looks_told d old new at l buffer order is_there s says equal = record {
+  calls = AreSlotCalls-value old new tt is_there s.get.calls;
+  reads = λ observable. (s.get.observed observable).slots;
+  there = λ m observable holds. let both = stands_there d old new at l buffer order s m observable holds in (λ e. both.0 (says e), λ slot. equal (both.1 slot));
+}
+
+-- a fault of the slots
+pub looks_fail : (d : Draw) (old new : SlotsState) (at : ℕ) (l : Label) (buffer : List ℕ) (fault : Fault) → IsGet {T = Unit {0}} old new at buffer (Err fault) → Looks d old new at l (Err fault)
+looks_fail d old new at l buffer fault get = record { calls = AreSlotCalls-fault old new fault get.calls; reads = λ observable. (get.observed observable).slots; there = λ m observable holds. tt }
+
+pub is_equal : (o : Ordering) → is_eq o ≡ true → o ≡ Equal
+is_equal Less e = cc
+is_equal Equal e = refl
+is_equal Greater e = cc

@@ -96,12 +96,25 @@ pub fn insert<S: Slots, W: Draw>(slots: &mut S, draw: &W, page: &Page) -> Result
     ensures call { Inserts (W.drawn draw.now) (S.ReadSlots.state slots.old) (S.ReadSlots.state slots.new) page.now result }
     ensures follows { S.ReadSlots.follows slots.old slots.new }
 {
+    insert_from(slots, draw, draw.start(&page.label()), page)
+}
+
+/// As `insert`, from the start of the page's label, so that it need not be drawn again.
+pub fn insert_from<S: Slots, W: Draw>(
+    slots: &mut S,
+    draw: &W,
+    start: u32,
+    page: &Page,
+) -> Result<(), Fault>
+    requires count { (S.ReadSlots.state slots.old).count ≡ (W.drawn draw.now).slots }
+    requires start { start ≡ (W.drawn draw.now).start page.now.label }
+    ensures call { Inserts (W.drawn draw.now) (S.ReadSlots.state slots.old) (S.ReadSlots.state slots.new) page.now result }
+    ensures follows { S.ReadSlots.follows slots.old slots.new }
+{
     let mut there = [0; BLOCK];
-    let label = page.label();
-    let at = draw.start(&label);
     let way = Way {
-        label,
-        at,
+        label: page.label(),
+        at: start,
         left: draw.slots(),
     };
     match settle(slots, draw, page.as_slot(), &way, &mut there)? {

@@ -15,8 +15,8 @@ mod round;
 mod search;
 mod steps;
 
-pub use change::{insert, overwrite};
+pub use change::{insert, insert_from, overwrite};
 pub use mem_slots::MemSlots;
 pub use round::next_slot;
-pub use search::find;
+pub use search::{find, find_from, holds};
 pub use steps::Steps;

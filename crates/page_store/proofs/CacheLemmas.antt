@@ -1,5 +1,5 @@
 -- Lemmas on slots that are kept in memory.
-use Rattle.std.proofs.Common.{◌≡◌, ◌≢◌, ◌⊎◌, ℕ, zero, suc, ◌+◌, ◌-◌, ◌<◌, ◌≤◌, Bool, true, false, cond, List, [], ◌∷◌, length, take, drop, Option, Some, None, Result, Ok, Err, IsOk, OnOk, OnErr, nat_eq, refl, sym, ap, subst, ◌∙◌, inl, inr, arith, length-take}
+use Rattle.std.proofs.Common.{◌≡◌, ◌≢◌, ◌⊎◌, ℕ, zero, suc, ◌+◌, ◌-◌, ◌<◌, ◌≤◌, Bool, true, false, cond, List, [], ◌∷◌, ◌++◌, length, take, drop, slice_index_or, Option, Some, None, Result, Ok, Err, IsOk, OnOk, OnErr, nat_eq, refl, sym, ap, subst, ◌∙◌, inl, inr, arith, length-append, length-take}
 use Rattle.std.specs.Map.{lookup_entry, remove_entry}
 use Rattle.std.specs.Option.{option_map_or}
 use Rattle.std.proofs.lemmas.Option.{same_Some, none-some}
@@ -14,6 +14,7 @@ use Rattle.gate_journal.proofs.Calls.{AreCalls-none, AreCalls-one}
 use Rattle.gate_journal.proofs.Layouts.{with-slots-changed, with-slots-kept}
 use Rattle.gate_journal.proofs.Reading.{ReadsOnly-refl, ReadsOnly-read}
 use Rattle.lru.specs.LruCache.{LruCache, promoted, put_entries, lru_cache}
+use Rattle.page_store.specs.Differences.{changes_of}
 use Rattle.page_store.proofs.DifferLemmas.{last_or_below}
 use Rattle.page_store.specs.Caches.{Kept, kept_at, IsTableSlot, IsCacheOf, KeepsAll, KeepsFew, most_kept, KeepsOne, Rewrites, RewritesFirst, ReadsSlot}
 
@@ -149,6 +150,21 @@ rewrites_more n changes old mid new first next i other is = elim (next i other i
   ]
   | inr now ↦ inr (n, omega arith, sym now.0, now.1)
 ]
+
+-- the pair at a place, whatever stands in for one that is not there
+at_place : (items : List (ℕ × List ℕ)) (n : ℕ) (pair other : ℕ × List ℕ) → n < length items → pair ≡ slice_index_or items n pair → slice_index_or items n other ≡ pair
+at_place [] n pair other within is = absurd (omega (arith, within))
+at_place (first ∷ items) zero pair other within is = sym is
+at_place (first ∷ items) (suc n) pair other within is = at_place items n pair other (omega (arith, within)) is
+
+-- the next of the changed slots
+pub rewrites_turn : (items yielded : List (ℕ × List ℕ)) (at : ℕ) (slot : List ℕ) (old mid new : Kept) → (length yielded < length items) × ((at, slot) ≡ slice_index_or items (length yielded) (at, slot)) → RewritesFirst (length yielded) (changes_of items) old mid
+    → Rewrites mid new at slot → RewritesFirst (length (yielded ++ (at, slot) ∷ [])) (changes_of items) old new
+rewrites_turn items yielded at slot old mid new next so_far rewrites =
+    let here : slice_index_or items (length yielded) (0, []) ≡ (at, slot) = at_place items (length yielded) (at, slot) (0, []) next.0 next.1 in
+    let more : length yielded + 1 ≡ length (yielded ++ (at, slot) ∷ []) = omega (arith, length-append yielded ((at, slot) ∷ [])) in
+    subst (λ (n : ℕ). RewritesFirst n (changes_of items) old new) more
+    (rewrites_more (length yielded) (changes_of items) old mid new so_far (subst (λ (pair : ℕ × List ℕ). Rewrites mid new pair.0 pair.1) (sym here) rewrites))
 
 -- ---- the slots of a disk
 

@@ -1,5 +1,5 @@
 -- Lemmas on what is remembered of slots.
-use Rattle.std.proofs.Common.{◌≡◌, ◌≢◌, ◌⊎◌, ℕ, zero, suc, ◌+◌, ◌*◌, ◌<◌, ◌≤◌, Bool, true, false, cond, List, [], ◌∷◌, length, drop, slice_index_or, Option, Some, None, Result, Ok, Err, OnOk, OnErr, refl, sym, ap, subst, ◌∙◌, inl, inr, arith}
+use Rattle.std.proofs.Common.{◌≡◌, ◌≢◌, ◌⊎◌, ℕ, zero, suc, ◌+◌, ◌*◌, ◌<◌, ◌≤◌, Bool, true, false, cond, List, [], ◌∷◌, ◌++◌, length, drop, slice_get, slice_set, slice_index_or, Option, Some, None, Result, Ok, refl, sym, ap, ap₂, subst, ◌∙◌, inl, inr, arith, length-append}
 use Rattle.std.proofs.lemmas.Option.{same_Some, none-some}
 use Rattle.std.specs.FinMap as maps
 use Rattle.std.specs.Int.{w32, from_be_bytes}
@@ -8,7 +8,7 @@ use Rattle.std.specs.List.Sorted.{IsStrictlySortedBy}
 use Rattle.std.specs.declared.cmp.Ordering.TheVariants.{Less}
 use Rattle.std.specs.Map.{keys_of}
 use Rattle.std.proofs.lemmas.Map.Keys.{sorted_head, sorted_tail}
-use Rattle.std.specs.BTreeMap.{BTreeMap, is_at, get, Updates, IsUnchanged}
+use Rattle.std.specs.BTreeMap.{is_at}
 use Rattle.std.specs.Ordering.{nat_cmp, is_eq}
 use Rattle.std.specs.Cmp.{tied_itself}
 use Rattle.std.specs.Cmp.Lexicographic.{slice_cmp, nat_list_cmp_total}
@@ -20,10 +20,10 @@ use Rattle.store_base.specs.declared.store_fault.Fault.{Fault}
 use Rattle.store_base.specs.SlotsState.{SlotsState, IsObservable, AreSlotCalls}
 use Rattle.store_base.proofs.SlotsCalls.{AreSlotCalls-none}
 use Rattle.page_store.specs.Lookups.{Reads, ReadsChanged}
-use Rattle.page_store.specs.Memos.{checked, checksum, Remembered, kept_under, IsRemembered, IsKnown, IsMemoOf, Remembers, RemembersMore, staged_at, Renews, IsRenewing}
+use Rattle.page_store.specs.Memos.{checked, place_of, Remembered, IsRemembered, KeepsPlaces, IsKnown, IsMemoOf, Remembers, RemembersMore, staged_at, Renews, IsRenewing}
 use Rattle.page_store.specs.Staging.{Changes, with_changes}
 use Rattle.page_store.proofs.LookupLemmas.{staged_read, settled_read}
-use Rattle.page_store.proofs.OverlayLemmas.{at_itself}
+use Rattle.ordered_table.proofs.Inserting.{same_or_not}
 use Rattle.page_store.proofs.ChangeLemmas.{page_or, page_at-with_changes, same_when_tied}
 
 -- labels that tie have the same bytes
@@ -50,30 +50,60 @@ checked_all (b ∷ words) (suc k) sum sums all = checked_all words k sum sums (o
 
 -- ---- the memo itself
 
--- behind a put that finds memory, or none
-pub remembers_kept : {T E : Type 0} (result : Result T E) (old : Remembered) (mid new : BTreeMap ℕ (Label × Option Page)) (at : Label) (found : Option Page) → ((l : Label) (page : Option Page) → IsRemembered mid.entries l page → IsRemembered old l page)
-    → OnOk result (Updates nat_cmp mid new (checksum (label_bytes at)) (Some (at, found))) → OnErr result (get nat_cmp mid (checksum (label_bytes at)) ≡ None) → OnErr result (IsUnchanged mid new) → Remembers old new.entries at found
-remembers_kept (Ok value) old mid new at found forgets put absent left l page is = (elim (is_at (nat_cmp (checksum (label_bytes at))) (checksum (label_bytes l))) as (λ b. is_at (nat_cmp (checksum (label_bytes at))) (checksum (label_bytes l)) ≡ b
-    → cond b (Some (at, found)) (kept_under mid.entries (checksum (label_bytes l))) ≡ Some (l, page) → ((label_bytes l ≢ label_bytes at) × IsRemembered old l page) ⊎ ((label_bytes l ≡ label_bytes at) × (page ≡ found))) [
-      | true ↦ λ here now.
-          let same = same_Some (at, found) (l, page) now in
-          inr (sym (ap (λ (x : Label × Option Page). label_bytes x.0) same), sym (ap (λ (x : Label × Option Page). x.1) same))
-      | false ↦ λ apart was. inl (λ same. at_once (checksum (label_bytes at)) (ap (λ (b : List ℕ). is_at (nat_cmp (checksum (label_bytes at))) (checksum b)) (sym same) ∙ apart), forgets l page was)
-    ]) refl (sym (put.0 (checksum (label_bytes l))) ∙ is)
+-- a place more
+pushed_back : (memo : Remembered) (place : ℕ) (entry : Label × Option Page) → slice_get (memo ++ None ∷ []) place ≡ Some (Some entry) → slice_get memo place ≡ Some (Some entry)
+pushed_back [] zero entry is = absurd (none-some entry (same_Some None (Some entry) is))
+pushed_back [] (suc place) entry is = cc
+pushed_back (e ∷ memo) zero entry is = is
+pushed_back (e ∷ memo) (suc place) entry is = pushed_back memo place entry is
+
+pub place_more : (old memo new : Remembered) (count : ℕ) → (length memo ≡ count) × KeepsPlaces old memo → new ≡ memo ++ None ∷ [] → (length new ≡ count + 1) × KeepsPlaces old new
+place_more old memo new count so_far pushed =
+    subst (λ (places : Remembered). (length places ≡ count + 1) × KeepsPlaces old places) (sym pushed)
+    (omega (arith, so_far.0, length-append memo (None ∷ [])), λ place entry is. so_far.1 place entry (pushed_back memo place entry is))
+
+-- what is put at a place is there
+put_there : (memo : Remembered) (at : ℕ) (what : Option (Label × Option Page)) → at < length memo → slice_get (slice_set memo at what) at ≡ Some what
+put_there [] zero what within = absurd (omega (arith, within))
+put_there [] (suc at) what within = absurd (omega (arith, within))
+put_there (e ∷ memo) zero what within = refl
+put_there (e ∷ memo) (suc at) what within = put_there memo at what (omega (arith, within))
+
+-- and elsewhere is what was
+put_elsewhere : (memo : Remembered) (at place : ℕ) (what : Option (Label × Option Page)) → place ≢ at → slice_get (slice_set memo at what) place ≡ slice_get memo place
+put_elsewhere [] at place what other = refl
+put_elsewhere (e ∷ memo) zero zero what other = absurd (other refl)
+put_elsewhere (e ∷ memo) zero (suc place) what other = refl
+put_elsewhere (e ∷ memo) (suc at) zero what other = refl
+put_elsewhere (e ∷ memo) (suc at) (suc place) what other = put_elsewhere memo at place what (λ same. other (ap suc same))
+
+-- what was found of a label is put at its place
+pub remembers_put : (old mid : Remembered) (at : Label) (found : Option Page) (place : ℕ) → place ≡ place_of (label_bytes at) → place < length mid → KeepsPlaces old mid → Remembers old (slice_set mid place (Some (at, found))) at found
+remembers_put old mid at found place is within keeps l page remembered = by_place (same_or_not (place_of (label_bytes l)) place)
   where
-    at_once : (n : ℕ) → is_at (nat_cmp n) n ≡ false → ⊥
-    at_once n apart = let here = at_itself n in absurd (cc)
-remembers_kept (Err e) old mid new at found forgets put absent left l page is =
-    let was : IsRemembered mid.entries l page = ap (λ (memo : Remembered). kept_under memo (checksum (label_bytes l))) (sym left) ∙ is in
-    inl (λ same. none-some (l, page) (sym (ap (λ (b : List ℕ). kept_under mid.entries (checksum b)) same ∙ absent) ∙ was), forgets l page was)
+    by_place : (place_of (label_bytes l) ≡ place) ⊎ (place_of (label_bytes l) ≢ place) → ((label_bytes l ≢ label_bytes at) × IsRemembered old l page) ⊎ ((label_bytes l ≡ label_bytes at) × (page ≡ found))
+    by_place (inl here) =
+        let put = put_there mid place (Some (at, found)) within in
+        let same = same_Some (at, found) (l, page) (same_Some (Some (at, found)) (Some (l, page)) (sym put ∙ ap (slice_get (slice_set mid place (Some (at, found)))) (sym here) ∙ remembered)) in
+        inr (sym (ap (λ (x : Label × Option Page). label_bytes x.0) same), sym (ap (λ (x : Label × Option Page). x.1) same))
+    by_place (inr other) =
+        inl (λ same. other (ap place_of same ∙ sym is), keeps (place_of (label_bytes l)) (l, page) (sym (put_elsewhere mid place (place_of (label_bytes l)) (Some (at, found)) other) ∙ remembered))
+
+-- where there was no memory for the places
+pub remembers_none : (old none : Remembered) (at : Label) (found : Option Page) → none ≡ [] → Remembers old none at found
+remembers_none old none at found empty l page is = absurd (none-some (Some (l, page)) (ap (λ (memo : Remembered). slice_get memo (place_of (label_bytes l))) (sym empty) ∙ is))
 
 pub remembers_more : (old new : Remembered) (at : Label) (found : Option Page) → Remembers old new at found → RemembersMore old new at found
 remembers_more old new at found remembers l page is = elim (remembers l page is) [ inl was ↦ inl was.1 | inr now ↦ inr now ]
 
+-- what is at the place of a label, with this label
+pub recalled_at : (memo shown : Remembered) (place : ℕ) (what : Option (Label × Option Page)) (kept l : Label) (page : Option Page) → shown ≡ memo → place ≡ place_of (label_bytes l) → slice_get shown place ≡ Some what → what ≡ Some (kept, page) → kept ≡ l → IsRemembered memo l page
+recalled_at memo shown place what kept l page same is got what_is kept_is = ap₂ slice_get (sym same) (sym is) ∙ got ∙ ap Some (what_is ∙ ap (λ (k : Label). Some (k, page)) kept_is)
+
 -- ---- the memo of slots
 
 pub memo_empty : (d : Draw) (slots : SlotsState) (none : Remembered) → none ≡ [] → IsMemoOf d slots none
-memo_empty d slots none empty = record { tells = λ m observable holds l page is. absurd (none-some (l, page) (sym (ap (λ (memo : Remembered). kept_under memo (checksum (label_bytes l))) empty) ∙ is)) }
+memo_empty d slots none empty = record { tells = λ m observable holds l page is. absurd (none-some (Some (l, page)) (ap (λ (memo : Remembered). slice_get memo (place_of (label_bytes l))) (sym empty) ∙ is)) }
 
 -- what is remembered of a label needs no read
 pub recalled : (d : Draw) (slots : SlotsState) (memo : Remembered) (l : Label) (page : Option Page) → IsMemoOf d slots memo → IsRemembered memo l page → Reads d slots slots l (Ok page)

@@ -40,7 +40,7 @@ abbrev pub page_map_code : Coded PageMap
 page_map_code = maps.code (coded_list coded_ℕ) page_code
 
 abbrev pub remembered_code : Coded Remembered
-remembered_code = coded_list (coded× coded_ℕ (coded× label_code (coded_option page_code)))
+remembered_code = coded_list (coded_option (coded× label_code (coded_option page_code)))
 
 abbrev pub bit_of_kind : DrawKind → Bool
 bit_of_kind Ruler = false

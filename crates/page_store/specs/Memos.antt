@@ -1,11 +1,10 @@
 -- What was found under labels of slots, kept in memory.
-use Rattle.std.specs.Prelude.{◌≡◌, ◌≢◌, ◌⊎◌, ℕ, ◌+◌, ◌*◌, ◌≤◌, List, [], ◌∷◌, length, take, drop, slice_index, Option, Some, None}
+use Rattle.std.specs.Prelude.{◌≡◌, ◌≢◌, ◌⊎◌, ℕ, ◌+◌, ◌*◌, ◌%◌, ◌≤◌, List, [], ◌∷◌, length, take, drop, slice_get, slice_index, Option, Some, None}
 use Rattle.std.specs.Int.{w32, from_be_bytes}
 use Rattle.std.specs.Simd.{first_chunks}
 use Rattle.std.specs.List.Sorted.{IsStrictlySortedBy}
 use Rattle.std.specs.Map.{keys_of, lookup}
 use Rattle.std.specs.BTreeMap.{is_at}
-use Rattle.std.specs.Ordering.{nat_cmp}
 use Rattle.store_model.specs.Labels.{Label, label_bytes, label_cmp}
 use Rattle.store_model.specs.Draws.{Draw}
 use Rattle.store_model.specs.Pages.{Page}
@@ -26,25 +25,29 @@ words_of bytes = first_chunks 4 32 (take 128 (drop 2 bytes))
 unfoldable pub checksum : List ℕ → ℕ
 checksum bytes = checked (words_of bytes) (slice_index bytes 0) 0
 
--- what was found, each with its label: a page, or that there is none; the numbers are the checksums of the labels
-abbrev pub Remembered : Type 0
-Remembered = List (ℕ × (Label × Option Page))
+-- how many places there are
+abbrev pub memo_places : ℕ
+memo_places = 251
 
--- how many labels are remembered at most
-abbrev pub most_remembered : ℕ
-most_remembered = 64
+-- the place of a label, by its bytes
+unfoldable pub place_of : List ℕ → ℕ
+place_of bytes = checksum bytes % memo_places
+
+-- what was found, at each place with its label: a page, or that there is none
+abbrev pub Remembered : Type 0
+Remembered = List (Option (Label × Option Page))
 
 -- no more are remembered than may be
 abbrev pub RemembersFew : Remembered → Type 0
-RemembersFew memo = length memo ≤ most_remembered
-
--- what is remembered under a number, if anything is
-abbrev pub kept_under : Remembered → ℕ → Option (Label × Option Page)
-kept_under memo n = lookup (is_at (nat_cmp n)) memo
+RemembersFew memo = length memo ≤ memo_places
 
 -- this is remembered of the label
 abbrev pub IsRemembered : Remembered → Label → Option Page → Type 0
-IsRemembered memo l page = kept_under memo (checksum (label_bytes l)) ≡ Some (l, page)
+IsRemembered memo l page = slice_get memo (place_of (label_bytes l)) ≡ Some (Some (l, page))
+
+-- what is at a place now was there before
+abbrev pub KeepsPlaces : Remembered → Remembered → Type 0
+KeepsPlaces old new = (place : ℕ) (entry : Label × Option Page) → slice_get new place ≡ Some (Some entry) → slice_get old place ≡ Some (Some entry)
 
 -- where the slots are observable, what is remembered of each label is what the map that they hold has there
 pub record IsMemoOf (d : Draw) (slots : SlotsState) (memo : Remembered) : Type 0 where

@@ -72,7 +72,7 @@ impl SlotCache {
         let Some(slot) = self.slots.get(&at) else {
             return false;
         };
-        *into = *slot.get();
+        into.copy_from_slice(slot.get());
         true
     }
 
@@ -87,27 +87,23 @@ impl SlotCache {
         let _ = self.slots.put(at, kept);
     }
 
-    /// Gives a slot that is kept its new bytes. Where there is no memory for them, no slot is kept any more.
-    fn rewrite(&mut self, at: u32, slot: &Slot)
-        ensures { Rewrites self.old self.new at slot.now }
+    /// Gives a slot that is kept its new bytes. It takes no memory.
+    fn rewrite(&mut self, at: u32, slot: Boxed<Slot>)
+        ensures { Rewrites self.old self.new at slot }
     {
         if !self.slots.contains(&at) {
             return;
         }
-        let Ok(kept) = Boxed::new(self.alloc, *slot) else {
-            self.slots.clear();
-            return;
-        };
         // The slot is kept already, so the call takes no memory.
-        let _ = self.slots.put(at, kept);
+        let _ = self.slots.put(at, slot);
     }
 
-    /// Gives the slots that are kept their new bytes. Where there is no memory for them, none is kept any more.
-    pub(crate) fn rewrite_all(&mut self, changed: &[(u32, Slot)])
-        ensures { RewritesFirst (length changed.now) (changes_of changed.now) self.old self.new }
+    /// Gives the slots that are kept their new bytes. It takes no memory.
+    pub(crate) fn rewrite_all(&mut self, changed: Vec<(u32, Boxed<Slot>)>)
+        ensures { RewritesFirst (length changed.items) (changes_of changed.items) self.old self.new }
     {
         for (at, slot) in changed {
-            self.rewrite(*at, slot);
+            self.rewrite(at, slot);
         }
     }
 
@@ -148,18 +144,18 @@ pub(crate) fn commit_slots<D: Disk>(
     disk: &mut D,
     cache: &mut SlotCache,
     params: &Params,
-    changed: &ChangedSlots,
+    changed: ChangedSlots,
 ) -> Result<(), DiskFault>
     requires size { (D.state disk.old).size ≡ image_len params.now.slots }
-    requires changes { AreChanges params.now.slots (changes_of changed.now.slots.items) }
+    requires changes { AreChanges params.now.slots (changes_of changed.slots.items) }
     requires durable { IsObservable (D.state disk.old) → IsDurable (D.state disk.old) }
     requires empty { IsObservable (D.state disk.old) → HasEmptyJournal params.now.slots (D.state disk.old).bytes }
     requires cached { IsCacheOf params.now.slots (D.state disk.old) cache.old }
-    ensures call { CommitsSlots D.state params.now.slots (changes_of changed.now.slots.items) disk.old disk.new cache.new result }
+    ensures call { CommitsSlots D.state params.now.slots (changes_of changed.slots.items) disk.old disk.new cache.new result }
 {
-    match Journal::commit(disk, params, changed) {
+    match Journal::commit(disk, params, &changed) {
         Ok(()) => {
-            cache.rewrite_all(&changed.slots);
+            cache.rewrite_all(changed.slots);
             Ok(())
         }
         Err(fault) => {

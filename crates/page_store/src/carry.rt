@@ -6,9 +6,10 @@ ghost use Rattle.store_model.specs.Labels.{label_cmp};
 ghost use Rattle.page_store.specs.Carrying.{TakesPage, LaysPage, TakesPages, LaysPages, CarriesOut};
 
 use crate::boxed::Boxed;
-use crate::search::locate;
+use crate::hints::Hints;
+use crate::search::{locate, locate_again, locate_from};
 use node_pages::Page;
-use ordered_table::{insert, overwrite};
+use ordered_table::{insert_from, overwrite};
 use seeded_draw::Draw;
 use shift_remove::remove;
 use std::collections::BTreeMap;
@@ -16,28 +17,60 @@ use store_base::{Fault, Label, Slots};
 
 /// Takes the page of the label away from the slots, if they hold one. A fault of the slots ends the call; nothing is
 /// promised of the slots after it.
-fn take_page<S: Slots, W: Draw>(slots: &mut S, draw: &W, label: &Label) -> Result<(), Fault>
+fn take_page<S: Slots, W: Draw>(
+    slots: &mut S,
+    draw: &W,
+    hints: &mut Hints,
+    label: &Label,
+) -> Result<(), Fault>
     requires { (S.ReadSlots.state slots.old).count ≡ (W.drawn draw.now).slots }
     ensures call { TakesPage (W.drawn draw.now) (S.ReadSlots.state slots.old) (S.ReadSlots.state slots.new) label.now result }
     ensures follows { S.ReadSlots.follows slots.old slots.new }
 {
-    match locate(slots, draw, label)? {
+    match locate(slots, draw, hints, label)? {
         Some(at) => remove(slots, draw, at),
         None => Ok(()),
     }
 }
 
-/// Lays a page into the slots, in the place of the one of its label; where they hold none of it, there has to be a free
-/// slot. A fault of the slots ends the call; nothing is promised of the slots after it.
-fn lay_page<S: Slots, W: Draw>(slots: &mut S, draw: &W, page: &Page) -> Result<(), Fault>
+/// As `lay_page`, where the page is searched for. Its start is drawn once.
+fn search_and_lay<S: Slots, W: Draw>(
+    slots: &mut S,
+    draw: &W,
+    hints: &mut Hints,
+    page: &Page,
+) -> Result<(), Fault>
     requires { (S.ReadSlots.state slots.old).count ≡ (W.drawn draw.now).slots }
     ensures call { LaysPage (W.drawn draw.now) (S.ReadSlots.state slots.old) (S.ReadSlots.state slots.new) page.now result }
     ensures follows { S.ReadSlots.follows slots.old slots.new }
 {
-    match locate(slots, draw, &page.label())? {
+    let label = page.label();
+    let start = draw.start(&label);
+    let found = locate_from(slots, draw, start, &label)?;
+    // A new page mostly comes to its start.
+    hints.keep(&label, found.or(Some(start)));
+    match found {
         Some(at) => overwrite(slots, draw, at, page),
-        None => insert(slots, draw, page),
+        None => insert_from(slots, draw, start, page),
     }
+}
+
+/// Lays a page into the slots, in the place of the one of its label; where they hold none of it, there has to be a free
+/// slot. A fault of the slots ends the call; nothing is promised of the slots after it.
+fn lay_page<S: Slots, W: Draw>(
+    slots: &mut S,
+    draw: &W,
+    hints: &mut Hints,
+    page: &Page,
+) -> Result<(), Fault>
+    requires { (S.ReadSlots.state slots.old).count ≡ (W.drawn draw.now).slots }
+    ensures call { LaysPage (W.drawn draw.now) (S.ReadSlots.state slots.old) (S.ReadSlots.state slots.new) page.now result }
+    ensures follows { S.ReadSlots.follows slots.old slots.new }
+{
+    if let Some(at) = locate_again(slots, draw, hints, &page.label())? {
+        return overwrite(slots, draw, at, page);
+    }
+    search_and_lay(slots, draw, hints, page)
 }
 
 /// Takes the pages of the labels away that the changes leave without one. A fault of the slots ends the call; nothing is
@@ -45,6 +78,7 @@ fn lay_page<S: Slots, W: Draw>(slots: &mut S, draw: &W, page: &Page) -> Result<(
 fn take_pages<S: Slots, W: Draw>(
     slots: &mut S,
     draw: &W,
+    hints: &mut Hints,
     changes: &BTreeMap<Label, Option<Boxed<Page>>>,
 ) -> Result<(), Fault>
     requires { (S.ReadSlots.state slots.old).count ≡ (W.drawn draw.now).slots }
@@ -54,7 +88,7 @@ fn take_pages<S: Slots, W: Draw>(
 {
     for (label, change) in changes {
         if change.is_none() {
-            take_page(slots, draw, label)?;
+            take_page(slots, draw, hints, label)?;
         }
     }
     Ok(())
@@ -65,6 +99,7 @@ fn take_pages<S: Slots, W: Draw>(
 fn lay_pages<S: Slots, W: Draw>(
     slots: &mut S,
     draw: &W,
+    hints: &mut Hints,
     changes: &BTreeMap<Label, Option<Boxed<Page>>>,
 ) -> Result<(), Fault>
     requires { (S.ReadSlots.state slots.old).count ≡ (W.drawn draw.now).slots }
@@ -73,7 +108,7 @@ fn lay_pages<S: Slots, W: Draw>(
 {
     for change in changes.values() {
         if let Some(page) = change {
-            lay_page(slots, draw, page.get())?;
+            lay_page(slots, draw, hints, page.get())?;
         }
     }
     Ok(())
@@ -85,12 +120,13 @@ fn lay_pages<S: Slots, W: Draw>(
 pub fn carry_out<S: Slots, W: Draw>(
     slots: &mut S,
     draw: &W,
+    hints: &mut Hints,
     changes: &BTreeMap<Label, Option<Boxed<Page>>>,
 ) -> Result<(), Fault>
     requires { (S.ReadSlots.state slots.old).count ≡ (W.drawn draw.now).slots }
     ensures call { CarriesOut (W.drawn draw.now) (S.ReadSlots.state slots.old) (S.ReadSlots.state slots.new) changes.now.entries result }
     ensures follows { S.ReadSlots.follows slots.old slots.new }
 {
-    take_pages(slots, draw, changes)?;
-    lay_pages(slots, draw, changes)
+    take_pages(slots, draw, hints, changes)?;
+    lay_pages(slots, draw, hints, changes)
 }

@@ -3,13 +3,14 @@
 ghost use Rattle.std.specs.Prelude.{◌≡◌, ◌<◌, length};
 ghost use Rattle.page_store.specs.Differences.{changes_of};
 
+use crate::boxed::Boxed;
 use gate_journal::SlotChanges;
 use store_base::Slot;
 
 /// Slots of a table, each with its new bytes.
 #[derive(Drop)]
 pub struct ChangedSlots {
-    pub(crate) slots: Vec<(u32, Slot)>,
+    pub(crate) slots: Vec<(u32, Boxed<Slot>)>,
     pub(crate) ghost few: { length slots.items < 4294967296 },
 }
 
@@ -20,9 +21,8 @@ impl SlotChanges for ChangedSlots {
         self.slots.len() as u32
     }
 
-    fn change(&self, k: u32, into: &mut Slot) -> u32 {
+    fn change(&self, k: u32) -> (u32, &Slot) {
         let (at, bytes) = &self.slots[k as usize];
-        *into = *bytes;
-        *at
+        (*at, bytes.get())
     }
 }

@@ -12,12 +12,14 @@ use crate::boxed::Boxed;
 use crate::cache::{SlotCache, read_slot};
 use crate::carry::carry_out;
 use crate::changed::ChangedSlots;
+use crate::hints::Hints;
 use crate::overlay::Overlay;
 use disk_model::Disk;
 use node_pages::Page;
 use seeded_draw::Draw;
 use std::alloc::Global;
 use std::collections::BTreeMap;
+use std::mem;
 use store_base::{BLOCK, Fault, Label, Slot};
 
 /// The slots that were written and have other bytes in the table of the disk, which has so many slots. The disk is only
@@ -27,22 +29,21 @@ fn find_changes<D: Disk>(
     disk: &mut D,
     cache: &mut SlotCache,
     slots: u32,
-    written: &BTreeMap<u32, Boxed<Slot>>,
+    written: BTreeMap<u32, Boxed<Slot>>,
 ) -> Result<ChangedSlots, Fault>
     requires in_range { slots ≤ slots_limit }
     requires size { (D.state disk.old).size ≡ image_len slots }
-    requires within { (i : ℕ) (slot : List ℕ) → touched_at written.now.entries i ≡ Some slot → i < slots }
-    requires filled { (i : ℕ) (slot : List ℕ) → touched_at written.now.entries i ≡ Some slot → length slot ≡ block_len }
+    requires within { (i : ℕ) (slot : List ℕ) → touched_at written.entries i ≡ Some slot → i < slots }
+    requires filled { (i : ℕ) (slot : List ℕ) → touched_at written.entries i ≡ Some slot → length slot ≡ block_len }
     requires cached { IsCacheOf slots (D.state disk.old) cache.old }
-    ensures call { FindsChanges slots written.now.entries (D.state disk.old) (D.state disk.new) cache.new result }
+    ensures call { FindsChanges slots written.entries (D.state disk.old) (D.state disk.new) cache.new result }
 {
     let mut changed = Vec::with_capacity(alloc, written.len())?;
     let mut was = [0; BLOCK];
     for (at, kept) in written {
-        let slot = kept.get();
-        read_slot(disk, cache, slots, *at, &mut was)?;
-        if was != *slot {
-            changed.push((*at, *slot))?;
+        read_slot(disk, cache, slots, at, &mut was)?;
+        if was != *kept.get() {
+            changed.push((at, kept))?;
         }
     }
     Ok(ChangedSlots { slots: changed })
@@ -53,18 +54,20 @@ fn find_changes<D: Disk>(
 pub fn find_slots<D: Disk, W: Draw>(
     overlay: &mut Overlay<D>,
     draw: &W,
+    hints: &mut Hints,
     changes: &BTreeMap<Label, Option<Boxed<Page>>>,
 ) -> Result<ChangedSlots, Fault>
     requires { (params_of overlay.old).slots ≡ (W.drawn draw.now).slots }
     ensures call { FindsSlots (W.drawn draw.now) (params_of overlay.old) (touched_of overlay.old) changes.now.entries (D.state (disk_of overlay.old)) (D.state (disk_of overlay.new)) result }
     ensures follows { KeepsView (params_of overlay.old) (params_of overlay.new) (D.state (disk_of overlay.old)) (D.state (disk_of overlay.new)) }
 {
-    carry_out(overlay, draw, changes)?;
+    carry_out(overlay, draw, hints, changes)?;
+    let written = mem::replace(&mut overlay.touched, BTreeMap::new(overlay.alloc));
     find_changes(
         overlay.alloc,
         &mut overlay.disk,
         &mut overlay.cache,
         overlay.params.slots(),
-        &overlay.touched,
+        written,
     )
 }

@@ -5,7 +5,8 @@
 //! bytes differ, so that the table is again the placement of the pages; a crash leaves the old pages or the new ones.
 //!
 //! Up to 64 slots that were read last are kept in memory (`SlotCache`), each as the table of the disk has it, and are not
-//! read again. What was found under up to 64 labels is remembered too (`PageMemo`), and is not looked up again.
+//! read again. What was found under up to 251 labels is remembered too (`PageMemo`), and is not looked up again. The slot
+//! where a page was found last is looked at first (`Hints`), so that for most pages no start is drawn.
 #![tactic(auto)]
 
 mod boxed;
@@ -14,6 +15,7 @@ mod carry;
 mod changed;
 mod compare;
 mod fault;
+mod hints;
 mod memo;
 mod overlay;
 mod search;

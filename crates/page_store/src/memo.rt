@@ -1,27 +1,25 @@
 //! What was found under labels of a table, kept in memory.
 
-ghost use Rattle.std.specs.Prelude.{◌≡◌, ◌<◌, [], Option, IfSome, length};
-ghost use Rattle.store_model.specs.Labels as labels;
-ghost use Rattle.store_model.specs.Pages as pages;
-ghost use Rattle.page_store.specs.Memos.{checksum, IsRemembered, most_remembered, Remembers, RemembersMore, Renews};
+ghost use Rattle.std.specs.Prelude.{◌≡◌, ◌<◌, ◌≤◌, [], IfSome, OnOk, length};
+ghost use Rattle.store_model.specs.Labels.{label_bytes};
+ghost use Rattle.page_store.specs.Memos.{checksum, place_of, IsRemembered, KeepsPlaces, Remembers, RemembersMore, Renews};
 
 use crate::boxed::{Boxed, on_heap};
 use node_pages::Page;
 use std::alloc::Global;
 use std::collections::BTreeMap;
 use std::marker::Model;
-use store_base::Label;
+use store_base::{Label, NoMemory};
 
-/// How many labels are remembered.
-const REMEMBERED_LABELS: usize = 64;
+/// How many places there are: a prime, so that each byte of a checksum counts.
+const PLACES: usize = 251;
 
-/// What was found under up to 64 labels: a page, or that there is none. It is kept under the checksums of the labels, since
-/// numbers are compared sooner than labels; of two labels with one checksum the later one is remembered. Contracts see
-/// each with its label.
+/// What was found under labels: a page, or that there is none. Each label has a place, by its checksum, and of the labels
+/// of one place the last one is remembered. Contracts see what is at each place, with its label.
 #[derive(Drop)]
 pub struct PageMemo {
     alloc: Global,
-    found: BTreeMap<u64, (Label, Option<Boxed<Page>>)>,
+    places: Vec<Option<(Label, Option<Boxed<Page>>)>>,
 }
 
 impl Model for PageMemo {
@@ -32,9 +30,9 @@ impl Model for PageMemo {
 
     ghost coded = { remembered_code };
 
-    ghost view = { λ memo. memo.found.entries };
+    ghost view = { λ memo. memo.places.items };
 
-    ghost invariant = { λ memo. RemembersFew memo.found.entries };
+    ghost invariant = { λ memo. RemembersFew memo.places.items };
 }
 
 /// The checksum of the bytes of a label, by words of four bytes (Fletcher).
@@ -51,6 +49,34 @@ fn checksum_of(bytes: &[u8; 130]) -> u64
     sums * 65_536 + sum
 }
 
+/// The checksum of a label, from which its places follow, here and in the hints.
+pub fn checksum_of_label(label: &Label) -> u64
+    ensures { result ≡ checksum (label_bytes label.now) }
+{
+    checksum_of(&label.to_bytes())
+}
+
+/// The place of a label.
+pub fn place_of(label: &Label) -> usize
+    ensures value { result ≡ place_of (label_bytes label.now) }
+    ensures below { result < PLACES }
+{
+    (checksum_of_label(label) % PLACES as u64) as usize
+}
+
+/// Makes the places, where there is memory for them.
+fn make_places(places: &mut Vec<Option<(Label, Option<Boxed<Page>>)>>) -> Result<(), NoMemory>
+    requires { length places.old.items ≤ PLACES }
+    ensures made { OnOk result (length places.new.items ≡ PLACES) }
+    ensures kept { OnOk result (KeepsPlaces places.old.items places.new.items) }
+{
+    places.reserve(PLACES - places.len())?;
+    for _place in places.len()..PLACES {
+        places.push(None)?;
+    }
+    Ok(())
+}
+
 impl PageMemo {
     /// The memo in which nothing is. It takes no memory.
     pub fn new(alloc: Global) -> PageMemo
@@ -58,47 +84,42 @@ impl PageMemo {
     {
         PageMemo {
             alloc,
-            found: BTreeMap::new(alloc),
+            places: Vec::new(alloc),
         }
     }
 
-    /// What is remembered of the label, if anything is: a page, or that there is none. It takes no memory.
-    pub fn recall(&self, label: &Label) -> Option<&Option<Boxed<Page>>>
+    /// What is remembered of the label, whose place this is, if anything is: a page, or that there is none. It takes no
+    /// memory.
+    pub fn recall(&self, place: usize, label: &Label) -> Option<&Option<Boxed<Page>>>
+        requires { place ≡ place_of (label_bytes label.now) }
         ensures { IfSome result (λ found. IsRemembered self.now label.now found.now) }
     {
-        let (kept, found) = self.found.get(&checksum_of(&label.to_bytes()))?;
+        let Some((kept, found)) = self.places.get(place)? else {
+            return None;
+        };
         if *kept == *label {
             return Some(found);
         }
         None
     }
 
-    /// Forgets all where 64 labels are remembered. It takes no memory.
-    fn make_room(&mut self)
-        ensures forgets { (l : labels.Label) (page : Option pages.Page) → IsRemembered self.new l page → IsRemembered self.old l page }
-        ensures room { length self.new < most_remembered }
-    {
-        if self.found.len() >= REMEMBERED_LABELS {
-            self.found.clear();
-        }
-    }
-
-    /// Remembers this of the label, in the place of what was, where there is memory for it. Where 64 labels are remembered
-    /// already, all are forgotten first.
+    /// Remembers this of the label, in the place of what was, where there is memory for it.
     fn keep(&mut self, label: Label, found: Option<Boxed<Page>>)
         ensures { Remembers self.old self.new label found }
     {
-        self.make_room();
-        let checksum = checksum_of(&label.to_bytes());
-        // Want of memory leaves the label out, since then its checksum is a new one.
-        let _ = self.found.insert(checksum, (label, found));
+        let Ok(()) = make_places(&mut self.places) else {
+            self.places.clear();
+            return;
+        };
+        let place = place_of(&label);
+        self.places[place] = Some((label, found));
     }
 
     /// Remembers what was found under the label, where there is memory for it.
-    pub fn remember(&mut self, label: &Label, found: &Option<Page>)
-        ensures { RemembersMore self.old self.new label.now found.now }
+    pub fn remember(&mut self, label: &Label, found: Option<Page>)
+        ensures { RemembersMore self.old self.new label.now found }
     {
-        if let Ok(kept) = on_heap(self.alloc, *found) {
+        if let Ok(kept) = on_heap(self.alloc, found) {
             self.keep(*label, kept);
         }
     }
@@ -117,6 +138,6 @@ impl PageMemo {
     pub fn clear(&mut self)
         ensures { self.new ≡ [] }
     {
-        self.found.clear();
+        self.places.clear();
     }
 }

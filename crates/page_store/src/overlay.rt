@@ -82,7 +82,7 @@ impl<D: Disk> ReadSlots for Overlay<D> {
 
     fn get(&mut self, at: u32, into: &mut Slot) -> Result<(), Fault> {
         if let Some(slot) = self.touched.get(&at) {
-            *into = *slot.get();
+            into.copy_from_slice(slot.get());
             return Ok(());
         }
         let slots = self.params.slots();

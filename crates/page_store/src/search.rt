@@ -1,23 +1,26 @@
 //! The page of a label in the table.
 
 ghost use Rattle.std.specs.Prelude.{◌≡◌, ◌<◌, None, IfSome, IsNone};
-ghost use Rattle.page_store.specs.Lookups.{Consults, Locates, Reads, Finds};
-ghost use Rattle.page_store.specs.Memos.{IsKnown, IsMemoOf, staged_at};
+ghost use Rattle.store_model.specs.Labels.{label_bytes};
+ghost use Rattle.page_store.specs.Lookups.{Consults, Locates, LocatesAgain, Reads, Finds};
+ghost use Rattle.page_store.specs.Memos.{place_of, IsKnown, IsMemoOf, staged_at};
 
 use crate::boxed::Boxed;
-use crate::memo::PageMemo;
+use crate::hints::Hints;
+use crate::memo::{PageMemo, place_of};
 use node_pages::{Page, decode_page};
-use ordered_table::{Steps, find};
+use ordered_table::{Steps, find_from, holds};
 use seeded_draw::Draw;
 use std::collections::BTreeMap;
 use std::marker::Brand;
 use std::sync::ledger::{Blank, Ledger};
 use store_base::{BLOCK, Fault, Label, ReadSlots};
 
-/// As `locate`, with a ledger for its steps.
+/// As `locate_from`, with a ledger for its steps.
 fn locate_counted<S: ReadSlots, W: Draw, L: Ledger>(
     slots: &mut S,
     draw: &W,
+    start: u32,
     label: &Label,
     blank: Blank,
 ) -> Result<Option<u32>, Fault>
@@ -25,23 +28,67 @@ fn locate_counted<S: ReadSlots, W: Draw, L: Ledger>(
     requires parts { blank.parts ≡ L.parts }
     requires some { 0 < L.parts }
     requires count { (S.state slots.old).count ≡ (W.drawn draw.now).slots }
+    requires start { start ≡ (W.drawn draw.now).start label.now }
     ensures call { Locates (W.drawn draw.now) (S.state slots.old) (S.state slots.new) label.now result }
     ensures follows { S.follows slots.old slots.new }
 {
-    find(slots, draw, label, &mut Steps::<L>::new(blank))
+    find_from(slots, draw, start, label, &mut Steps::<L>::new(blank))
 }
 
-/// The slot that holds the page of the label; `None` exactly where the slots hold no such page.
+/// As `locate`, from the start of the label.
+pub fn locate_from<S: ReadSlots, W: Draw>(
+    slots: &mut S,
+    draw: &W,
+    start: u32,
+    label: &Label,
+) -> Result<Option<u32>, Fault>
+    requires count { (S.state slots.old).count ≡ (W.drawn draw.now).slots }
+    requires start { start ≡ (W.drawn draw.now).start label.now }
+    ensures call { Locates (W.drawn draw.now) (S.state slots.old) (S.state slots.new) label.now result }
+    ensures follows { S.follows slots.old slots.new }
+{
+    locate_counted::<S, W, Brand>(slots, draw, start, label, Blank::new(1))
+}
+
+/// The slot where the page of the label was found last, if it holds the page still; `None` tells nothing.
+pub fn locate_again<S: ReadSlots, W: Draw>(
+    slots: &mut S,
+    draw: &W,
+    hints: &Hints,
+    label: &Label,
+) -> Result<Option<u32>, Fault>
+    requires { (S.state slots.old).count ≡ (W.drawn draw.now).slots }
+    ensures call { LocatesAgain (W.drawn draw.now) (S.state slots.old) (S.state slots.new) label.now result }
+    ensures follows { S.follows slots.old slots.new }
+{
+    let at = hints.slot(label);
+    if at >= draw.slots() {
+        return Ok(None);
+    }
+    if holds(slots, draw, at, label)? {
+        return Ok(Some(at));
+    }
+    Ok(None)
+}
+
+/// The slot that holds the page of the label; `None` exactly where the slots hold no such page. It is searched for only
+/// where it is not the one where the page was found last.
 pub fn locate<S: ReadSlots, W: Draw>(
     slots: &mut S,
     draw: &W,
+    hints: &mut Hints,
     label: &Label,
 ) -> Result<Option<u32>, Fault>
     requires { (S.state slots.old).count ≡ (W.drawn draw.now).slots }
     ensures call { Locates (W.drawn draw.now) (S.state slots.old) (S.state slots.new) label.now result }
     ensures follows { S.follows slots.old slots.new }
 {
-    locate_counted::<S, W, Brand>(slots, draw, label, Blank::new(1))
+    if let Some(at) = locate_again(slots, draw, hints, label)? {
+        return Ok(Some(at));
+    }
+    let found = locate_from(slots, draw, draw.start(label), label)?;
+    hints.keep(label, found);
+    Ok(found)
 }
 
 /// The page of the label in the slots, or `None` where they hold no such page. A slot that was found and holds no page,
@@ -49,13 +96,14 @@ pub fn locate<S: ReadSlots, W: Draw>(
 fn read_page<S: ReadSlots, W: Draw>(
     slots: &mut S,
     draw: &W,
+    hints: &mut Hints,
     label: &Label,
 ) -> Result<Option<Page>, Fault>
     requires { (S.state slots.old).count ≡ (W.drawn draw.now).slots }
     ensures call { Reads (W.drawn draw.now) (S.state slots.old) (S.state slots.new) label.now result }
     ensures follows { S.follows slots.old slots.new }
 {
-    let Some(at) = locate(slots, draw, label)? else {
+    let Some(at) = locate(slots, draw, hints, label)? else {
         return Ok(None);
     };
     let mut slot = [0; BLOCK];
@@ -69,6 +117,7 @@ fn read_page<S: ReadSlots, W: Draw>(
 fn look_up<S: ReadSlots, W: Draw>(
     slots: &mut S,
     draw: &W,
+    hints: &mut Hints,
     memo: &mut PageMemo,
     label: &Label,
 ) -> Result<(), Fault>
@@ -78,51 +127,59 @@ fn look_up<S: ReadSlots, W: Draw>(
     ensures remembered { IsMemoOf (W.drawn draw.now) (S.state slots.new) memo.new }
     ensures follows { S.follows slots.old slots.new }
 {
-    let found = read_page(slots, draw, label)?;
-    memo.remember(label, &found);
+    let found = read_page(slots, draw, hints, label)?;
+    memo.remember(label, found);
     Ok(())
 }
 
-/// What is known of the label, by the changes, or else by the memo: a page, or that there is none. It takes no memory.
+/// What is known of the label, whose place in the memo this is, by the changes, or else by the memo: a page, or that there
+/// is none. It takes no memory.
 pub fn known<'a>(
     changes: &'a BTreeMap<Label, Option<Boxed<Page>>>,
     memo: &'a PageMemo,
+    place: usize,
     label: &Label,
 ) -> Option<&'a Option<Boxed<Page>>>
+    requires { place ≡ place_of (label_bytes label.now) }
     ensures found { IfSome result (λ page. IsKnown changes.now.entries memo.now label.now page.now) }
     ensures unstaged { IsNone result → staged_at changes.now.entries label.now ≡ None }
 {
     match changes.get(label) {
         Some(change) => Some(change),
-        None => memo.recall(label),
+        None => memo.recall(place, label),
     }
 }
 
-/// Has the page of the label known, where there is memory for it: what is not known is read and remembered.
+/// Has the page of the label known, whose place in the memo this is, where there is memory for it: what is not known is
+/// read and remembered.
 pub fn learn<S: ReadSlots, W: Draw>(
     slots: &mut S,
     draw: &W,
+    hints: &mut Hints,
     changes: &BTreeMap<Label, Option<Boxed<Page>>>,
     memo: &mut PageMemo,
+    place: usize,
     label: &Label,
 ) -> Result<(), Fault>
     requires count { (S.state slots.old).count ≡ (W.drawn draw.now).slots }
     requires remembered { IsMemoOf (W.drawn draw.now) (S.state slots.old) memo.old }
+    requires place { place ≡ place_of (label_bytes label.now) }
     ensures call { Consults (S.state slots.old) (S.state slots.new) result }
     ensures remembered { IsMemoOf (W.drawn draw.now) (S.state slots.new) memo.new }
     ensures follows { S.follows slots.old slots.new }
 {
     // The memo comes first, since to find a label among the changes takes comparisons of labels.
-    if memo.recall(label).is_some() || changes.contains_key(label) {
+    if memo.recall(place, label).is_some() || changes.contains_key(label) {
         return Ok(());
     }
-    look_up(slots, draw, memo, label)
+    look_up(slots, draw, hints, memo, label)
 }
 
 /// Whether there is a page under the label, by the changes, or else by the memo, or else by the slots.
 pub fn has_page<S: ReadSlots, W: Draw>(
     slots: &mut S,
     draw: &W,
+    hints: &mut Hints,
     changes: &BTreeMap<Label, Option<Boxed<Page>>>,
     memo: &PageMemo,
     label: &Label,
@@ -133,8 +190,8 @@ pub fn has_page<S: ReadSlots, W: Draw>(
     ensures remembered { IsMemoOf (W.drawn draw.now) (S.state slots.new) memo.now }
     ensures follows { S.follows slots.old slots.new }
 {
-    if let Some(page) = known(changes, memo, label) {
+    if let Some(page) = known(changes, memo, place_of(label), label) {
         return Ok(page.is_some());
     }
-    Ok(locate(slots, draw, label)?.is_some())
+    Ok(locate(slots, draw, hints, label)?.is_some())
 }

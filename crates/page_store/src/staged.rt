@@ -4,24 +4,25 @@ ghost use Rattle.std.specs.Prelude.{[], ◌≡◌, ◌≤◌, ◌<◌, ℕ, Bool
 ghost use Rattle.std.specs.BTreeMap.{insert_entry};
 ghost use Rattle.std.specs.FinMap as maps;
 ghost use Rattle.store_base.specs.Faults.{disk_faults_after};
-ghost use Rattle.store_model.specs.Labels.{label_cmp};
+ghost use Rattle.store_model.specs.Labels.{label_bytes, label_cmp};
 ghost use Rattle.store_model.specs.Parameters.{image_len};
 ghost use Rattle.disk_model.specs.DiskState.{IsObservable};
 ghost use Rattle.sha2.specs.Sha256.{sha256};
 ghost use Rattle.gate_journal.specs.Places.{AreCalls, ReadsOnly};
 ghost use Rattle.store_model.specs.PageMaps.{PageMap, IsPageMap, page_at};
 ghost use Rattle.node_pages.specs.PagesState.{IsPageGet, IsPagePut, IsPageDrop, looked_at, most_pages};
-ghost use Rattle.page_store.specs.Memos.{IsMemoOf};
+ghost use Rattle.page_store.specs.Memos.{place_of, IsMemoOf};
 ghost use Rattle.page_store.specs.OverlayState.{overlaid};
 ghost use Rattle.page_store.specs.PageImages.{pages_in_table, StandsAt};
 ghost use Rattle.page_store.specs.Staging.{with_change, used_after};
 ghost use Rattle.page_store.specs.Settling.{Settles};
 
-use crate::boxed::{Boxed, behind, on_heap};
+use crate::boxed::{Boxed, behind};
 use crate::cache::{SlotCache, commit_slots};
 use crate::compare::find_slots;
 use crate::fault::SettleFault;
-use crate::memo::PageMemo;
+use crate::hints::Hints;
+use crate::memo::{PageMemo, place_of};
 use crate::overlay::Overlay;
 use crate::search::{has_page, known, learn};
 use disk_model::Disk;
@@ -45,6 +46,8 @@ pub struct Staged<D: Disk, W: Draw> {
     changes: BTreeMap<Label, Option<Boxed<Page>>>,
     /// What was found in the table.
     memo: PageMemo,
+    /// Where it was found.
+    hints: Hints,
     /// How many pages there are now, and how many of them the table has.
     used: u32,
     settled: u32,
@@ -80,15 +83,14 @@ fn count_after(used: u32, was_there: bool, is_there: bool) -> u32
 
 /// Keeps a change under its label, in the place of the one that was kept. After want of memory the changes are as they were.
 fn keep_change(
-    alloc: Global,
     changes: &mut BTreeMap<Label, Option<Boxed<Page>>>,
     label: Label,
-    change: Option<Page>,
+    change: Option<Boxed<Page>>,
 ) -> Result<(), NoMemory>
     ensures ok { OnOk result (changes.new.entries ≡ insert_entry label_cmp changes.old.entries label change) }
     ensures err { OnErr result (changes.new.entries ≡ changes.old.entries) }
 {
-    changes.insert(label, on_heap(alloc, change)?)?;
+    changes.insert(label, change)?;
     Ok(())
 }
 
@@ -126,6 +128,7 @@ impl<D: Disk, W: Draw> Staged<D, W> {
             draw,
             changes: BTreeMap::new(alloc),
             memo: PageMemo::new(alloc),
+            hints: Hints::new(alloc),
             used: pages,
             settled: pages,
             lookups: 0,
@@ -165,6 +168,7 @@ impl<D: Disk, W: Draw> Staged<D, W> {
             draw: _,
             changes: _,
             memo: _,
+            hints: _,
             used: _,
             settled: _,
             lookups: _,
@@ -194,13 +198,14 @@ impl<D: Disk, W: Draw> Staged<D, W> {
         Journal::digest(&mut self.overlay.disk)
     }
 
-    /// The page under the label, as far as it is known; what is not known was left out for want of memory. It takes no
-    /// memory.
-    fn shown(&self, label: &Label) -> Result<Option<&Page>, Fault>
+    /// The page under the label, whose place in the memo this is, as far as it is known; what is not known was left out for
+    /// want of memory. It takes no memory.
+    fn shown(&self, place: usize, label: &Label) -> Result<Option<&Page>, Fault>
+        requires { place ≡ place_of (label_bytes label.now) }
         ensures found { IsTold D.state self.now → IfOk (looked_at result) (λ page. page ≡ page_at self.now.map label.now) }
         ensures faults { (count : ℕ) → disk_faults_after count (looked_at result) ≡ count }
     {
-        match known(&self.changes, &self.memo, label) {
+        match known(&self.changes, &self.memo, place, label) {
             Some(page) => Ok(behind(page)),
             None => Err(Fault::NoMemory),
         }
@@ -208,7 +213,7 @@ impl<D: Disk, W: Draw> Staged<D, W> {
 
     /// Stages what is under the label from now on, a page of this label or none. To add a page there have to be fewer than
     /// 2^32 - 1 of them. After a fault the pages are as they were.
-    fn stage(&mut self, label: Label, change: Option<Page>) -> Result<(), Fault>
+    fn stage(&mut self, label: Label, change: Option<Boxed<Page>>) -> Result<(), Fault>
         requires fits { (m : PageMap) → IsPageMap m → IsPageMap (with_change m label change) }
         requires few { IsSome change → IsTold D.state self.old → maps.len self.old.map < most_pages }
         ensures call { Stages (pages_state D.state self.old) (pages_state D.state self.new) label change result }
@@ -217,12 +222,13 @@ impl<D: Disk, W: Draw> Staged<D, W> {
         let is_there = has_page(
             &mut self.overlay,
             &self.draw,
+            &mut self.hints,
             &self.changes,
             &self.memo,
             &label,
         )?;
         let used = count_after(self.used, is_there, change.is_some());
-        keep_change(self.overlay.alloc, &mut self.changes, label, change)?;
+        keep_change(&mut self.changes, label, change)?;
         self.used = used;
         Ok(())
     }
@@ -248,12 +254,17 @@ impl<D: Disk, W: Draw> Staged<D, W> {
                 slots,
             });
         }
-        let found = find_slots(&mut self.overlay, &self.draw, &self.changes);
+        let found = find_slots(
+            &mut self.overlay,
+            &self.draw,
+            &mut self.hints,
+            &self.changes,
+        );
         // Whatever was found, the slots are the disk's again.
         self.overlay.touched.clear();
         let changed = found?;
         let overlay = &mut self.overlay;
-        match commit_slots(&mut overlay.disk, &mut overlay.cache, &params, &changed) {
+        match commit_slots(&mut overlay.disk, &mut overlay.cache, &params, changed) {
             Ok(()) => {
                 let changes = mem::replace(&mut self.changes, BTreeMap::new(self.overlay.alloc));
                 self.memo.renew(changes);
@@ -289,18 +300,23 @@ impl<D: Disk, W: Draw> Pages for Staged<D, W> {
 
     fn look(&mut self, label: &Label) -> Result<Option<&Page>, Fault> {
         self.lookups = self.lookups.saturating_add(1);
+        let place = place_of(label);
         learn(
             &mut self.overlay,
             &self.draw,
+            &mut self.hints,
             &self.changes,
             &mut self.memo,
+            place,
             label,
         )?;
-        self.shown(label)
+        self.shown(place, label)
     }
 
     fn put(&mut self, page: Page) -> Result<(), Fault> {
-        self.stage(page.label(), Some(page))
+        let label = page.label();
+        let kept = Boxed::new(self.overlay.alloc, page)?;
+        self.stage(label, Some(kept))
     }
 
     fn drop_page(&mut self, label: &Label) -> Result<(), Fault> {

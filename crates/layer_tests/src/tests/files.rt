@@ -88,7 +88,7 @@ type Counted = (Change, Answer<()>, u32);
 
 /// Changes of a file that is absent, which leave it with one block.
 static ONE_BLOCK: [Counted; 3] = [
-    (Change::Fill(0, 257), Ok(()), 5),
+    (Change::Fill(0, 257), Ok(()), 4),
     (Change::Cut(256), Ok(()), 3),
     (Change::Cut(257), Err(Refusal::Gap), 1),
 ];

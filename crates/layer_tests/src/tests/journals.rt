@@ -1,9 +1,8 @@
 //! A commit and a wipe that a crash cuts short at each of their calls, and one use of each other call, over the disk
 //! in memory.
 
-ghost use Rattle.std.specs.Prelude.{◌≡◌, ◌+◌, ◌*◌, ◌≤◌, replicate, IsTrue};
+ghost use Rattle.std.specs.Prelude.{◌≡◌, ◌+◌, ◌*◌, ◌≤◌, IsTrue};
 ghost use Rattle.store_model.specs.Parameters as model;
-ghost use Rattle.store_model.specs.Parameters.{block_len};
 
 use disk_model::{Disk, FailingDisk, MemDisk, StopChoice};
 use gate_journal::{Journal, JournalFault, SlotChanges, View};
@@ -24,23 +23,22 @@ pub(crate) static CHOICES: [StopChoice; 3] = [
     StopChoice::Fill(0xA5),
 ];
 
-/// The first slots of odd number are to hold this byte throughout.
+/// The first slots of odd number are to hold these bytes.
 struct Stripes {
     count: u32,
-    byte: u8,
+    bytes: Slot,
     ghost few: { count ≤ 4 },
 }
 
 impl SlotChanges for Stripes {
-    ghost changes = { λ s. record { count = s.count; slot = λ k. 2 * k + 1; bytes = λ k. replicate block_len s.byte } };
+    ghost changes = { λ s. record { count = s.count; slot = λ k. 2 * k + 1; bytes = λ k. s.bytes } };
 
     fn count(&self) -> u32 {
         self.count
     }
 
-    fn change(&self, k: u32, into: &mut Slot) -> u32 {
-        *into = [self.byte; BLOCK];
-        2 * k + 1
+    fn change(&self, k: u32) -> (u32, &Slot) {
+        (2 * k + 1, &self.bytes)
     }
 }
 
@@ -99,7 +97,15 @@ fn filled(rt: &impl Abort, alloc: Global, len: usize) -> MemDisk {
 fn striped(rt: &impl Abort, alloc: Global, params: &Params) -> MemDisk {
     let mut disk = filled(rt, alloc, LEN);
     Journal::format(&mut disk, params).expect(rt, "a format");
-    commit(&mut disk, params, &Stripes { count: 4, byte: 1 }).expect(rt, "a commit");
+    commit(
+        &mut disk,
+        params,
+        &Stripes {
+            count: 4,
+            bytes: [1; BLOCK],
+        },
+    )
+    .expect(rt, "a commit");
     disk
 }
 
@@ -113,7 +119,15 @@ fn is_whole_or_absent(
 ) -> bool {
     let below = striped(rt, alloc, params);
     let mut failing = FailingDisk::new(below, Vec::new(alloc), Some(call));
-    let done = commit(&mut failing, params, &Stripes { count: 3, byte: 9 }).is_ok();
+    let done = commit(
+        &mut failing,
+        params,
+        &Stripes {
+            count: 3,
+            bytes: [9; BLOCK],
+        },
+    )
+    .is_ok();
     let (seen, mut disk) = firsts_of(rt, failing.into_disk().stopped(choice), params);
     recover(&mut disk, params).expect(rt, "a recovery");
     let (stands, _) = firsts_of(rt, disk, params);

@@ -196,13 +196,21 @@ fn pages_of_a_search(rt: HostRuntime) {
     }
 }
 
+/// Keys that are there.
+static KEPT: [&str; 3] = ["/UU", "/Ua", "/b"];
+
 #[test]
 fn value_that_is_overwritten(rt: HostRuntime) {
-    let mut list = list_of_three(&rt, rt.alloc());
-    let key = key_of(&rt, "/Ua");
-    list.put(key, value_of(2)).expect(&rt, "memory");
-    assert!(rt; list.get(&key) == Ok(Some(value_of(2))));
-    assert_eq!(rt; list.into_pages().changes(), 1);
+    // The put asks for the page of each of the three groups of the path. The lowest group is known then, so that the search
+    // behind it asks for the page of that one alone: 3 and 1, and 3 and 3 were it forgotten.
+    for word in &KEPT {
+        let mut list = list_of_three(&rt, rt.alloc());
+        let key = key_of(&rt, *word);
+        list.put(key, value_of(2)).expect(&rt, "memory");
+        assert!(rt; list.get(&key) == Ok(Some(value_of(2))), "{word}");
+        let mut pages = list.into_pages();
+        assert!(rt; pages.changes() == 1 && pages.lookups() == 4, "{word}");
+    }
 }
 
 /// The pairs of /a with the value 1 and of /b with the value 2.

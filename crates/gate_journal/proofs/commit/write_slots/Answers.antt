@@ -23,7 +23,7 @@ returns-in_err-write_slot-clause-reaches g c observable =
     let observable_mid = observable_after _ _ _ c.loop-k.invariant.calls observable in
     let below : c.loop-k.k < changes.count = omega (arith, c.loop-k-test.true, c.count-k-end.ensures) in
     let old = g.D.Disk.state c.args.disk.now in
-    comes_short (OutsidePass c.args.pass c.args.slots changes) (OutsideWrite c.args.pass c.args.slots c.change-slot.result) (HasPassed c.args.pass c.args.slots changes c.loop-k.k old.bytes)
+    comes_short (OutsidePass c.args.pass c.args.slots changes) (OutsideWrite c.args.pass c.args.slots c.change-slot.result.0) (HasPassed c.args.pass c.args.slots changes c.loop-k.k old.bytes)
     (HasPassed c.args.pass c.args.slots changes changes.count old.bytes) (slot_writes c.args.pass * c.loop-k.k) old _ _ c.from_residual.result c.from_residual.ensures.0 (g.met.D.Disk.sound c.loop-k.disk observable_mid)
     (outside_one c.args.pass c.args.slots changes c.loop-k.k _ below c.change-slot.ensures.slot) (c.loop-k.invariant.comes observable) (c.write_slot.ensures.reaches observable_mid).keeps
 

@@ -2,9 +2,46 @@ use Rattle.std.proofs.Common.{◌+◌, ◌∙◌, ap, arith}
 use Rattle.gate_journal.specs.Recovery.{erase_writes, redo_writes, redo_syncs}
 use Rattle.gate_journal.proofs.Counting.{erase_same}
 use Rattle.std.proofs.lemmas.Bool.{both_ways}
-use Rattle.gate_journal.proofs.Calls.{observable_after, Made-reads, Made-then, Makes-exactly, Makes-then, Makes-as, Makes-short}
-use Rattle.gate_journal.proofs.Recoveries.{recovers_empty, recovers_erased}
+use Rattle.gate_journal.proofs.Calls.{AreCalls-one, AreCalls-answered, AreCalls-then, AreCalls-fault, observable_after, Made-reads, Made-then, Makes-exactly, Makes-then, Makes-as, Makes-short}
+use Rattle.gate_journal.proofs.Recoveries.{leaves_reading, leaves_settling, recovers_empty, recovers_erased, recovers_fault}
 use Rattle.gate_journal.proofs.recover.recover_durable.Goals as goal
+
+pub returns-in_err-is_journal_zero-clause-calls : goal.returns-in_err-is_journal_zero-clause-calls
+returns-in_err-is_journal_zero-clause-calls g c = AreCalls-fault _ _ _ c.from_residual.result c.from_residual.ensures.0 c.in_err-is_journal_zero.ensures.calls
+
+pub returns-in_err-is_journal_zero-clause-recovers : goal.returns-in_err-is_journal_zero-clause-recovers
+returns-in_err-is_journal_zero-clause-recovers g c observable =
+    let old = g.D.Disk.state c.args.disk.now in
+    let new = g.D.Disk.state c.is_journal_zero.new.disk in
+    recovers_fault c.args.slots old new c.from_residual.result c.from_residual.ensures.0 (leaves_reading c.args.slots old new (c.requires.durable observable) (c.is_journal_zero.ensures.reads observable))
+
+pub returns-in_err-is_journal_zero-clause-quiet : goal.returns-in_err-is_journal_zero-clause-quiet
+returns-in_err-is_journal_zero-clause-quiet g c observable empty = c.is_journal_zero.ensures.reads observable
+
+pub returns-then-branch-clause-calls : goal.returns-then-branch-clause-calls
+returns-then-branch-clause-calls g c = AreCalls-answered _ _ _ _ c.in_ok-is_journal_zero.ensures.calls
+
+pub returns-then-branch-clause-quiet : goal.returns-then-branch-clause-quiet
+returns-then-branch-clause-quiet g c observable empty = c.is_journal_zero.ensures.reads observable
+
+pub returns-in_err-settle_flag-clause-calls : goal.returns-in_err-settle_flag-clause-calls
+returns-in_err-settle_flag-clause-calls g c =
+    AreCalls-fault _ _ _ c.from_residual-in_err-settle_flag.result c.from_residual-in_err-settle_flag.ensures.0
+    (AreCalls-then _ _ _ _ _ c.in_ok-is_journal_zero.ensures.calls c.in_err-settle_flag.ensures.calls)
+
+pub returns-in_err-settle_flag-clause-recovers : goal.returns-in_err-settle_flag-clause-recovers
+returns-in_err-settle_flag-clause-recovers g c observable =
+    let old = g.D.Disk.state c.args.disk.now in
+    let mid = g.D.Disk.state c.is_journal_zero.new.disk in
+    let new = g.D.Disk.state c.settle_flag.new.disk in
+    let settles = c.settle_flag.ensures.settles (observable_after _ _ _ c.is_journal_zero.ensures.calls observable) in
+    recovers_fault c.args.slots old new c.from_residual-in_err-settle_flag.result c.from_residual-in_err-settle_flag.ensures.0
+    (leaves_settling c.args.slots old mid new c.settle_flag.result (c.requires.durable observable) (c.is_journal_zero.ensures.reads observable) settles)
+
+pub returns-clause-calls : goal.returns-clause-calls
+returns-clause-calls g c =
+    let first = AreCalls-then _ _ _ _ _ c.in_ok-is_journal_zero.ensures.calls c.in_ok-settle_flag.ensures.calls in
+    AreCalls-then _ _ _ _ c.erase_area.result first (AreCalls-one _ _ c.erase_area.result c.erase_area.ensures.call)
 
 pub returns-then-branch-clause-recovers : goal.returns-then-branch-clause-recovers
 returns-then-branch-clause-recovers g c observable =

@@ -1,5 +1,4 @@
-use Rattle.std.proofs.Common.{ℕ, List, length, subst, ◌∙◌}
-use Rattle.page_store.specs.Caches.{RewritesFirst}
+use Rattle.std.proofs.Common.{◌∙◌}
 use Rattle.page_store.specs.Differences.{changes_of}
 use Rattle.page_store.proofs.CacheLemmas.{cache_committed, cache_empty}
 use Rattle.page_store.proofs.cache.commit_slots.Goals as goal
@@ -9,9 +8,8 @@ returns-in-Ok g c =
     let old = g.D.Disk.state c.args.disk.now in
     let new = g.D.Disk.state c.commit.new.disk in
     let slots = c.args.params.now.slots in
-    let items = c.args.changed.now.slots.items in
+    let items = c.args.changed.slots.items in
     let calls = c.in-Ok.ensures.calls in
-    let rewritten = subst (λ (xs : List (ℕ × List ℕ)). RewritesFirst (length xs) (changes_of xs) c.args.cache.now c.rewrite_all.new.self) c.deref.ensures.value c.rewrite_all.ensures in
     record {
       call = record {
         calls = calls;
@@ -20,7 +18,7 @@ returns-in-Ok g c =
         makes = c.in-Ok.ensures.makes;
         wrote = λ observable. tt;
         cached = cache_committed slots old new calls.observable c.args.cache.now c.requires.cached (changes_of items) c.requires.changes
-            (λ observable. (g.met.D.Disk.sound c.args.disk.now observable).size ∙ c.requires.size) (λ observable. (c.in-Ok.ensures.commits observable).done) c.rewrite_all.new.self rewritten;
+            (λ observable. (g.met.D.Disk.sound c.args.disk.now observable).size ∙ c.requires.size) (λ observable. (c.in-Ok.ensures.commits observable).done) c.rewrite_all.new.self c.rewrite_all.ensures;
       };
     }
 

@@ -5,6 +5,6 @@ use Rattle.page_store.proofs.compare.find_changes.Given as goal
 -- the slots that were found so far
 abbrev pub invariant-loop-at : goal.invariant-loop-at
 invariant-loop-at g l = record {
-  scanning : IsScanning l.slots l.written.entries (g.D.Disk.state l.fn.disk) (g.D.Disk.state l.disk) l.changed.items l.at-iterator;
+  scanning : IsScanning l.slots l.fn.written.entries (g.D.Disk.state l.fn.disk) (g.D.Disk.state l.disk) l.changed.items l.at-iterator;
   cached : IsCacheOf l.slots (g.D.Disk.state l.disk) l.cache;
 }

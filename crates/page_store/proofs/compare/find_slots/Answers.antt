@@ -1,4 +1,5 @@
-use Rattle.std.proofs.Common.{ℕ, sym, subst}
+use Rattle.std.proofs.Common.{ℕ, List, sym, ap, subst}
+use Rattle.std.specs.BTreeMap.{BTreeMap}
 use Rattle.page_store.specs.Caches.{IsCacheOf}
 use Rattle.page_store.specs.Preparing.{FindsChanges}
 use Rattle.page_store.proofs.FindLemmas.{slots_found}
@@ -11,7 +12,8 @@ returns-clause-call g c =
     let after = c.carry_out.new.slots in
     slots_found (g.W.Draw.drawn c.args.draw.now) before.params after.params before.touched.entries after.touched.entries c.args.changes.now.entries (state before.disk) (state after.disk) (state c.find_changes.new.disk) c.in_ok-carry_out.field-0 c.requires
     c.in_ok-carry_out.ensures.call c.in_ok-carry_out.ensures.follows c.find_changes.new.cache c.find_changes.result
-    (subst (λ (n : ℕ). FindsChanges n after.touched.entries (state after.disk) (state c.find_changes.new.disk) c.find_changes.new.cache c.find_changes.result) c.slots.ensures.value c.find_changes.ensures.call)
+    (subst (λ (n : ℕ). FindsChanges n after.touched.entries (state after.disk) (state c.find_changes.new.disk) c.find_changes.new.cache c.find_changes.result) c.slots.ensures.value
+    (subst (λ (es : List (ℕ × List ℕ)). FindsChanges c.slots.result es (state after.disk) (state c.find_changes.new.disk) c.find_changes.new.cache c.find_changes.result) (ap (λ (m : BTreeMap ℕ (List ℕ)). m.entries) c.replace-written.ensures.value) c.find_changes.ensures.call))
 
 pub find_changes-requires-clause-cached : goal.find_changes-requires-clause-cached
 find_changes-requires-clause-cached g c =

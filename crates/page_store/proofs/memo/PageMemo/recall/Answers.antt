@@ -1,11 +1,12 @@
-use Rattle.std.proofs.Common.{Some, refl, sym, ap, ap₂, ◌∙◌}
-use Rattle.store_model.specs.Labels.{Label}
-use Rattle.page_store.specs.Memos.{checksum, kept_under}
+use Rattle.std.proofs.Common.{length, refl, ◌∙◌}
+use Rattle.std.proofs.lemmas.Option.{slice_get_read}
+use Rattle.page_store.proofs.MemoLemmas.{recalled_at}
 use Rattle.page_store.proofs.memo.PageMemo.recall.Goals as goal
 
 pub returns-then-eq : goal.returns-then-eq
 returns-then-eq c =
-    let page = c.in_ok-kept.field-0.now.1 in
-    let number = c.checksum_of.ensures ∙ ap checksum c.to_bytes.ensures.value in
-    let same = c.if-eq.ensures.same.0 refl in
-    ap₂ kept_under (sym c.self.view_is) (sym number) ∙ sym c.in_ok-kept.ensures.value ∙ ap (λ (l : Label). Some (l, page)) same
+    let shown = c.deref.result.now in
+    let what = c.in_ok-kept.field-0.now in
+    let looked = c.in_ok-kept.ensures.lookup in
+    let got = slice_get_read shown (length shown) c.args.place what refl looked.3.0 looked.1 in
+    recalled_at c.args.self.now shown c.args.place what c.in-Some.kept c.args.label.now c.in-Some.found (c.deref.ensures.value ∙ c.self.view_is) c.requires got c.in-Some.is (c.if-eq.ensures.same.0 refl)

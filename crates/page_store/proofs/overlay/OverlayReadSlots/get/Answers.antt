@@ -17,7 +17,7 @@ returns-in-Some-clause-call g c =
       observed = λ observable. record {
         got =
             get_number (slot_over slots touched image) 0 slots c.args.at c.requires ∙ ap (λ (n : ℕ). Some (slot_over slots touched image n)) here
-            ∙ ap (λ (o : Option (List ℕ)). Some (bytes_or o (table_slot slots image c.args.at))) (sym c.in-Some.ensures.value) ∙ ap Some (sym c.get-in-Some.ensures);
+            ∙ ap (λ (o : Option (List ℕ)). Some (bytes_or o (table_slot slots image c.args.at))) (sym c.in-Some.ensures.value) ∙ ap Some (sym c.get-in-Some.ensures) ∙ ap Some (sym c.copy_from_slice.ensures.after);
         slots = refl;
       };
     }

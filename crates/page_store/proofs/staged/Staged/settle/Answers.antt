@@ -103,8 +103,8 @@ invariant_of-self-in-Err g c =
     let at = read_since g.D.Disk.state g.W.Draw.drawn s.draw s.overlay.disk mid.disk g.met.D.Disk.sound s.overlay.sized c.self.invariant c.self.view_is c.requires c.find_slots-found.ensures.follows in
     failed_staged at (omega (arith, c.if-self-slots.false, c.slots-slots.ensures.value)) (g.met.W.Draw.lawful s.draw) c.in_ok-changed.changed c.in_ok-changed.was c.find_slots-found.ensures.call c.commit_slots.new.disk c.clear.new.self.entries
 
-pub returns : goal.returns
-returns g c =
+pub returns-in-Err : goal.returns-in-Err
+returns-in-Err g c =
     let s = c.self.inside in
     let mid = c.find_slots-found.new.overlay in
     let at = read_since g.D.Disk.state g.W.Draw.drawn s.draw s.overlay.disk mid.disk g.met.D.Disk.sound s.overlay.sized c.self.invariant c.self.view_is c.requires c.find_slots-found.ensures.follows in
