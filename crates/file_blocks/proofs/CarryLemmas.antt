@@ -1,8 +1,10 @@
 -- Lemmas that lead from the pairs of one file to a command on a tree.
-use Rattle.std.proofs.Common.{◌≡◌, ℕ, zero, suc, ◌+◌, ◌-◌, ◌<◌, ◌≤◌, ◌^◌, min, max, List, [], ◌∷◌, length, take, drop, refl, sym, ap, ap₂, ◌∙◌, arith, true, false, not, cond, nat_lt, ltb-false, IsTrue, Option, Some, None, Ok, Err, is_some, subst}
+use Rattle.std.proofs.Common.{◌≡◌, ℕ, zero, suc, ◌+◌, ◌-◌, ◌<◌, ◌≤◌, ◌^◌, min, max, List, [], ◌∷◌, length, take, drop, Result, refl, sym, ap, ap₂, ◌∙◌, arith, true, false, not, cond, nat_lt, ltb-false, IsTrue, Option, Some, None, Ok, Err, is_some, subst}
 use Rattle.std.specs.FinMap.{find, put}
+use Rattle.std.specs.Result.{IsErrAnd}
 use Rattle.std.proofs.lemmas.Bool.{not-false}
 use Rattle.std.proofs.lemmas.List.{length-take, length-drop, take_all, take_min}
+use Rattle.std.proofs.lemmas.Result.{err_from_is_err_and}
 use Rattle.store_model.specs.declared.refusal.Refusal.{Refusal}
 use Rattle.store_model.specs.declared.refusal.Refusal.TheVariants as refusals
 use Rattle.store_model.specs.Lists.{IsBytes, overwrite, run_at}
@@ -16,6 +18,8 @@ use Rattle.store_model.specs.Commands.Command.{Write, Cut, Read}
 use Rattle.store_model.specs.Steps.{Condition, first_refusal, conditions, refusal_of, next_tree, read_limit}
 use Rattle.store_model.proofs.TreesLemmas.{node_at-find, entry_at}
 use Rattle.store_model.proofs.TreesLemmasSteps.{IsTree-next_tree, all_fail}
+use Rattle.store_base.specs.declared.store_fault.Fault.{Fault}
+use Rattle.store_base.specs.Faults.{disk_faults_after}
 use Rattle.tree_pairs.specs.declared.kind.Kind.{Kind}
 use Rattle.tree_pairs.specs.declared.kind.Kind.TheVariants as kinds
 use Rattle.skip_levels.specs.PairsState.{PairsState, IsObservable}
@@ -151,10 +155,10 @@ pairs-write_within t p x at len bytes s h l are e long is has =
     file_behind first bytes e (suc i) = refl
 
 -- what a write that isn't refused found, and what it has put but for the first pair
-pub written : (x : Path) (at : ℕ) (bytes piece : List ℕ) (kind : Kind) (old between after : PairsState) → HasParent old x → TellsKind x old between (Ok kind) → piece ≡ bytes → first_refusal (write_conditions kind at (length piece)) ≡ None
-    → PutsBytes {T = Unit {0}} x at piece between after (Ok (tt {0})) → IsObservable old → (t : Tree) (p : Parameters) → HoldsTree old t p
+pub written : (x : Path) (size at : ℕ) (bytes piece : List ℕ) (kind : Kind) (old between after : PairsState) → HasParent old x → TellsKind x old between (Ok kind) → piece ≡ bytes → first_refusal (write_conditions kind at (length piece)) ≡ None
+    → PutsBytes {T = Unit {0}} x size at piece between after (Ok (tt {0})) → size_of kind ≤ size → IsObservable old → (t : Tree) (p : Parameters) → HoldsTree old t p
     → (refusal_of t (Write x at bytes) ≡ None) × HasFile x (tree_blocks t x 0) (overwrite (contents t x) at bytes) (tree_blocks t) after.pairs
-written x at bytes piece kind old between after parent told same fits puts seen t p holds =
+written x size at bytes piece kind old between after parent told same fits puts short seen t p holds =
     let free : refusal_of t (Write x at bytes) ≡ None =
     refusal-write t x at bytes (parent seen t p holds) ∙ ap₂ (λ k n. first_refusal (write_conditions k at n)) (sym (told.told seen t p holds)) (sym (ap length same)) ∙ fits in
     let allowed = write_allowed t x at bytes free in
@@ -162,7 +166,7 @@ written x at bytes piece kind old between after parent told same fits puts seen 
     subst (HasFile x (tree_blocks t x 0) (contents t x) (tree_blocks t)) (sym (told.keeps.unchanged seen ∙ holds.pairs_are)) (has_contents t p x holds.tree allowed.0) in (
       free,
       subst (λ (z : List ℕ). HasFile x (tree_blocks t x 0) (overwrite (contents t x) at z) (tree_blocks t) after.pairs) same
-          (puts.written (told.keeps.observable seen) (tree_blocks t x 0) (contents t x) (tree_blocks t) allowed.1 before),
+          (puts.written (told.keeps.observable seen) (tree_blocks t x 0) (contents t x) (tree_blocks t) allowed.1 (let long = ap size_of (told.told seen t p holds) ∙ size_of-node (node_at t x) in omega (arith, long)) before),
     )
 
 -- ---- a call that is refused by what stands at its path
@@ -245,3 +249,10 @@ pairs-uncut t p x len s h l e long is =
     let same : contents t x ≡ take len (contents t x) = sym (take_all len (contents t x) (omega arith)) in
     let file : node_at t x ≡ Some (File (take len (contents t x))) = file_at (node_at t x) (not-false _ fail.0) other ∙ ap (λ bytes. Some (File bytes)) same in
     is ∙ pairs_kept t p x (take len (contents t x)) h (IsTree-next_tree t (Cut x len) h (path, l) e) below file
+
+-- a fault on the way, which is handed on
+pub carries_fault : {T : Type 0} (see : T → Reply) (command : Command) (old new : PairsState) (fault : Fault) (result : Result (Result T Refusal) Fault) → new.faults ≡ disk_faults_after {T = Unit {0}} old.faults (Err fault)
+    → IsErrAnd result (λ e. e ≡ fault) → CarriesOut see command old new result
+carries_fault see command old new fault result counted handed =
+    let err = err_from_is_err_and result handed in
+    subst (CarriesOut see command old new) (sym (err.1 ∙ ap Err err.2)) (record { faults = counted; observable = λ seen. tt; carried = λ seen t p holds. tt })

@@ -1,5 +1,5 @@
 -- Lemmas on the pairs of a file: what one block more or less makes of them.
-use Rattle.std.proofs.Common.{◌≡◌, ℕ, zero, suc, ◌+◌, ◌/◌, ◌%◌, ◌<◌, ◌≤◌, List, [], ◌∷◌, ◌++◌, length, take, drop, refl, sym, ap, ap₂, subst, ◌∙◌, arith, true, false, cond, nat_lt, ltb-true, ltb-false, IsTrue, Option, Some, Less, Equal, Greater}
+use Rattle.std.proofs.Common.{◌≡◌, ℕ, zero, suc, ◌+◌, ◌/◌, ◌%◌, ◌<◌, ◌≤◌, List, [], ◌∷◌, ◌++◌, length, take, drop, refl, sym, ap, ap₂, subst, ◌∙◌, arith, true, false, cond, nat_lt, ltb-true, ltb-false, IsTrue, Option, Some, Less, Equal, Greater, ◌⊎◌, inl, inr}
 use Rattle.std.specs.Prelude.{Result, Ok, Err, OnOk}
 use Rattle.std.specs.FinMap.{find, put}
 use Rattle.std.specs.FinMap.Entries.{by_order}
@@ -94,14 +94,17 @@ piece_put x first y others before between after at block k piece bytes value fou
     subst (HasFile x first (overwrite y at piece) others) (sym (changed ∙ ap₂ (λ q s. put key_cmp q value s) key_is kept))
     (put_run x first y others before at block piece bytes value path number l h some fits (read ∙ found_run x first y others before (at / 256) block found path number l has (is ∙ ap (λ q. find key_cmp q before) key_is)) written has)
 
--- the same for a block that the piece fills, which isn't read
+-- the same for a block of which the piece leaves no byte, which isn't read: the piece fills it, or reaches the file's end
 pub whole_put : (x : Path) (first : Option (List ℕ)) (y : List ℕ) (others : BlockMap) (before after : List Pair) (at block : ℕ) (k piece value : List ℕ)
-    → IsTrue (is_path x) → k ≡ key x block → block ≡ at / 256 + 1 → block < 4294967296 → at ≤ length y → length piece ≡ 256 → at % 256 + length piece ≤ 256
-    → value ≡ piece → after ≡ put key_cmp k value before → HasFile x first y others before → HasFile x first (overwrite y at piece) others after
-whole_put x first y others before after at block k piece value path key_is number l h long fits value_is changed has =
+    → IsTrue (is_path x) → k ≡ key x block → block ≡ at / 256 + 1 → block < 4294967296 → at ≤ length y → 1 ≤ length piece → at % 256 + length piece ≤ 256
+    → at % 256 ≡ 0 → length (run_at file_block y (at / 256)) ≤ length piece → value ≡ piece → after ≡ put key_cmp k value before → HasFile x first y others before → HasFile x first (overwrite y at piece) others after
+whole_put x first y others before after at block k piece value path key_is number l h some fits start covered value_is changed has =
     let run = run_at file_block y (at / 256) in
-    let short = length-run_at file_block y (at / 256) in
-    let start : at % 256 ≡ 0 = omega arith in
     subst (HasFile x first (overwrite y at piece) others) (sym (changed ∙ ap (λ q. put key_cmp q value before) key_is))
-    (put_run x first y others before at block piece run value path number l h (omega arith) fits refl
-    (λ room. value_is ∙ sym (ap (λ n. overwrite run n piece) start ∙ overwrite-whole run piece (omega arith))) has)
+    (put_run x first y others before at block piece run value path number l h some fits refl
+    (λ room. value_is ∙ sym (ap (λ n. overwrite run n piece) start ∙ overwrite-whole run piece covered)) has)
+
+-- the run of a block from its beginning on, which a piece fills or which ends where the piece does
+pub run_covered : (y piece : List ℕ) (size at : ℕ) → length y ≤ size → at % 256 ≡ 0 → (length piece ≡ 256) ⊎ (size ≤ at + length piece) → length (run_at file_block y (at / 256)) ≤ length piece
+run_covered y piece size at short start (inl fills) = let long = length-run_at file_block y (at / 256) in omega arith
+run_covered y piece size at short start (inr ends) = let long = length-run_at file_block y (at / 256) in omega arith

@@ -11,46 +11,47 @@ use Rattle.file_blocks.proofs.RunLemmas.{length-overwrite, overwrite-nothing, ov
 use Rattle.file_blocks.proofs.FileLemmas.{on_ok}
 
 -- before the first byte nothing is put
-pub puts_nothing : (x : Path) (at : ℕ) (s : PairsState) → PutsBytes {T = Unit {0}} x at [] s s (Ok (tt {0}))
-puts_nothing x at s = record {
+pub puts_nothing : (x : Path) (size at : ℕ) (s : PairsState) → PutsBytes {T = Unit {0}} x size at [] s s (Ok (tt {0}))
+puts_nothing x size at s = record {
   faults = refl;
   observable = λ seen. seen;
-  written = λ seen first y others h has. subst (λ (z : List ℕ). HasFile x first z others s.pairs) (sym (overwrite-nothing y at)) has;
+  written = λ seen first y others h short has. subst (λ (z : List ℕ). HasFile x first z others s.pairs) (sym (overwrite-nothing y at)) has;
   added = λ seen. omega arith;
 }
 
 -- one piece and then the next
-puts_both : {T : Type 0} (x : Path) (at : ℕ) (a b : List ℕ) (old between new : PairsState) (result : Result T Fault)
-    → PutsBytes {T = Unit {0}} x at a old between (Ok (tt {0})) → PutsBytes x (at + length a) b between new result → PutsBytes x at (a ++ b) old new result
-puts_both x at a b old between new result h g = record {
+puts_both : {T : Type 0} (x : Path) (size at : ℕ) (a b : List ℕ) (old between new : PairsState) (result : Result T Fault) → at + length a ≤ size
+    → PutsBytes {T = Unit {0}} x size at a old between (Ok (tt {0})) → PutsBytes x size (at + length a) b between new result → PutsBytes x size at (a ++ b) old new result
+puts_both x size at a b old between new result within h g = record {
   faults = g.faults ∙ ap (λ n. disk_faults_after n result) h.faults;
   observable = λ seen. g.observable (h.observable seen);
-  written = λ seen first y others l has.
+  written = λ seen first y others l short has.
       on_ok result (subst (λ (z : List ℕ). HasFile x first z others new.pairs) (overwrite-overwrite y at a b l))
-      (g.written (h.observable seen) first _ others (let e = length-overwrite y at a l in omega arith) (h.written seen first y others l has));
+      (g.written (h.observable seen) first _ others (let e = length-overwrite y at a l in omega arith) (let e = length-overwrite y at a l in omega arith) (h.written seen first y others l short has));
   added = λ seen. on_ok result (λ l. let m = h.added seen in let e = length-append a b in omega arith) (g.added (h.observable seen));
 }
 
 -- the bytes up to a place, and then those up to a later one
-pub puts_more : {T : Type 0} (x : Path) (at place done end : ℕ) (bytes piece : List ℕ) (old between new : PairsState) (result : Result T Fault)
-    → place ≡ at + done → done ≤ end → done ≤ length bytes → piece ≡ take (end - done) (drop done bytes)
-    → PutsBytes {T = Unit {0}} x at (take done bytes) old between (Ok (tt {0})) → PutsBytes x place piece between new result → PutsBytes x at (take end bytes) old new result
-puts_more x at place done end bytes piece old between new result e l m is h g =
+pub puts_more : {T : Type 0} (x : Path) (size at place done end : ℕ) (bytes piece : List ℕ) (old between new : PairsState) (result : Result T Fault)
+    → place ≡ at + done → done ≤ end → done ≤ length bytes → at + length bytes ≤ size → piece ≡ take (end - done) (drop done bytes)
+    → PutsBytes {T = Unit {0}} x size at (take done bytes) old between (Ok (tt {0})) → PutsBytes x size place piece between new result → PutsBytes x size at (take end bytes) old new result
+puts_more x size at place done end bytes piece old between new result e l m within is h g =
     let long = length-take done bytes in
     let there : place ≡ at + length (take done bytes) = omega arith in
     let both : take done bytes ++ piece ≡ take end bytes = ap (λ z. take done bytes ++ z) is ∙ sym (take-add done (end - done) bytes) ∙ ap (λ n. take n bytes) (let f : done + (end - done) ≡ end = omega arith in f) in
-    subst (λ (z : List ℕ). PutsBytes x at z old new result) both (puts_both x at (take done bytes) piece old between new result h (subst (λ (n : ℕ). PutsBytes x n piece between new result) there g))
+    let front : at + length (take done bytes) ≤ size = omega arith in
+    subst (λ (z : List ℕ). PutsBytes x size at z old new result) both (puts_both x size at (take done bytes) piece old between new result front h (subst (λ (n : ℕ). PutsBytes x size n piece between new result) there g))
 
 -- the bytes up to the end are all
-pub puts_all : (x : Path) (at done : ℕ) (bytes : List ℕ) (old new : PairsState) → length bytes ≤ done → PutsBytes {T = Unit {0}} x at (take done bytes) old new (Ok (tt {0})) → PutsBytes {T = Unit {0}} x at bytes old new (Ok (tt {0}))
-puts_all x at done bytes old new l h = subst (λ (z : List ℕ). PutsBytes {T = Unit {0}} x at z old new (Ok (tt {0}))) (take_all done bytes l) h
+pub puts_all : (x : Path) (size at done : ℕ) (bytes : List ℕ) (old new : PairsState) → length bytes ≤ done → PutsBytes {T = Unit {0}} x size at (take done bytes) old new (Ok (tt {0})) → PutsBytes {T = Unit {0}} x size at bytes old new (Ok (tt {0}))
+puts_all x size at done bytes old new l h = subst (λ (z : List ℕ). PutsBytes {T = Unit {0}} x size at z old new (Ok (tt {0}))) (take_all done bytes l) h
 
 -- a fault on the way is the fault of the whole
-pub puts_failed : {T S : Type 0} (x : Path) (at place : ℕ) (a b bytes : List ℕ) (old between new : PairsState) (fault : Fault)
-    → PutsBytes {T = Unit {0}} x at a old between (Ok (tt {0})) → PutsBytes {T = T} x place b between new (Err fault) → PutsBytes {T = S} x at bytes old new (Err fault)
-puts_failed x at place a b bytes old between new fault h g = record {
+pub puts_failed : {T S : Type 0} (x : Path) (size at place : ℕ) (a b bytes : List ℕ) (old between new : PairsState) (fault : Fault)
+    → PutsBytes {T = Unit {0}} x size at a old between (Ok (tt {0})) → PutsBytes {T = T} x size place b between new (Err fault) → PutsBytes {T = S} x size at bytes old new (Err fault)
+puts_failed x size at place a b bytes old between new fault h g = record {
   faults = g.faults ∙ ap (λ n. disk_faults_after {T = Unit {0}} n (Err fault)) h.faults;
   observable = λ seen. tt;
-  written = λ seen first y others l has. tt;
+  written = λ seen first y others l short has. tt;
   added = λ seen. tt;
 }

@@ -23,11 +23,11 @@ abbrev pub block_bytes : Option (List ℕ) → List ℕ
 block_bytes None = []
 block_bytes (Some bytes) = bytes
 
--- a call that puts these bytes at a place of a file, over what is there and past the end
-pub record PutsBytes {T : Type 0} (path : Path) (at : ℕ) (piece : List ℕ) (old new : PairsState) (result : Result T Fault) : Type 0 where
+-- a call that puts these bytes at a place of a file, over what is there and past the end, where it has at most so many
+pub record PutsBytes {T : Type 0} (path : Path) (size at : ℕ) (piece : List ℕ) (old new : PairsState) (result : Result T Fault) : Type 0 where
   pub faults : new.faults ≡ disk_faults_after old.faults result
   pub observable : IsObservable old → OnOk result (IsObservable new)
-  pub written : IsObservable old → (first : Option (List ℕ)) (bytes : List ℕ) (others : BlockMap) → at ≤ length bytes → HasFile path first bytes others old.pairs
+  pub written : IsObservable old → (first : Option (List ℕ)) (bytes : List ℕ) (others : BlockMap) → at ≤ length bytes → length bytes ≤ size → HasFile path first bytes others old.pairs
       → OnOk result (HasFile path first (overwrite bytes at piece) others new.pairs)
   -- it adds at most a pair for each byte
   pub added : IsObservable old → OnOk result (length new.pairs ≤ length old.pairs + length piece)

@@ -1,6 +1,6 @@
 //! Writing bytes of a file.
 
-ghost use Rattle.std.specs.Prelude.{◌≡◌, ◌+◌, ◌%◌, ◌<◌, ◌≤◌, length, max};
+ghost use Rattle.std.specs.Prelude.{◌≡◌, ◌↔◌, ◌⊎◌, ◌+◌, ◌%◌, ◌<◌, ◌≤◌, IsTrue, length, max};
 ghost use Rattle.store_model.specs.Trees.{file_limit};
 ghost use Rattle.store_model.specs.Lists.{overwrite};
 ghost use Rattle.store_model.specs.Commands.Command.{Write};
@@ -20,7 +20,7 @@ use tree_pairs::{Kind, file_value, kind_of};
 const FILE_LIMIT: usize = 1_048_576;
 
 /// Writes the bytes into the file from a place on: they replace those that stand there, and the file grows where they
-/// pass its end. An absent file is made. A block that the bytes fill is not read, and the first pair stays where the
+/// pass its end. An absent file is made. A block of which no byte stays is not read, and the first pair stays where the
 /// length does.
 ///
 /// It is refused, in this order: `Kind` where a directory stands there, `Gap` where the place is greater than the
@@ -43,7 +43,7 @@ pub fn write_at<P: OrderedPairs>(
         Ok(len) => len,
         Err(refusal) => return Ok(Err(refusal)),
     };
-    put_bytes(pairs, path, at, bytes.as_slice())?;
+    put_bytes(pairs, path, len, at, bytes.as_slice())?;
     if kind == Kind::File(len) {
         return Ok(Ok(()));
     }
@@ -72,16 +72,18 @@ fn written_len(kind: Kind, at: u32, count: usize) -> Answer<u32>
     Ok(size.max(end as u32))
 }
 
-/// Puts the bytes into the file's blocks, block after block.
+/// Puts the bytes into the file's blocks, block after block. Neither they nor the file go past `len`.
 fn put_bytes<P: OrderedPairs>(
     pairs: &mut P,
     path: &Path,
+    len: u32,
     at: u32,
     bytes: &[u8],
 ) -> Result<(), Fault>
     requires fits { at + length bytes.now ≤ file_limit }
+    requires ends { at + length bytes.now ≤ len }
     requires room { HasRoom (P.state pairs.old) }
-    ensures call { PutsBytes path.now at bytes.now (P.state pairs.old) (P.state pairs.new) result }
+    ensures call { PutsBytes path.now len at bytes.now (P.state pairs.old) (P.state pairs.new) result }
     ensures hidden { IsObservable (P.state pairs.new) → IsObservable (P.state pairs.old) }
     ensures follows { P.follows pairs.old pairs.new }
 {
@@ -90,33 +92,43 @@ fn put_bytes<P: OrderedPairs>(
         let place = at + done as u32;
         let room = (FILE_BLOCK - place % FILE_BLOCK) as usize;
         let end = bytes.len().min(done + room);
-        put_piece(pairs, path, place, &bytes[done..end])?;
+        put_piece(pairs, path, len, place, &bytes[done..end])?;
         done = end;
     }
     Ok(())
 }
 
-/// Puts bytes into one block of the file, which is read where they don't fill it.
+/// Puts bytes into one block of the file, which does not go past `len`. The block is read where a byte of it may stay.
 fn put_piece<P: OrderedPairs>(
     pairs: &mut P,
     path: &Path,
+    len: u32,
     at: u32,
     piece: &[u8],
 ) -> Result<(), Fault>
     requires some { 1 ≤ length piece.now }
     requires within { at % FILE_BLOCK + length piece.now ≤ FILE_BLOCK }
     requires room { IsObservable (P.state pairs.old) → length (P.state pairs.old).pairs < most_pairs }
-    ensures call { PutsBytes path.now at piece.now (P.state pairs.old) (P.state pairs.new) result }
+    ensures call { PutsBytes path.now len at piece.now (P.state pairs.old) (P.state pairs.new) result }
     ensures hidden { IsObservable (P.state pairs.new) → IsObservable (P.state pairs.old) }
     ensures follows { P.follows pairs.old pairs.new }
 {
     let key = path.key(at / FILE_BLOCK + 1);
-    if piece.len() == Value::MAX_LEN {
+    if leaves_none(len, at, piece.len()) {
         return pairs.put(key, Value::new(piece));
     }
     let old = pairs.get(&key)?;
     let value = overlaid(bytes_of(&old), (at % FILE_BLOCK) as usize, piece);
     pairs.put(key, value)
+}
+
+/// Whether so many bytes at a place leave no byte of their block, in a file that does not go past `len`: they begin it, and
+/// fill it or reach the file's end.
+fn leaves_none(len: u32, at: u32, count: usize) -> bool
+    requires { count ≤ FILE_BLOCK }
+    ensures { IsTrue result ↔ ((at % FILE_BLOCK ≡ 0) × ((count ≡ FILE_BLOCK) ⊎ (len ≤ at + count))) }
+{
+    at % FILE_BLOCK == 0 && (count == FILE_BLOCK as usize || len as usize <= at as usize + count)
 }
 
 /// A block with the piece at a place in it, over what is there and past the end. Zeros fill a gap before it.

@@ -1,3 +1,4 @@
+pub mod CallEnds
 pub mod FieldLemmas
 pub mod Generating
 pub mod Held

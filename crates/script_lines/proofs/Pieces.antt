@@ -26,7 +26,3 @@ no_piece source room some = let pos = next_piece_pos source room some in (
   λ none. nil_from_length source.left (let short : min (next_piece source room) (length source.left) ≡ 0 = none in omega arith),
   λ empty. (let short : length source.left ≡ 0 = ap length empty in let goal : min (next_piece source room) (length source.left) ≡ 0 = omega arith in goal),
 )
-
--- a take gives no more than the buffer takes
-pub next_count_fits : (source : SourceMemory) (room : ℕ) → next_count source room ≤ room
-next_count_fits source room = elim (nat_lt source.takes (length source.pieces)) as (λ b. min (cond b (min room (max 1 (slice_index source.pieces source.takes))) room) (length source.left) ≤ room) [ true ↦ omega arith | false ↦ omega arith ]

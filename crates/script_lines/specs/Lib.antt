@@ -1,5 +1,6 @@
 pub mod Adapted
 pub mod Generated
+pub mod InPlace
 pub mod LineState
 pub mod Lines
 pub mod Memory

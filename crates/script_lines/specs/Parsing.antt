@@ -2,7 +2,7 @@
 use Rattle.std.specs.Prelude.{◌≡◌, ℕ, ◌<◌, ◌≤◌, true, false, List, [], ◌∷◌, length, Result, Ok, Err, Option, Some, None, ◌==◌}
 use Rattle.std.specs.List.{slice_split}
 use Rattle.store_model.specs.Paths.{Path, fits_field}
-use Rattle.store_model.specs.Grammar.{path_of, ◌>>=◌}
+use Rattle.store_model.specs.Grammar.{path_of, number_of, content_of, ◌>>=◌}
 use Rattle.store_model.specs.Commands as model
 use Rattle.store_model.specs.Commands.Command.{Make, Write, Cut, Rename, Remove, Prune, ListChildren, Read, Space, Digest}
 use Rattle.store_model.specs.declared.refusal.Refusal.{Refusal}
@@ -56,6 +56,14 @@ FitFields size (fields.Two w a) = length a.now ≤ size
 FitFields size (fields.Three w a b) = length b.now ≤ size
 FitFields size (fields.Four w a b c) = length c.now ≤ size
 FitFields size fields.More = Unit {0}
+
+-- the command that reads at most so many bytes from an offset on
+abbrev pub read_of : List ℕ → Option ℕ → List ℕ → Option model.Command
+read_of path number count = path_of path >>= λ p. number >>= λ at. number_of count >>= λ len. Some (Read p at len)
+
+-- the command that writes bytes from an offset on
+abbrev pub write_of : List ℕ → Option ℕ → List ℕ → Option model.Command
+write_of path number content = path_of path >>= λ p. number >>= λ at. content_of content >>= λ bytes. Some (Write p at bytes)
 
 -- the command that renames one path to another
 abbrev pub rename_of : List ℕ → List ℕ → Option model.Command

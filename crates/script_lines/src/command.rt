@@ -2,7 +2,9 @@
 
 ghost use Rattle.std.specs.Prelude.{◌≡◌, ◌≤◌, ◌∷◌, [], length};
 ghost use Rattle.store_model.specs.Grammar.{parse, command_of_fields, checked_command};
-ghost use Rattle.script_lines.specs.Parsing.{reading_of, rename_of};
+ghost use Rattle.store_model.specs.Commands.Command.{Write};
+ghost use Rattle.script_lines.specs.InPlace.{in_place};
+ghost use Rattle.script_lines.specs.Parsing.{command_of, reading_of, rename_of, read_of, write_of};
 
 use crate::fields::{Fields, parse_number, read_bytes, read_path, split_fields};
 use crate::lines::MAX_LINE;
@@ -37,76 +39,98 @@ pub enum Command {
 /// The command that a line spells.
 /// `Syntax`: the line spells none, however long paths may be. `Path`: it spells one, and a path in it has
 /// more than 120 bytes.
-#[tactic(auto, unfolding(store_model::specs::Grammar::parse, store_model::specs::Grammar::command_of, store_model::specs::Grammar::command_of_fields))]
 pub fn parse_command(text: &[u8]) -> Result<Command, Refusal>
     requires { length text.now ≤ MAX_LINE }
     ensures { reading_of result ≡ parse text.now }
 {
+    let mut command = Command::Space;
+    read_command(text, &mut command)?;
+    Ok(command)
+}
+
+/// Reads the command that a line spells, as `parse_command`, into the place of another: a command is large, and whoever
+/// reads one after another has one place for them all. After a refusal some command stands there.
+#[tactic(auto, unfolding(store_model::specs::Grammar::parse, store_model::specs::Grammar::command_of, store_model::specs::Grammar::command_of_fields))]
+pub fn read_command(text: &[u8], command: &mut Command) -> Result<(), Refusal>
+    requires { length text.now ≤ MAX_LINE }
+    ensures { reading_of (in_place command.new result) ≡ parse text.now }
+{
     match split_fields(text) {
-        Fields::One(word) => command_of_word(word),
-        Fields::Two(word, path) => command_on_path(word, path),
-        Fields::Three(word, path, argument) => command_of_three(word, path, argument),
-        Fields::Four(word, path, at, argument) => command_of_four(word, path, at, argument),
+        Fields::One(word) => read_word(word, command),
+        Fields::Two(word, path) => read_on_path(word, path, command),
+        Fields::Three(word, path, argument) => read_three(word, path, argument, command),
+        Fields::Four(word, path, at, argument) => read_four(word, path, at, argument, command),
         Fields::More => Err(Refusal::Syntax),
     }
 }
 
-/// The command of a word alone.
+/// Reads the command of a word alone.
 #[tactic(auto, unfolding(store_model::specs::Grammar::command_of_fields, store_model::specs::Grammar::has_short_paths))]
-fn command_of_word(word: &[u8]) -> Result<Command, Refusal>
-    ensures { reading_of result ≡ checked_command (command_of_fields (word.now ∷ [])) }
+fn read_word(word: &[u8], command: &mut Command) -> Result<(), Refusal>
+    ensures { reading_of (in_place command.new result) ≡ checked_command (command_of_fields (word.now ∷ [])) }
 {
     if word == b"space".as_slice() {
-        Ok(Command::Space)
+        *command = Command::Space;
     } else if word == b"digest".as_slice() {
-        Ok(Command::Digest)
+        *command = Command::Digest;
     } else {
-        Err(Refusal::Syntax)
+        return Err(Refusal::Syntax);
     }
+    Ok(())
 }
 
-/// The command of a word and a path.
+/// Reads the command of a word and a path.
 #[tactic(auto, unfolding(store_model::specs::Grammar::command_of_fields, store_model::specs::Grammar::has_short_paths))]
-fn command_on_path(word: &[u8], path: &[u8]) -> Result<Command, Refusal>
-    ensures { reading_of result ≡ checked_command (command_of_fields (word.now ∷ path.now ∷ [])) }
+fn read_on_path(word: &[u8], path: &[u8], command: &mut Command) -> Result<(), Refusal>
+    ensures { reading_of (in_place command.new result) ≡ checked_command (command_of_fields (word.now ∷ path.now ∷ [])) }
 {
     if word == b"make".as_slice() {
-        Ok(Command::Make(read_path(path)?))
+        *command = Command::Make(read_path(path)?);
     } else if word == b"remove".as_slice() {
-        Ok(Command::Remove(read_path(path)?))
+        *command = Command::Remove(read_path(path)?);
     } else if word == b"prune".as_slice() {
-        Ok(Command::Prune(read_path(path)?))
+        *command = Command::Prune(read_path(path)?);
     } else if word == b"list".as_slice() {
-        Ok(Command::List(read_path(path)?))
+        *command = Command::List(read_path(path)?);
     } else {
-        Err(Refusal::Syntax)
+        return Err(Refusal::Syntax);
     }
+    Ok(())
 }
 
-/// The command of a word, a path and a number or a second path.
+/// Reads the command of a word, a path and a number or a second path.
 #[tactic(auto, unfolding(store_model::specs::Grammar::command_of_fields, store_model::specs::Grammar::has_short_paths))]
-fn command_of_three(word: &[u8], path: &[u8], argument: &[u8]) -> Result<Command, Refusal>
-    ensures { reading_of result ≡ checked_command (command_of_fields (word.now ∷ path.now ∷ argument.now ∷ [])) }
+fn read_three(
+    word: &[u8],
+    path: &[u8],
+    argument: &[u8],
+    command: &mut Command,
+) -> Result<(), Refusal>
+    ensures { reading_of (in_place command.new result) ≡ checked_command (command_of_fields (word.now ∷ path.now ∷ argument.now ∷ [])) }
 {
     if word == b"cut".as_slice() {
         let Some(len) = parse_number(argument) else {
             return Err(Refusal::Syntax);
         };
-        Ok(Command::Cut(read_path(path)?, len))
+        *command = Command::Cut(read_path(path)?, len);
+        Ok(())
     } else if word == b"rename".as_slice() {
-        rename(path, argument)
+        read_rename(path, argument, command)
     } else {
         Err(Refusal::Syntax)
     }
 }
 
-/// The command that renames one path to another.
+/// Reads the command that renames one path to another.
 #[tactic(auto, unfolding(store_model::specs::Grammar::has_short_paths))]
-fn rename(from: &[u8], to: &[u8]) -> Result<Command, Refusal>
-    ensures { reading_of result ≡ checked_command (rename_of from.now to.now) }
+fn read_rename(from: &[u8], to: &[u8], command: &mut Command) -> Result<(), Refusal>
+    ensures { reading_of (in_place command.new result) ≡ checked_command (rename_of from.now to.now) }
 {
     match read_path(from) {
-        Ok(from) => Ok(Command::Rename(from, read_path(to)?)),
+        Ok(from) => {
+            *command = Command::Rename(from, read_path(to)?);
+            Ok(())
+        }
         Err(Refusal::Path) => {
             read_path(to)?;
             Err(Refusal::Path)
@@ -115,24 +139,81 @@ fn rename(from: &[u8], to: &[u8]) -> Result<Command, Refusal>
     }
 }
 
-/// The command of a word, a path, a number, and bytes or a second number.
+/// Reads the command of a word, a path, a number, and bytes or a second number.
 #[tactic(auto, unfolding(store_model::specs::Grammar::command_of_fields, store_model::specs::Grammar::has_short_paths))]
-fn command_of_four(word: &[u8], path: &[u8], at: &[u8], argument: &[u8]) -> Result<Command, Refusal>
+fn read_four(
+    word: &[u8],
+    path: &[u8],
+    at: &[u8],
+    argument: &[u8],
+    command: &mut Command,
+) -> Result<(), Refusal>
     requires { length argument.now ≤ MAX_LINE }
-    ensures { reading_of result ≡ checked_command (command_of_fields (word.now ∷ path.now ∷ at.now ∷ argument.now ∷ [])) }
+    ensures { reading_of (in_place command.new result) ≡ checked_command (command_of_fields (word.now ∷ path.now ∷ at.now ∷ argument.now ∷ [])) }
 {
     let number = parse_number(at);
     if word == b"write".as_slice() {
-        let (Some(at), Some(bytes)) = (number, read_bytes(argument)) else {
-            return Err(Refusal::Syntax);
-        };
-        Ok(Command::Write(read_path(path)?, at, bytes))
+        read_write(path, number, argument, command)
     } else if word == b"read".as_slice() {
-        let (Some(at), Some(len)) = (number, parse_number(argument)) else {
-            return Err(Refusal::Syntax);
-        };
-        Ok(Command::Read(read_path(path)?, at, len))
+        read_read(path, number, argument, command)
     } else {
         Err(Refusal::Syntax)
     }
+}
+
+/// Reads the command that reads bytes from an offset on.
+#[tactic(auto, unfolding(store_model::specs::Grammar::has_short_paths))]
+// Joined to `read_four`, its room for a command would be cleared at each `write` too.
+#[inline(never)]
+fn read_read(path: &[u8], at: Option<u32>, len: &[u8], command: &mut Command) -> Result<(), Refusal>
+    ensures { reading_of (in_place command.new result) ≡ checked_command (read_of path.now at len.now) }
+{
+    let (Some(at), Some(len)) = (at, parse_number(len)) else {
+        return Err(Refusal::Syntax);
+    };
+    *command = Command::Read(read_path(path)?, at, len);
+    Ok(())
+}
+
+/// Reads the command that writes bytes from an offset on.
+#[tactic(auto, unfolding(store_model::specs::Grammar::has_short_paths))]
+fn read_write(
+    path: &[u8],
+    at: Option<u32>,
+    content: &[u8],
+    command: &mut Command,
+) -> Result<(), Refusal>
+    requires { length content.now ≤ MAX_LINE }
+    ensures { reading_of (in_place command.new result) ≡ checked_command (write_of path.now at content.now) }
+{
+    let mut room = [0; Bytes::MAX_LEN];
+    let (Some(at), Some(bytes)) = (at, read_bytes(content, &mut room)) else {
+        return Err(Refusal::Syntax);
+    };
+    put_write(read_path(path)?, at, bytes, command);
+    Ok(())
+}
+
+/// Puts a `write` in the place of a command; where a `write` stands there, its bytes take the place of the other's.
+fn put_write(path: Path, at: u32, bytes: &[u8], command: &mut Command)
+    requires { length bytes.now ≤ Bytes.MAX_LEN }
+    ensures { command_of command.new ≡ Write path at bytes.now }
+{
+    if let Command::Write(old_path, old_at, old_bytes) = command {
+        *old_path = path;
+        *old_at = at;
+        old_bytes.set(bytes);
+    } else {
+        make_write(path, at, bytes, command);
+    }
+}
+
+/// Makes a `write` in the place of another command.
+// Joined to `put_write`, its room for a command would be cleared also where a `write` stands there.
+#[inline(never)]
+fn make_write(path: Path, at: u32, bytes: &[u8], command: &mut Command)
+    requires { length bytes.now ≤ Bytes.MAX_LEN }
+    ensures { command_of command.new ≡ Write path at bytes.now }
+{
+    *command = Command::Write(path, at, Bytes::new(bytes));
 }

@@ -117,21 +117,21 @@ fn digits_value(digits: &[u8]) -> Option<u32>
     Some(value)
 }
 
-/// The bytes that a field spells: `-` for none, or pairs of hexadecimal digits of either case.
-pub fn read_bytes(text: &[u8]) -> Option<Bytes>
+/// The bytes that a field spells, in the room that is lent: `-` for none, or pairs of hexadecimal digits of either case.
+pub fn read_bytes<'a>(text: &[u8], room: &'a mut [u8; Bytes::MAX_LEN]) -> Option<&'a [u8]>
     requires { length text.now ≤ MAX_LINE }
-    ensures { result ≡ content_of text.now }
+    ensures value { MatchOption result (content_of text.now ≡ None) (λ bytes. content_of text.now ≡ Some bytes.now) }
+    ensures fits { IfSome result (λ bytes. length bytes.now ≤ Bytes.MAX_LEN) }
 {
     if text == b"-".as_slice() {
-        return Some(Bytes::new(&[]));
+        return Some(&[]);
     }
     if text.is_empty() {
         return None;
     }
-    let mut room = [0; Bytes::MAX_LEN];
     let bytes = &mut room[..text.len() / 2];
     if decode_pairs(text, bytes) {
-        Some(Bytes::new(bytes))
+        Some(bytes)
     } else {
         None
     }

@@ -15,7 +15,7 @@ mod source;
 mod std_io;
 mod text;
 
-pub use command::{Command, parse_command};
+pub use command::{Command, parse_command, read_command};
 pub use fault::{SinkFault, SourceFault};
 pub use fields::parse_number;
 pub use generator::Generator;

@@ -1,7 +1,7 @@
 //! A source and a sink in memory, whose calls fail where they are told to. What they mean is computed from
 //! what they keep.
 
-ghost use Rattle.std.specs.Prelude.{◌≡◌, ◌↔◌, IsOk, IsErr, IfOk, OnOk, OnErr, Contains, length};
+ghost use Rattle.std.specs.Prelude.{◌≡◌, ◌≤◌, ◌↔◌, IsOk, IsErr, IfOk, OnOk, OnErr, Contains, length};
 ghost use Rattle.script_lines.specs.SourceState.{IsTake};
 ghost use Rattle.script_lines.specs.SinkState.{IsPut};
 ghost use Rattle.script_lines.specs.Memory.{source_state, sink_state, next_count, after_take, after_failed_take, IsFailing, after_put, after_failed_put};
@@ -54,7 +54,9 @@ impl MemSource {
 
     /// How many bytes the next take gives into a buffer of this length.
     fn next_count(&self, room: usize) -> usize
-        ensures { result ≡ next_count self.now room }
+        ensures value { result ≡ next_count self.now room }
+        ensures room { result ≤ room }
+        ensures left { result ≤ length self.now.left }
     {
         let left = self.bytes.len() - self.start;
         match usize::try_from(self.takes) {

@@ -40,45 +40,78 @@ pub enum Reply {
     No(Refusal),
 }
 
+impl Reply {
+    /// Puts `Ok` in its place. A reply is large, and none is made where `Ok` stands there.
+    pub fn put_ok(&mut self)
+        ensures { self.new ≡ Reply.Ok }
+    {
+        if let Reply::Ok = self {
+            return;
+        }
+        self.make_ok();
+    }
+
+    /// Makes `Ok` in its place.
+    // Joined to `put_ok`, its room for a reply would be cleared also where `Ok` stands there.
+    #[inline(never)]
+    fn make_ok(&mut self)
+        ensures { self.new ≡ Reply.Ok }
+    {
+        *self = Reply::Ok;
+    }
+
+    /// Puts a refusal in its place.
+    // Joined to a caller, its room for a reply would be cleared also where the caller refuses nothing.
+    #[inline(never)]
+    pub fn put_refusal(&mut self, refusal: Refusal)
+        ensures { self.new ≡ Reply.No refusal }
+    {
+        *self = Reply::No(refusal);
+    }
+}
+
 /// Writes the text of a reply, each line of it ended by LF, in one put; a listing of more than 8,448 bytes
 /// takes several.
 /// `SinkFault`: a put failed, and no other was made after it. A prefix of the text may have been written,
 /// and nothing else.
+// Each function that writes a line clears the room of its text where it begins. They are not joined to this one, which
+// would then clear the room of each for every reply.
 #[tactic(auto, unfolding(store_model::specs::Commands::reply_text))]
 pub fn write_reply<W: Sink>(sink: &mut W, reply: &Reply) -> Result<(), SinkFault>
     ensures { IsPut (W.state sink.old) (W.state sink.new) (reply_text (reply_of reply.now)) result }
 {
     match reply {
         Reply::Ok => sink.put(b"ok\n"),
-        Reply::Bytes(bytes) => sink.put(content_line(bytes).as_slice()),
+        Reply::Bytes(bytes) => write_content(sink, bytes),
         Reply::Listing(entries) => write_listing(sink, entries),
-        Reply::Space { used, slots } => sink.put(usage_line(*used, *slots).as_slice()),
-        Reply::Digest(digest) => sink.put(digest_line(digest).as_slice()),
-        Reply::No(refusal) => sink.put(refusal_line(*refusal).as_slice()),
+        Reply::Space { used, slots } => write_usage(sink, *used, *slots),
+        Reply::Digest(digest) => write_digest(sink, digest),
+        Reply::No(refusal) => write_refusal(sink, *refusal),
     }
 }
 
-/// The line of bytes that were read.
+/// Writes the line of bytes that were read.
 #[tactic(auto, unfolding(store_model::specs::Commands::reply_text, store_model::specs::Commands::content_text))]
-fn content_line(bytes: &Bytes) -> Text
-    ensures { result ≡ reply_text (Content bytes.now) }
+#[inline(never)]
+fn write_content<W: Sink>(sink: &mut W, bytes: &Bytes) -> Result<(), SinkFault>
+    ensures { IsPut (W.state sink.old) (W.state sink.new) (reply_text (Content bytes.now)) result }
 {
     let bytes = bytes.as_slice();
+    if bytes.is_empty() {
+        return sink.put(b"ok -\n");
+    }
     let mut text = Text::new();
     text.push(b"ok ");
-    if bytes.is_empty() {
-        text.push(b"-\n");
-        return text;
-    }
     text.push_hex(bytes);
     text.push(b"\n");
-    text
+    sink.put(text.as_slice())
 }
 
-/// The line of the slots that are used and that there are.
+/// Writes the line of the slots that are used and that there are.
 #[tactic(auto, unfolding(store_model::specs::Commands::reply_text))]
-fn usage_line(used: u32, slots: u32) -> Text
-    ensures { result ≡ reply_text (PagesUsed used slots) }
+#[inline(never)]
+fn write_usage<W: Sink>(sink: &mut W, used: u32, slots: u32) -> Result<(), SinkFault>
+    ensures { IsPut (W.state sink.old) (W.state sink.new) (reply_text (PagesUsed used slots)) result }
 {
     let mut text = Text::new();
     text.push(b"space ");
@@ -86,31 +119,33 @@ fn usage_line(used: u32, slots: u32) -> Text
     text.push(b" ");
     text.push_number(slots);
     text.push(b"\n");
-    text
+    sink.put(text.as_slice())
 }
 
-/// The line of a digest.
+/// Writes the line of a digest.
 #[tactic(auto, unfolding(store_model::specs::Commands::reply_text))]
-fn digest_line(digest: &[u8; 32]) -> Text
-    ensures { result ≡ reply_text (ImageDigest digest.now) }
+#[inline(never)]
+fn write_digest<W: Sink>(sink: &mut W, digest: &[u8; 32]) -> Result<(), SinkFault>
+    ensures { IsPut (W.state sink.old) (W.state sink.new) (reply_text (ImageDigest digest.now)) result }
 {
     let mut text = Text::new();
     text.push(b"digest ");
     text.push_hex(digest);
     text.push(b"\n");
-    text
+    sink.put(text.as_slice())
 }
 
-/// The line of a refusal.
+/// Writes the line of a refusal.
 #[tactic(auto, unfolding(store_model::specs::Commands::reply_text))]
-fn refusal_line(refusal: Refusal) -> Text
-    ensures { result ≡ reply_text (Refused refusal) }
+#[inline(never)]
+fn write_refusal<W: Sink>(sink: &mut W, refusal: Refusal) -> Result<(), SinkFault>
+    ensures { IsPut (W.state sink.old) (W.state sink.new) (reply_text (Refused refusal)) result }
 {
     let mut text = Text::new();
     text.push(b"no ");
     push_refusal(&mut text, refusal);
     text.push(b"\n");
-    text
+    sink.put(text.as_slice())
 }
 
 /// Adds the word of a refusal, and the two numbers of `full`.
@@ -150,6 +185,7 @@ fn push_full(text: &mut Text, need: u32, slots: u32)
 }
 
 /// Writes a listing: the line of each child, and `end`.
+#[inline(never)]
 fn write_listing<W: Sink>(sink: &mut W, entries: &Entries) -> Result<(), SinkFault>
     ensures { IsPut (W.state sink.old) (W.state sink.new) (reply_text (Listing entries.now)) result }
 {

@@ -113,11 +113,22 @@ impl Bytes {
         requires { length bytes.now ≤ Self.MAX_LEN }
         ensures { result ≡ bytes.now }
     {
-        let mut string = ArrayVec::new();
-        let Ok(()) = string.try_extend_from_slice(bytes) else {
+        let mut string = Bytes {
+            bytes: ArrayVec::new(),
+        };
+        string.set(bytes);
+        string
+    }
+
+    /// Puts these bytes in the place of those that it has.
+    pub fn set(&mut self, bytes: &[u8])
+        requires { length bytes.now ≤ Self.MAX_LEN }
+        ensures { self.new ≡ bytes.now }
+    {
+        self.bytes.clear();
+        let Ok(()) = self.bytes.try_extend_from_slice(bytes) else {
             unreachable!()
         };
-        Bytes { bytes: string }
     }
 
     /// Its bytes.

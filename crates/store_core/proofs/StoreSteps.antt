@@ -10,6 +10,7 @@ use Rattle.disk_model.specs.DiskState.{DiskState, IsObservable}
 use Rattle.seeded_draw.specs.declared.any.AnyDraw.{AnyDraw}
 use Rattle.seeded_draw.specs.AnyDrawn.{any_draw}
 use Rattle.script_lines.specs.declared.reply.Reply.{Reply}
+use Rattle.script_lines.specs.InPlace.{in_place}
 use Rattle.page_store.specs.StagedState.{StagedState}
 use Rattle.store_core.specs.declared.fault.ApplyFault.{ApplyFault}
 use Rattle.store_core.specs.declared.fault.ApplyFault.TheVariants as apply
@@ -151,6 +152,11 @@ carried {D} state c known staged old new now result p is_stopped are there view_
       runs = ap (λ (x : StoreState D). x.is_stopped) seen ∙ sym stopped_is ∙ runs;
       ends = subst (λ (q : Parameters). (t : Tree) → IsFitting t q → AreAt state t q old → EndsStep state t (step t c q) q old new result) params call known.tree served.fitting served.pages;
     }
+
+-- a value was put in its place where the call says so
+pub is_ok-in_place : {A E : Type 0} (value : A) (r : Result (Unit {0}) E) → is_ok r ≡ is_ok (in_place value r)
+is_ok-in_place value (Ok done) = refl
+is_ok-in_place value (Err fault) = refl
 
 -- a result that is Ok, and one that is not
 pub ok_value : {T E : Type 0} (r : Result T E) (b : Bool) → b ≡ is_ok r → b ≡ true → (value : T) × (r ≡ Ok value)

@@ -1,5 +1,6 @@
 //! How a store carries out a command.
 
+ghost use Rattle.script_lines.specs.InPlace.{in_place};
 ghost use Rattle.script_lines.specs.Parsing.{command_of};
 ghost use Rattle.store_core.specs.StoreCalls.{Applies};
 
@@ -22,6 +23,16 @@ impl<D: Disk> Store<D> {
     pub fn apply(&mut self, command: &Command) -> Result<Reply, ApplyFault>
         ensures call { Applies D.state (command_of command.now) self.old self.new result }
     {
+        let mut reply = Reply::Ok;
+        self.apply_into(command, &mut reply)?;
+        Ok(reply)
+    }
+
+    /// Carries out a command, as `apply`, and puts its reply in the place of another: a reply is large, and whoever carries out
+    /// one command after another has one place for them all. After a fault some reply stands there.
+    pub fn apply_into(&mut self, command: &Command, reply: &mut Reply) -> Result<(), ApplyFault>
+        ensures call { Applies D.state (command_of command.now) self.old self.new (in_place reply.new result) }
+    {
         if self.is_stopped() {
             return Err(ApplyFault::Stopped);
         }
@@ -29,7 +40,7 @@ impl<D: Disk> Store<D> {
         let Some(staged) = self.staged.take() else {
             unreachable!()
         };
-        let (staged, result) = carry_out(self.alloc, staged, self.known.params(), command);
+        let (staged, result) = carry_out(self.alloc, staged, self.known.params(), command, reply);
         if result.is_ok() {
             self.known.settle(staged.disk());
         }

@@ -7,6 +7,7 @@ ghost use Rattle.store_model.specs.Commands.{IsCommand};
 ghost use Rattle.store_model.specs.Commands.Command.{Space, Digest};
 ghost use Rattle.store_model.specs.Steps.{step};
 ghost use Rattle.disk_model.specs.DiskState.{IsObservable};
+ghost use Rattle.script_lines.specs.InPlace.{in_place};
 ghost use Rattle.script_lines.specs.Parsing.{command_of};
 ghost use Rattle.script_lines.specs.Replies.{reply_of};
 ghost use Rattle.store_core.specs.Answers.{is_change, is_look, change_reply, AnswersAt};
@@ -28,7 +29,8 @@ use store_base::{Answer, Fault, Params, Refusal};
 /// The pages of a tree in the table of an image.
 pub type TreePages<D> = Staged<D, AnyDraw>;
 
-/// Carries out a command on the pages of a tree, and hands them back. Behind it nothing is staged.
+/// Carries out a command on the pages of a tree, hands them back, and puts the reply in the place of another. Behind it
+/// nothing is staged.
 ///
 /// A fault leaves the tree as it was. `NoMemory`: nothing was written. `Disk`: the disk failed, and where that came at a
 /// write or a sync, or behind one, the pages are spent.
@@ -37,46 +39,53 @@ pub fn carry_out<D: Disk>(
     mut staged: TreePages<D>,
     params: &Params,
     command: &Command,
-) -> (TreePages<D>, Result<Reply, ApplyFault>)
+    reply: &mut Reply,
+) -> (TreePages<D>, Result<(), ApplyFault>)
     requires command { IsCommand (command_of command.now) }
     requires runs { staged.is_spent ≡ false }
     requires pages { (t : Tree) × (IsFitting t params.now × AreAt D.state t params.now staged) }
-    ensures call { (t : Tree) → IsFitting t params.now → AreAt D.state t params.now staged → EndsStep D.state t (step t (command_of command.now) params.now) params.now staged result.0 result.1 }
+    ensures call { (t : Tree) → IsFitting t params.now → AreAt D.state t params.now staged → EndsStep D.state t (step t (command_of command.now) params.now) params.now staged result.0 (in_place reply.new result.1) }
 {
     match command {
         Command::Space => {
-            let space = tell_space(&staged, params);
-            (staged, Ok(space))
+            tell_space(&staged, params, reply);
+            (staged, Ok(()))
         }
         Command::Digest => {
-            let digest = tell_digest(&mut staged);
-            (staged, digest)
+            let told = tell_digest(&mut staged, reply);
+            (staged, told)
         }
-        Command::List(_) | Command::Read(..) => carry_out_look(alloc, staged, params, command),
+        Command::List(_) | Command::Read(..) => carry_out_look(
+            alloc, staged, params, command, reply,
+        ),
         _ => {
             let (staged, changed) = carry_out_change(alloc, staged, params, command);
-            (staged, reply_to(changed))
+            (staged, put_answer(changed, reply))
         }
     }
 }
 
-/// Says how many slots are used, and how many there are.
-fn tell_space<D: Disk>(staged: &TreePages<D>, params: &Params) -> Reply
+/// Tells how many slots are used, and how many there are. LLVM is not to join it to `carry_out`, which would clear the room
+/// of a reply for each command.
+#[inline(never)]
+fn tell_space<D: Disk>(staged: &TreePages<D>, params: &Params, reply: &mut Reply)
     requires runs { staged.now.is_spent ≡ false }
-    ensures { IsObservable (D.state staged.now.disk) → (t : Tree) → IsFitting t params.now → AreAt D.state t params.now staged.now → reply_of result ≡ (step t Space params.now).reply }
+    ensures { IsObservable (D.state staged.now.disk) → (t : Tree) → IsFitting t params.now → AreAt D.state t params.now staged.now → reply_of reply.new ≡ (step t Space params.now).reply }
 {
-    Reply::Space {
+    *reply = Reply::Space {
         used: staged.used(),
         slots: params.slots(),
-    }
+    };
 }
 
-/// The digest of the image.
-fn tell_digest<D: Disk>(staged: &mut TreePages<D>) -> Result<Reply, ApplyFault>
+/// Tells the digest of the image. LLVM is not to join it to `carry_out`, as `tell_space`.
+#[inline(never)]
+fn tell_digest<D: Disk>(staged: &mut TreePages<D>, reply: &mut Reply) -> Result<(), ApplyFault>
     requires runs { staged.old.is_spent ≡ false }
-    ensures call { (t : Tree) (p : Parameters) → IsFitting t p → AreAt D.state t p staged.old → EndsStep D.state t (step t Digest p) p staged.old staged.new result }
+    ensures call { (t : Tree) (p : Parameters) → IsFitting t p → AreAt D.state t p staged.old → EndsStep D.state t (step t Digest p) p staged.old staged.new (in_place reply.new result) }
 {
-    Ok(Reply::Digest(staged.digest()?))
+    *reply = Reply::Digest(staged.digest()?);
+    Ok(())
 }
 
 /// Carries out a command that only looks at the pairs of the tree. Behind it nothing is staged.
@@ -85,17 +94,18 @@ fn carry_out_look<D: Disk>(
     staged: TreePages<D>,
     params: &Params,
     command: &Command,
-) -> (TreePages<D>, Result<Reply, ApplyFault>)
+    reply: &mut Reply,
+) -> (TreePages<D>, Result<(), ApplyFault>)
     requires looks { is_look (command_of command.now) ≡ true }
     requires command { IsCommand (command_of command.now) }
     requires runs { staged.is_spent ≡ false }
     requires pages { (t : Tree) × (IsFitting t params.now × AreAt D.state t params.now staged) }
-    ensures call { (t : Tree) → IsFitting t params.now → AreAt D.state t params.now staged → EndsStep D.state t (step t (command_of command.now) params.now) params.now staged result.0 result.1 }
+    ensures call { (t : Tree) → IsFitting t params.now → AreAt D.state t params.now staged → EndsStep D.state t (step t (command_of command.now) params.now) params.now staged result.0 (in_place reply.new result.1) }
 {
-    let (mut staged, answer) = answer_at(alloc, staged, params, command);
+    let (mut staged, answered) = answer_at(alloc, staged, params, command, reply);
     staged.discard();
-    match answer {
-        Ok(reply) => (staged, Ok(reply)),
+    match answered {
+        Ok(()) => (staged, Ok(())),
         Err(fault) => (staged, Err(fault.into())),
     }
 }
@@ -106,15 +116,16 @@ fn answer_at<D: Disk>(
     staged: TreePages<D>,
     params: &Params,
     command: &Command,
-) -> (TreePages<D>, Result<Reply, Fault>)
+    reply: &mut Reply,
+) -> (TreePages<D>, Result<(), Fault>)
     requires looks { is_look (command_of command.now) ≡ true }
     requires runs { staged.is_spent ≡ false }
     requires pages { (t : Tree) × (IsFitting t params.now × AreAt D.state t params.now staged) }
-    ensures call { (t : Tree) → IsFitting t params.now → AreAt D.state t params.now staged → AnswersAt D.state (command_of command.now) t params.now staged result.0 result.1 }
+    ensures call { (t : Tree) → IsFitting t params.now → AreAt D.state t params.now staged → AnswersAt D.state (command_of command.now) t params.now staged result.0 (in_place reply.new result.1) }
 {
     let mut pairs = SkipList::new(alloc, staged, AnyDraw::new(params));
-    let answer = answer(alloc, &mut pairs, command);
-    (pairs.into_pages(), answer)
+    let answered = answer(alloc, &mut pairs, command, reply);
+    (pairs.into_pages(), answered)
 }
 
 /// Carries out a command that changes the tree. A `Reply` is large, since it may hold the bytes of a read: it is not made here,
@@ -187,13 +198,13 @@ fn answer_to(settled: Result<(), SettleFault>) -> Result<Answer<()>, ApplyFault>
     }
 }
 
-/// What a change answers that ended so.
-fn reply_to(changed: Result<Answer<()>, ApplyFault>) -> Result<Reply, ApplyFault>
-    ensures { result ≡ change_reply changed }
+/// Puts what a change answers that ended so in the place of a reply.
+fn put_answer(changed: Result<Answer<()>, ApplyFault>, reply: &mut Reply) -> Result<(), ApplyFault>
+    ensures { in_place reply.new result ≡ change_reply changed }
 {
-    match changed {
-        Ok(Ok(())) => Ok(Reply::Ok),
-        Ok(Err(refusal)) => Ok(Reply::No(refusal)),
-        Err(fault) => Err(fault),
+    match changed? {
+        Ok(()) => reply.put_ok(),
+        Err(refusal) => reply.put_refusal(refusal),
     }
+    Ok(())
 }

@@ -3,6 +3,7 @@
 -- A work asks for one thing after another. What it tells, keeps and ends with are relations of its own, each over the work as it
 -- was at first and as it is, and over how many turns were made; what the store does is said here, once for every work.
 use Rattle.std.specs.Prelude.{◌≡◌, ℕ, ◌+◌, ◌≤◌, ◌<◌, ◌^◌, Bool, false, IsTrue, Result, Ok, Err, Option, Some, None, IsOk}
+use Rattle.std.specs.Option.{option_map}
 use Rattle.store_model.specs.Parameters.{Parameters}
 use Rattle.store_model.specs.Trees.{Tree}
 use Rattle.store_model.specs.Scripts.{answer_by}
@@ -14,6 +15,7 @@ use Rattle.gate_journal.specs.Disks.{KeepsDisk}
 use Rattle.gate_journal.specs.Places.{Made, ReadsOnly}
 use Rattle.script_lines.specs.declared.command.Command.{Command}
 use Rattle.script_lines.specs.declared.reply.Reply.{Reply}
+use Rattle.script_lines.specs.InPlace.{in_place}
 use Rattle.script_lines.specs.Parsing.{reading_of}
 use Rattle.script_lines.specs.Replies.{reply_of}
 use Rattle.store_core.specs.declared.fault.ApplyFault.{ApplyFault}
@@ -37,6 +39,11 @@ pub record Start : Type 0 where
 
 abbrev pub start_of : {D : Type 0} → (D → DiskState) → StoreState D → Start
 start_of disk_of store = record { tells = (disk_of store.disk).is_observable; tree = store.tree; params = store.params }
+
+-- what is asked for, where the command stands in a place that was lent
+abbrev pub asked_in : {E : Type 0} → Command → Result (Option (Result (Unit {0}) Refusal)) E → Result (Option (Result Command Refusal)) E
+asked_in command (Ok asked) = Ok (option_map (in_place command) asked)
+asked_in command (Err error) = Err error
 
 -- what may be asked for falls where something is
 abbrev pub FallsAt : ℕ → ℕ → Option (Result Command Refusal) → Type 0

@@ -1,6 +1,6 @@
 //! The whole program as one call.
 
-ghost use Rattle.std.specs.Prelude.{◌≡◌, ◌⊎◌, ℕ, Some, None};
+ghost use Rattle.std.specs.Prelude.{◌≡◌, ◌≢◌, ◌⊎◌, ℕ, Some, None};
 ghost use Rattle.store_model.specs.Parameters.{Parameters};
 ghost use Rattle.store_model.specs.Words.{request_of};
 ghost use Rattle.store_model.specs.Words.Request.{Format, Run, Check, Scrub, Wipe, Big};
@@ -11,6 +11,7 @@ ghost use Rattle.store_top.specs.Outside.{KeepsOutside, CallsNothing, outside_of
 ghost use Rattle.store_top.specs.RunCall.{IsRun};
 ghost use Rattle.store_top.specs.ScrubCall.{IsScrub};
 ghost use Rattle.store_top.specs.WipeCall.{IsWipe};
+ghost use Rattle.store_words.specs.Requests.{request_seen};
 
 use crate::big::big;
 use crate::check::check_disk;
@@ -58,11 +59,30 @@ pub fn top<D: Disk, R: Source, W: Sink>(
     ensures wipe { request_of words.now ≡ Some Wipe → IsWipe D.state (outside_of disk source sink) result }
     ensures big { (number count : ℕ) → request_of words.now ≡ Some (Big number count) → IsBig D.state W.state number count (outside_of disk source sink) result }
 {
-    let request = match words.request() {
-        Ok(Some(request)) => request,
-        Ok(None) => return usage(disk, source, sink),
-        Err(NoMemory) => return no_memory(disk, source, sink),
-    };
+    match words.request() {
+        Ok(Some(request)) => carry_out(alloc, request, disk, source, sink),
+        Ok(None) => usage(disk, source, sink),
+        Err(NoMemory) => no_memory(disk, source, sink),
+    }
+}
+
+/// Carries out what the words ask for.
+fn carry_out<D: Disk, R: Source, W: Sink>(
+    alloc: Global,
+    request: Request,
+    disk: D,
+    source: R,
+    sink: W,
+) -> Outcome<D, R, W>
+    ensures served { result.status ≢ Status.Usage }
+    ensures outside { KeepsOutside result.status (D.state disk) (D.state result.disk) (R.state source) (R.state result.source) (W.state sink) (W.state result.sink) }
+    ensures format { (p : Parameters) → request_seen request ≡ Format p → IsFormat D.state p (outside_of disk source sink) result }
+    ensures run { request_seen request ≡ Run → IsRun D.state R.state W.state (outside_of disk source sink) result }
+    ensures check { request_seen request ≡ Check → IsCheck D.state W.state (outside_of disk source sink) result }
+    ensures scrub { request_seen request ≡ Scrub → IsScrub D.state W.state (outside_of disk source sink) result }
+    ensures wipe { request_seen request ≡ Wipe → IsWipe D.state (outside_of disk source sink) result }
+    ensures big { (number count : ℕ) → request_seen request ≡ Big number count → IsBig D.state W.state number count (outside_of disk source sink) result }
+{
     match request {
         Request::Format(params) => format_disk(&params, disk, source, sink),
         Request::Run => run(alloc, disk, source, sink),

@@ -48,12 +48,13 @@ impl Work for Generated {
 
     ghost ends = { λ start first new done status. GeneratedEnds start first new done status };
 
-    fn next(&mut self) -> Result<Option<Result<Command, Refusal>>, Status> {
+    fn next(&mut self, command: &mut Command) -> Result<Option<Result<(), Refusal>>, Status> {
         if self.left == 0 {
             return Ok(None);
         }
         self.left -= 1;
-        Ok(Some(Ok(self.generator.next())))
+        *command = self.generator.next();
+        Ok(Some(Ok(())))
     }
 
     fn answered(&mut self, reply: &Reply) -> Result<(), Status> {

@@ -2,11 +2,12 @@
 
 ghost use Rattle.std.specs.Prelude.{◌≡◌, true};
 ghost use Rattle.store_top.specs.Runs.{ReadsLine};
+ghost use Rattle.store_top.specs.Turns.{asked_in};
 
 use crate::status::Status;
 use crate::work::Work;
 use script_lines::{
-    Command, Line, LineFault, LineReader, Reply, Sink, Source, parse_command, write_reply,
+    Command, Line, LineFault, LineReader, Reply, Sink, Source, read_command, write_reply,
 };
 use store_base::Refusal;
 
@@ -19,15 +20,17 @@ pub struct Script<R: Source, W> {
     pub sink: W,
 }
 
-/// What the next line asks for, or why it is refused; `None` at the end of the script. A fault of the reader is handed on.
+/// Puts what the next line asks for in the place of a command, or says why it is refused; `None` at the end of the script. A fault
+/// of the reader is handed on.
 fn next_reading<R: Source>(
     reader: &mut LineReader<R>,
-) -> Result<Option<Result<Command, Refusal>>, LineFault>
+    command: &mut Command,
+) -> Result<Option<Result<(), Refusal>>, LineFault>
     requires { reader.old.is_live ≡ true }
-    ensures { ReadsLine R.state reader.old reader.new result }
+    ensures { ReadsLine R.state reader.old reader.new (asked_in command.new result) }
 {
     match reader.next_line() {
-        Ok(Line::Text) => Ok(Some(parse_command(reader.text()))),
+        Ok(Line::Text) => Ok(Some(read_command(reader.text(), command))),
         Ok(Line::Long) => Ok(Some(Err(Refusal::Long))),
         Ok(Line::End) => Ok(None),
         Err(fault) => Err(fault),
@@ -52,8 +55,8 @@ impl<R: Source, W: Sink> Work for Script<R, W> {
 
     ghost ends = { λ start first new done status. ScriptEnds R.state W.state start first new done status };
 
-    fn next(&mut self) -> Result<Option<Result<Command, Refusal>>, Status> {
-        Ok(next_reading(&mut self.reader)?)
+    fn next(&mut self, command: &mut Command) -> Result<Option<Result<(), Refusal>>, Status> {
+        Ok(next_reading(&mut self.reader, command)?)
     }
 
     fn answered(&mut self, reply: &Reply) -> Result<(), Status> {

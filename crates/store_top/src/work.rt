@@ -1,6 +1,7 @@
 //! The one loop that answers commands, whatever they come from.
 
 ghost use Rattle.std.specs.Prelude.{◌≡◌};
+ghost use Rattle.script_lines.specs.InPlace.{in_place};
 ghost use Rattle.script_lines.specs.Parsing.{reading_of};
 ghost use Rattle.store_top.specs.Runs.{AnswersReading, IsReady};
 ghost use Rattle.store_top.specs.Turns.{Begins, AnswersAll};
@@ -21,7 +22,7 @@ pub trait Work {
     ghost use Rattle.store_model.specs.declared.refusal.Refusal.{Refusal};
     ghost use Rattle.script_lines.specs.declared.command.Command.{Command};
     ghost use Rattle.store_top.specs.declared.status.Status.{Status};
-    ghost use Rattle.store_top.specs.Turns.{Start, FallsAt, IsNext, IsTurn, RepliesTo};
+    ghost use Rattle.store_top.specs.Turns.{Start, FallsAt, IsNext, IsTurn, RepliesTo, asked_in};
 
     /// Whether it tells what it will ask for.
     ghost told: { Self → Type 0 };
@@ -44,13 +45,14 @@ pub trait Work {
     /// What holds where the turns ended with this status.
     ghost ends: { Start → Self → Self → ℕ → Status → Type 0 };
 
-    /// What is asked for next, or why it is refused; `None` at the end. `Err` has the status of a call that a fault of the work
-    /// ended; nothing is asked for behind it.
-    fn next(&mut self) -> Result<Option<Result<Command, Refusal>>, Status>
+    /// Puts what is asked for next in the place of a command, or says why it is refused; `None` at the end. `Err` has the status
+    /// of a call that a fault of the work ended; nothing is asked for behind it. Behind a refusal, `None` and `Err` any command
+    /// may stand there.
+    fn next(&mut self, command: &mut Command) -> Result<Option<Result<(), Refusal>>, Status>
         requires { live self.old }
         ensures live { OnOk result (live self.new) }
-        ensures falls { IfOk result (FallsAt (left self.old) (left self.new)) }
-        ensures turn { (start : Start) (first : Self) (done : ℕ) → kept start first self.old done → IsNext told trees ends due start first self.new done result };
+        ensures falls { IfOk (asked_in command.new result) (FallsAt (left self.old) (left self.new)) }
+        ensures turn { (start : Start) (first : Self) (done : ℕ) → kept start first self.old done → IsNext told trees ends due start first self.new done (asked_in command.new result) };
 
     /// Takes the reply to what was asked for. `Err` has the status of a call that a fault of the work ended.
     fn answered(&mut self, reply: &Reply) -> Result<(), Status>
@@ -61,16 +63,21 @@ pub trait Work {
             → IsTurn told trees ends kept start first self.new (done + 1) result };
 }
 
-/// Answers what is asked for: a command is carried out, and a refusal is the reply.
+/// Answers what is asked for, in the place of a reply: the command is carried out, and a refusal is the reply.
 fn answer<D: Disk>(
     store: &mut Store<D>,
-    asked: Result<Command, Refusal>,
-) -> Result<Reply, ApplyFault>
-    ensures { AnswersReading D.state (reading_of asked) store.old store.new result }
+    asked: Result<(), Refusal>,
+    command: &Command,
+    reply: &mut Reply,
+) -> Result<(), ApplyFault>
+    ensures { AnswersReading D.state (reading_of (in_place command.now asked)) store.old store.new (in_place reply.new result) }
 {
     match asked {
-        Ok(command) => store.apply(&command),
-        Err(refusal) => Ok(Reply::No(refusal)),
+        Ok(()) => store.apply_into(command, reply),
+        Err(refusal) => {
+            reply.put_refusal(refusal);
+            Ok(())
+        }
     }
 }
 
@@ -86,10 +93,27 @@ pub fn answer_all<J: Work, D: Disk>(
     requires none { done.old ≡ 0 }
     ensures { AnswersAll D.state J.told J.trees J.ends result done.new store.old store.new work.old work.new }
 {
-    'turns: while let Some(asked) = work.next()? {
-        let reply = answer(store, asked)?;
+    let (mut command, mut reply) = (Command::Space, Reply::Ok);
+    answer_each(work, store, done, &mut command, &mut reply)
+}
+
+/// Answers all that the work asks for, as `answer_all`, with one place for the commands and one for the replies.
+fn answer_each<J: Work, D: Disk>(
+    work: &mut J,
+    store: &mut Store<D>,
+    done: &mut u64,
+    command: &mut Command,
+    reply: &mut Reply,
+) -> Result<(), Status>
+    requires ready { IsReady D.state store.old }
+    requires begins { Begins D.state J.trees J.left J.live J.kept store.old work.old }
+    requires none { done.old ≡ 0 }
+    ensures { AnswersAll D.state J.told J.trees J.ends result done.new store.old store.new work.old work.new }
+{
+    'turns: while let Some(asked) = work.next(command)? {
+        answer(store, asked, command, reply)?;
         *done += 1;
-        work.answered(&reply)?;
+        work.answered(reply)?;
     }
     Ok(())
 }

@@ -14,7 +14,7 @@ use crate::request::{Request, big_request, format_request, single_request};
 use clap::ArgMatches;
 
 /// A line as `clap` read it: a word, and the value of each of its arguments.
-#[derive(Clone, Copy, Debug)]
+#[derive(Clone, Copy)]
 pub(crate) enum LineRead<'a> {
     /// `format`, with the slots, the height, the draw and the seed.
     Format(&'a str, &'a str, &'a str, &'a str),

@@ -1,6 +1,6 @@
 //! The words of a command line, and the file that they need.
 
-ghost use Rattle.std.specs.Prelude.{◌≡◌, Some, IfSome, IfOk, map};
+ghost use Rattle.std.specs.Prelude.{◌≡◌, ◌≢◌, Some, None, IfSome, IfOk, map};
 ghost use Rattle.std.specs.Option.{option_map};
 ghost use Rattle.std.specs.String.{string_bytes};
 ghost use Rattle.clap.specs.Simple.{subcommand_rows_of};
@@ -67,11 +67,18 @@ impl Words {
         let words = self.words.as_slice();
         match line.try_get_matches_from(words) {
             Ok(matches) => Ok(asked(words, &matches)),
-            Err(error) => match error.kind() {
-                ErrorKind::OutOfMemory => Err(NoMemory),
-                _ => Ok(None),
-            },
+            Err(error) => not_asked(error.kind()),
         }
+    }
+}
+
+/// What words ask for that were not taken: nothing, but where memory ran out.
+fn not_asked(why: ErrorKind) -> Result<Option<Request>, NoMemory>
+    ensures { IfOk result (λ asked. (asked ≡ None) × (why ≢ ErrorKind.OutOfMemory)) }
+{
+    match why {
+        ErrorKind::OutOfMemory => Err(NoMemory),
+        _ => Ok(None),
     }
 }
 

@@ -1,13 +1,14 @@
-use Rattle.std.proofs.Common.{◌≡◌, ◌∙◌, length, take, None, ap, refl, subst, sym, arith}
+use Rattle.std.proofs.Common.{◌≡◌, Err, ◌∙◌, length, take, None, ap, refl, subst, sym, arith}
 use Rattle.store_model.specs.Trees.{contents, node_at}
 use Rattle.store_model.specs.Commands.Command.{Cut}
 use Rattle.store_model.specs.Commands.Reply.{Acknowledged}
 use Rattle.store_model.specs.Steps.{first_refusal, refusal_of, reply_of}
 use Rattle.tree_pairs.specs.Blocks.{tree_blocks}
+use Rattle.store_base.specs.Faults.{disk_faults_after}
 use Rattle.tree_pairs.proofs.CallLemmas.{step_done}
 use Rattle.file_blocks.specs.FileCalls.{HasFile}
 use Rattle.file_blocks.specs.Refusals.{cut_conditions, size_of}
-use Rattle.file_blocks.proofs.CarryLemmas.{refused_by_kind, refusal-cut, size_of-node, cut_fits, cut_allowed, has_contents, pairs-cut, pairs-uncut}
+use Rattle.file_blocks.proofs.CarryLemmas.{carries_fault, refused_by_kind, refusal-cut, size_of-node, cut_fits, cut_allowed, has_contents, pairs-cut, pairs-uncut}
 use Rattle.file_blocks.proofs.cutting.cut.Goals as goal
 
 pub returns-in-Err-clause-call : goal.returns-in-Err-clause-call
@@ -58,3 +59,53 @@ returns-clause-call g c =
           (pairs-cut t p path c.args.len c.key.result c.file_value.result (g.P.OrderedPairs.state c.cut_bytes.new.pairs).pairs (g.P.OrderedPairs.state c.put.new.self).pairs
           holds.tree c.key.ensures.path (omega arith) free after c.key.ensures.value c.file_value.ensures (last.observed (cuts.observable seen_between)).changed);
     }
+
+pub returns-in_err-kind-clause-hidden : goal.returns-in_err-kind-clause-hidden
+returns-in_err-kind-clause-hidden g c seen = c.kind_of.ensures.hidden seen
+
+pub returns-in_err-kind-clause-follows : goal.returns-in_err-kind-clause-follows
+returns-in_err-kind-clause-follows g c = c.kind_of.ensures.follows
+
+pub returns-in-Err-clause-hidden : goal.returns-in-Err-clause-hidden
+returns-in-Err-clause-hidden g c seen = c.kind_of.ensures.hidden seen
+
+pub returns-in-Err-clause-follows : goal.returns-in-Err-clause-follows
+returns-in-Err-clause-follows g c = c.kind_of.ensures.follows
+
+pub returns-then-size-len-clause-hidden : goal.returns-then-size-len-clause-hidden
+returns-then-size-len-clause-hidden g c seen = c.kind_of.ensures.hidden seen
+
+pub returns-then-size-len-clause-follows : goal.returns-then-size-len-clause-follows
+returns-then-size-len-clause-follows g c = c.kind_of.ensures.follows
+
+pub returns-in_err-cut_bytes-clause-hidden : goal.returns-in_err-cut_bytes-clause-hidden
+returns-in_err-cut_bytes-clause-hidden g c seen = c.kind_of.ensures.hidden (c.cut_bytes.ensures.hidden seen)
+
+pub returns-in_err-cut_bytes-clause-follows : goal.returns-in_err-cut_bytes-clause-follows
+returns-in_err-cut_bytes-clause-follows g c = g.met.P.OrderedPairs.follows_trans _ _ _ c.kind_of.ensures.follows c.cut_bytes.ensures.follows
+
+pub returns-in_err-put-clause-hidden : goal.returns-in_err-put-clause-hidden
+returns-in_err-put-clause-hidden g c seen = c.kind_of.ensures.hidden (c.cut_bytes.ensures.hidden (c.put.ensures.call.hidden seen))
+
+pub returns-in_err-put-clause-follows : goal.returns-in_err-put-clause-follows
+returns-in_err-put-clause-follows g c = g.met.P.OrderedPairs.follows_trans _ _ _ (g.met.P.OrderedPairs.follows_trans _ _ _ c.kind_of.ensures.follows c.cut_bytes.ensures.follows) c.put.ensures.follows
+
+pub returns-clause-hidden : goal.returns-clause-hidden
+returns-clause-hidden g c seen = c.kind_of.ensures.hidden (c.cut_bytes.ensures.hidden (c.put.ensures.call.hidden seen))
+
+pub returns-clause-follows : goal.returns-clause-follows
+returns-clause-follows g c = g.met.P.OrderedPairs.follows_trans _ _ _ (g.met.P.OrderedPairs.follows_trans _ _ _ c.kind_of.ensures.follows c.cut_bytes.ensures.follows) c.put.ensures.follows
+
+pub returns-in_err-kind-clause-call : goal.returns-in_err-kind-clause-call
+returns-in_err-kind-clause-call g c =
+    carries_fault (λ _. Acknowledged) (Cut c.args.path.now c.args.len) _ _ c.in_err-kind.field-0.0 c.from_residual.result c.in_err-kind.ensures.call.faults c.from_residual.ensures.1
+
+pub returns-in_err-cut_bytes-clause-call : goal.returns-in_err-cut_bytes-clause-call
+returns-in_err-cut_bytes-clause-call g c =
+    carries_fault (λ _. Acknowledged) (Cut c.args.path.now c.args.len) _ _ c.in_err-cut_bytes.field-0.0 c.from_residual-in_err-cut_bytes.result
+    (c.in_err-cut_bytes.ensures.call.faults ∙ ap (λ n. disk_faults_after {T = Unit {0}} n (Err c.in_err-cut_bytes.field-0.0)) c.in_ok-kind.ensures.call.faults) c.from_residual-in_err-cut_bytes.ensures.1
+
+pub returns-in_err-put-clause-call : goal.returns-in_err-put-clause-call
+returns-in_err-put-clause-call g c =
+    carries_fault (λ _. Acknowledged) (Cut c.args.path.now c.args.len) _ _ c.in_err-put.field-0.0 c.from_residual-in_err-put.result
+    (c.in_err-put.ensures.call.faults ∙ ap (λ n. disk_faults_after {T = Unit {0}} n (Err c.in_err-put.field-0.0)) (c.in_ok-cut_bytes.ensures.call.faults ∙ c.in_ok-kind.ensures.call.faults)) c.from_residual-in_err-put.ensures.1

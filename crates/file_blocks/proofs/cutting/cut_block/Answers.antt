@@ -15,3 +15,21 @@ pub returns-in-None-clause-call : goal.returns-in-None-clause-call
 returns-in-None-clause-call g c =
     cuts_no_block c.args.path.now (256 * ((c.args.len + 255) / 256)) c.args.len (c.args.len / 256 + 1) c.key-key.result c.in_ok-last.field-0 (g.P.OrderedPairs.state c.args.pairs.now) (g.P.OrderedPairs.state c.get.new.self)
     c.key-key.ensures.path c.key-key.ensures.value refl (omega arith) c.in-None.is c.in_ok-last.ensures.call
+
+pub returns-in_err-last-clause-hidden : goal.returns-in_err-last-clause-hidden
+returns-in_err-last-clause-hidden g c seen = c.get.ensures.call.hidden seen
+
+pub returns-in_err-last-clause-follows : goal.returns-in_err-last-clause-follows
+returns-in_err-last-clause-follows g c = c.get.ensures.follows
+
+pub returns-in-Some-clause-hidden : goal.returns-in-Some-clause-hidden
+returns-in-Some-clause-hidden g c seen = c.get.ensures.call.hidden (c.put.ensures.call.hidden seen)
+
+pub returns-in-Some-clause-follows : goal.returns-in-Some-clause-follows
+returns-in-Some-clause-follows g c = g.met.P.OrderedPairs.follows_trans _ _ _ c.get.ensures.follows c.put.ensures.follows
+
+pub returns-in-None-clause-hidden : goal.returns-in-None-clause-hidden
+returns-in-None-clause-hidden g c seen = c.get.ensures.call.hidden seen
+
+pub returns-in-None-clause-follows : goal.returns-in-None-clause-follows
+returns-in-None-clause-follows g c = c.get.ensures.follows

@@ -11,3 +11,15 @@ returns-clause-call g c =
     let kept = c.div_ceil-2.ensures in
     cuts_smaller c.args.path.now c.args.size (256 * c.div_ceil.result) c.args.len old new c.cut_block.result (omega arith)
     (cuts_both c.args.path.now (256 * c.div_ceil.result) (256 * c.div_ceil-2.result) (256 * ((c.args.len + 255) / 256)) c.args.len old between new c.cut_block.result (omega arith) (omega arith) c.in_ok-drop_blocks.ensures.call c.cut_block.ensures.call)
+
+pub returns-in_err-drop_blocks-clause-hidden : goal.returns-in_err-drop_blocks-clause-hidden
+returns-in_err-drop_blocks-clause-hidden g c seen = c.drop_blocks.ensures.hidden seen
+
+pub returns-in_err-drop_blocks-clause-follows : goal.returns-in_err-drop_blocks-clause-follows
+returns-in_err-drop_blocks-clause-follows g c = c.drop_blocks.ensures.follows
+
+pub returns-clause-hidden : goal.returns-clause-hidden
+returns-clause-hidden g c seen = c.drop_blocks.ensures.hidden (c.cut_block.ensures.hidden seen)
+
+pub returns-clause-follows : goal.returns-clause-follows
+returns-clause-follows g c = g.met.P.OrderedPairs.follows_trans _ _ _ c.drop_blocks.ensures.follows c.cut_block.ensures.follows

@@ -42,3 +42,27 @@ returns-in_ok-read_bytes-in-Ok-clause-call g c =
           (ap Content (reads.read seen_between (tree_blocks t path 0) (contents t path) (tree_blocks t) (omega arith) before ∙ take_there (contents t path) c.args.at c.args.len c.in-Ok.count count_is))
           (pairs-read t p path c.args.at c.args.len (g.P.OrderedPairs.state c.read_bytes.new.pairs).pairs (reads.keeps.unchanged seen_between ∙ told.keeps.unchanged seen ∙ holds.pairs_are));
     }
+
+pub returns-in_err-kind-clause-hidden : goal.returns-in_err-kind-clause-hidden
+returns-in_err-kind-clause-hidden g c seen = c.kind_of.ensures.hidden seen
+
+pub returns-in_err-kind-clause-follows : goal.returns-in_err-kind-clause-follows
+returns-in_err-kind-clause-follows g c = c.kind_of.ensures.follows
+
+pub returns-in-Err-clause-hidden : goal.returns-in-Err-clause-hidden
+returns-in-Err-clause-hidden g c seen = c.kind_of.ensures.hidden seen
+
+pub returns-in-Err-clause-follows : goal.returns-in-Err-clause-follows
+returns-in-Err-clause-follows g c = c.kind_of.ensures.follows
+
+pub returns-in_ok-read_bytes-in-Ok-clause-hidden : goal.returns-in_ok-read_bytes-in-Ok-clause-hidden
+returns-in_ok-read_bytes-in-Ok-clause-hidden g c seen = c.kind_of.ensures.hidden (c.read_bytes.ensures.hidden seen)
+
+pub returns-in_ok-read_bytes-in-Ok-clause-follows : goal.returns-in_ok-read_bytes-in-Ok-clause-follows
+returns-in_ok-read_bytes-in-Ok-clause-follows g c = g.met.P.OrderedPairs.follows_trans _ _ _ c.kind_of.ensures.follows c.read_bytes.ensures.follows
+
+pub returns-in_err-read_bytes-in-Ok-clause-hidden : goal.returns-in_err-read_bytes-in-Ok-clause-hidden
+returns-in_err-read_bytes-in-Ok-clause-hidden g c seen = c.kind_of.ensures.hidden (c.read_bytes.ensures.hidden seen)
+
+pub returns-in_err-read_bytes-in-Ok-clause-follows : goal.returns-in_err-read_bytes-in-Ok-clause-follows
+returns-in_err-read_bytes-in-Ok-clause-follows g c = g.met.P.OrderedPairs.follows_trans _ _ _ c.kind_of.ensures.follows c.read_bytes.ensures.follows

@@ -1,6 +1,7 @@
 use Rattle.std.proofs.Common.{◌≡◌, IsTrue, sym, ap, subst, ◌∙◌}
 use Rattle.store_model.specs.Draws.{draw_of}
 use Rattle.store_model.specs.Pairs.{pairs}
+use Rattle.script_lines.specs.InPlace.{in_place}
 use Rattle.script_lines.specs.Parsing.{command_of}
 use Rattle.seeded_draw.specs.declared.any.AnyDraw.{AnyDraw}
 use Rattle.seeded_draw.specs.AnyDrawn.{any_draw}
@@ -24,9 +25,9 @@ returns g c = record {
       let p = c.args.params.now in
       let staged = c.args.staged in
       let first = c.new-pairs.result in
-      let last = c.answer-answer.new.pairs in
-      let answers = c.answer-answer.ensures in
-      let result = c.answer-answer.result in
+      let last = c.answer-answered.new.pairs in
+      let answers = c.answer-answered.ensures in
+      let result = in_place c.answer-answered.new.reply c.answer-answered.result in
       let command = command_of c.args.command.now in
       let follows : Follows state staged last.pages = subst (λ (s : StagedState g.row.D.Denot AnyDraw). Follows state s last.pages) c.new-pairs.ensures.pages answers.follows.0 in
       let drawn : any_draw last.draw ≡ draw_of p = ap any_draw (answers.follows.1 ∙ c.new-pairs.ensures.draw) ∙ c.new.ensures in

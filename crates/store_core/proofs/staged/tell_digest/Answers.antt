@@ -4,8 +4,8 @@ use Rattle.sha2.specs.Sha256.{sha256}
 use Rattle.store_model.specs.Commands.Command.{Digest}
 use Rattle.store_model.specs.Commands.Reply.{ImageDigest}
 use Rattle.store_model.specs.Steps.{Step, step}
-use Rattle.script_lines.specs.declared.reply.Reply.{Reply}
 use Rattle.script_lines.specs.declared.reply.Reply.TheVariants as replies
+use Rattle.script_lines.specs.InPlace.{in_place}
 use Rattle.store_core.specs.declared.fault.ApplyFault.{ApplyFault}
 use Rattle.store_core.specs.declared.fault.ApplyFault.TheVariants as apply
 use Rattle.store_core.specs.Steps.{EndsStep}
@@ -22,7 +22,7 @@ returns-in_err-digest g c = record {
       let failed = err_from_is_err_and c.from_residual.result c.from_residual.ensures.1 in
       let to = step t Digest p in
       let step = read_step state t to p old new (Err apply.Disk) fit at c.requires.runs c.digest.ensures.follows c.in_err-digest.ensures.calls.faults (λ e. cc) (λ observable. tt) (λ observable. tt) in
-      subst (λ (r : Result Reply ApplyFault). EndsStep state t to p old new r) (sym (failed.1 ∙ ap Err failed.2)) (record {
+      subst (λ (r : Result (Unit {0}) ApplyFault). EndsStep state t to p old new (in_place c.args.reply.now r)) (sym (failed.1 ∙ ap Err failed.2)) (record {
         step = step;
         none_staged = same_staged state t p old new at c.requires.runs c.digest.ensures.follows c.digest.ensures.map;
       });

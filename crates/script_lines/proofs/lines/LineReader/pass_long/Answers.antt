@@ -1,6 +1,7 @@
-use Rattle.std.proofs.Common.{ℕ, List, [], refl, ap, ◌∙◌, arith, Some, None, ◌==◌}
+use Rattle.std.proofs.Common.{ℕ, ◌+◌, List, [], refl, ap, ◌∙◌, arith, Some, None, ◌==◌}
 use Rattle.std.specs.List.{position}
 use Rattle.std.proofs.lemmas.Result.{err_from_is_err_and}
+use Rattle.script_lines.proofs.CallEnds.{EndsCall-long-fails, EndsCall-long-line, EndsCall-long-last}
 use Rattle.script_lines.proofs.StateLemmas.{Moves-refl}
 use Rattle.script_lines.proofs.Search.{PassesLong-adds, Long-line, Long-last, Long-fails, pass_all}
 use Rattle.script_lines.proofs.LineLemmas.{FindsEnd-position}
@@ -39,3 +40,20 @@ loop-self-preserved g c =
     let same = pass_all c.loop-self.self c.pass.new.self c.held.result.now c.held.ensures.value c.pass.ensures in
     let plain = FindsEnd-position c.fill.new.self.held None (c.in_default.ensures ∙ ap (λ (xs : List ℕ). position (λ x. x == 10) xs) c.held-in-loop-self.ensures.value) in
     PassesLong-adds g.R.Source.state c.args.self.now c.loop-self.self c.pass.new.self c.fill.new.self c.loop-self.invariant same c.in_ok-fill.field-0 c.in_ok-fill.ensures.source c.in_ok-fill.ensures.fills plain
+
+-- what each answer makes of the reader
+pub returns-in_err-fill-clause-ends : goal.returns-in_err-fill-clause-ends
+returns-in_err-fill-clause-ends g c =
+    let p = err_from_is_err_and c.from_residual.result c.from_residual.ensures.1 in
+    let same = pass_all c.loop-self.self c.pass.new.self c.held.result.now c.held.ensures.value c.pass.ensures in
+    rw (p.1, p.2) (EndsCall-long-fails g.R.Source.state c.args.self.now c.loop-self.self c.pass.new.self c.fill.new.self c.loop-self.invariant same c.in_err-fill.field-0.0 c.in_err-fill.ensures.fills)
+
+pub returns-then-branch-eq0-clause-ends : goal.returns-then-branch-eq0-clause-ends
+returns-then-branch-eq0-clause-ends g c =
+    let same = pass_all c.loop-self.self c.pass.new.self c.held.result.now c.held.ensures.value c.pass.ensures in
+    EndsCall-long-last g.R.Source.state c.args.self.now c.loop-self.self c.pass.new.self c.fill.new.self c.loop-self.invariant same c.in_ok-fill.field-0 c.in_ok-fill.ensures.source c.in_ok-fill.ensures.fills c.finish.new.self c.finish.ensures.state
+
+pub returns-in-Some-clause-ends : goal.returns-in-Some-clause-ends
+returns-in-Some-clause-ends g c =
+    let same = pass_all c.loop-self.self c.pass.new.self c.held.result.now c.held.ensures.value c.pass.ensures in
+    EndsCall-long-line g.R.Source.state c.args.self.now c.loop-self.self c.pass.new.self c.fill.new.self c.loop-self.invariant same c.in_ok-fill.field-0 c.in_ok-fill.ensures.source c.in_ok-fill.ensures.fills (c.in-Some.place + 1) c.pass-in-Some.new.self c.pass-in-Some.ensures

@@ -1,7 +1,7 @@
 use Rattle.std.proofs.Common.{rules, ◌≡◌, ℕ, ◌+◌, ◌-◌, ◌≤◌, List, length, drop, take, sym, ap, ◌∙◌, arith, refl}
 use Rattle.std.proofs.lemmas.List.{length-append, length-drop}
 use Rattle.script_lines.specs.Memory.{SourceMemory}
-use Rattle.script_lines.proofs.Pieces.{moved_slice, no_piece, next_count_fits}
+use Rattle.script_lines.proofs.Pieces.{moved_slice, no_piece}
 use Rattle.script_lines.proofs.memory.MemSourceSource.take.Goals as goal
 
 pub returns-clause-contract : goal.returns-clause-contract
@@ -11,7 +11,6 @@ returns-clause-contract c =
     let count = c.next_count-count.result in
     let into = c.args.into.now in
     let left_is : drop start bytes ≡ c.args.self.now.left = ap (λ (m : SourceMemory). m.left) c.self.view_is in
-    let fits_into : count ≤ length into = rw c.next_count-count.ensures (next_count_fits c.args.self.now (length into)) in
     let size = length-append c.copy_from_slice.new.self (drop count into) in
     let rest = length-drop count into in
     let fits : start + count ≤ length bytes = omega (arith, c.self.inside.bytes.ok.0, ap length left_is, length-drop start bytes) in
@@ -24,7 +23,7 @@ returns-clause-contract c =
       last_fault = search rules;
       observed = λ _. record {
         moved = moved_slice bytes c.args.self.now.left c.copy_from_slice.new.self into start count (sym left_is) piece_is fits;
-        end = λ some. rw c.next_count-count.ensures (no_piece c.args.self.now (length into) (omega arith));
+        end = λ some. rw c.next_count-count.ensures.value (no_piece c.args.self.now (length into) (omega arith));
         kept = tt;
       };
     }

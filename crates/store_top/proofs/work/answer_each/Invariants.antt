@@ -1,5 +1,5 @@
 use Rattle.store_top.proofs.WorkTurns.{SoFar}
-use Rattle.store_top.proofs.work.answer_all.Given as goal
+use Rattle.store_top.proofs.work.answer_each.Given as goal
 
 -- the turns so far were made, and the image is that of the tree after them
 abbrev pub invariant-turns : goal.invariant-turns
