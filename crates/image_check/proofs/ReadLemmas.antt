@@ -1,8 +1,11 @@
 -- Reads of slots one after another.
-use Rattle.std.proofs.Common.{◌≡◌, ℕ, ◌<◌, List, length, get_or, Some, slice_get, Result, Ok, refl, sym, ap, ◌∙◌, arith}
+use Rattle.std.proofs.Common.{◌≡◌, ℕ, ◌<◌, List, length, get_or, Some, slice_get, Result, Ok, Err, refl, sym, ap, ◌∙◌, arith}
 use Rattle.std.proofs.lemmas.List.{same_lists}
 use Rattle.std.proofs.lemmas.Option.{slice_get-get_or, same_Some}
+use Rattle.std.specs.Result.{IsErrAnd}
+use Rattle.std.proofs.lemmas.Result.{err_from_is_err_and}
 use Rattle.store_base.specs.declared.store_fault.Fault.{Fault}
+use Rattle.store_base.specs.declared.store_fault.Fault.TheVariants.{NoMemory}
 use Rattle.store_base.specs.Faults.{disk_faults_after}
 use Rattle.store_base.specs.SlotsState.{SlotsState, IsObservable, IsGet}
 use Rattle.image_check.specs.SlotCalls.{ReadsSlots}
@@ -61,3 +64,18 @@ read_at_first old mid new at buffer value first get observable = ap (λ (xs : Li
 -- reads of which none failed, whatever they answer
 pub reads_answered : {T U : Type 0} (old new : SlotsState) (before : T) (value : U) → ReadsSlots old new (Ok before) → ReadsSlots old new (Ok value)
 reads_answered old new before value reads = reads_answer old new (Ok before) (Ok value) reads refl
+
+-- a read behind others that fails, where its fault is handed on
+pub reads_failed : {T U : Type 0} (old mid new : SlotsState) (at : ℕ) (buffer : List ℕ) (got : Result T Fault) (result : Result U Fault) (fault : Fault) → HaveRead old mid → IsGet mid new at buffer got
+    → got ≡ Err fault → IsErrAnd result (λ e. e ≡ fault) → ReadsSlots old new result
+reads_failed old mid new at buffer got result fault first get failed handed =
+    let err = err_from_is_err_and result handed in
+    let same : got ≡ Err fault = failed in
+    reads_answer old new got result (reads_get old mid new at buffer got first get)
+    (ap (disk_faults_after old.faults) same ∙ sym (ap (disk_faults_after old.faults) (err.1 ∙ ap Err err.2)))
+
+-- want of memory behind reads of which none failed
+pub reads_no_memory : {U : Type 0} (old new : SlotsState) (result : Result U Fault) → HaveRead old new → IsErrAnd result (λ e. e ≡ NoMemory) → ReadsSlots old new result
+reads_no_memory old new result reads short =
+    let err = err_from_is_err_and result short in
+    reads_answer old new (Ok tt) result reads (sym (ap (disk_faults_after old.faults) (err.1 ∙ ap Err err.2)))

@@ -1,12 +1,12 @@
 -- Slots that are read one after another, against a table.
-use Rattle.std.proofs.Common.{◌≡◌, ℕ, suc, ◌+◌, ◌<◌, ◌≤◌, List, [], ◌∷◌, ◌++◌, map, length, take, drop, cond, not, true, false, Bool, eqb, ◌==◌, Option, Some, None, slice_get, refl, sym, ap, subst, ◌∙◌, drop-cons}
+use Rattle.std.proofs.Common.{◌≡◌, ℕ, suc, ◌+◌, ◌<◌, ◌≤◌, List, [], ◌∷◌, ◌++◌, map, length, take, drop, cond, not, true, false, Bool, eqb, ◌==◌, Option, Some, None, slice_get, append_assoc, refl, sym, ap, subst, ◌∙◌, drop-cons}
 use Rattle.std.specs.List.{AllByRecursion}
 use Rattle.std.specs.Option.{option_map}
 use Rattle.std.specs.Cmp.Lexicographic.{pointwise, bytes_decides}
-use Rattle.std.proofs.lemmas.List.{take_more, take-append-drop, append-nil}
+use Rattle.std.proofs.lemmas.List.{take_more, take-append-drop, append-nil, map-append}
 use Rattle.std.proofs.lemmas.Grind.{flat_map-append}
 use Rattle.std.proofs.lemmas.Option.{slice_get_within, get_or_from_slice_get, slice_get-map, slice_get-get_or, same_Some}
-use Rattle.store_model.specs.Pages.{Page, IsPage, page_room}
+use Rattle.store_model.specs.Pages.{Cell, Page, IsPage, page_room}
 use Rattle.store_model.specs.Pairs.{Pair}
 use Rattle.store_model.specs.Placement.{Table}
 use Rattle.store_model.specs.Images.{slot_bytes, slots_of, page_bytes}
@@ -44,6 +44,13 @@ pairs_on_level_0 page level = ap (λ (n : ℕ). cond (n == 0) (map pair_of page.
 -- a page of level 0 has ten cells at most
 pub ten_cells : (page : Page) → IsPage page → page.label.level ≡ 0 → length page.cells ≤ 10
 ten_cells page is level = subst (λ (n : ℕ). length page.cells ≤ page_room n) level is.room
+
+-- the pairs of one cell more
+pub cell_one_more : (cells : List Cell) (i : ℕ) (cell : Cell) (pair : Pair) (first before after : List Pair) → slice_get cells i ≡ Some cell → pair ≡ pair_of cell
+    → before ≡ first ++ map pair_of (take i cells) → after ≡ before ++ pair ∷ [] → after ≡ first ++ map pair_of (take (i + 1) cells)
+cell_one_more cells i cell pair first before after at is so_far more =
+    let next = ap (map pair_of) (take_one_more cells i cell at) ∙ map-append pair_of (take i cells) (cell ∷ []) in
+    more ∙ ap (λ s. s ++ pair ∷ []) so_far ∙ append_assoc first (map pair_of (take i cells)) (pair ∷ []) ∙ ap (λ s. first ++ s) (ap (λ x. map pair_of (take i cells) ++ x ∷ []) is ∙ sym next)
 
 -- ---- the slots so far
 

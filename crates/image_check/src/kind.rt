@@ -3,7 +3,7 @@
 use path_keys::Path;
 
 /// What stands at a path.
-#[derive(Clone, Copy, Debug)]
+#[derive(Clone, Copy)]
 pub enum Kind {
     /// A directory.
     Directory,
@@ -12,7 +12,7 @@ pub enum Kind {
 }
 
 /// What stands at a path, and how many pairs it has.
-#[derive(Clone, Copy, Debug)]
+#[derive(Clone, Copy)]
 pub struct Entry {
     /// The path, which is not the root.
     pub path: Path,

@@ -58,3 +58,24 @@ returns-in_default-3 g c =
       hidden = λ seen. up.hidden (at.hidden seen);
       follows = g.met.P.OrderedPairs.follows_trans _ _ _ up.follows at.follows;
     }
+
+pub returns-in_default-clause-follows : goal.returns-in_default-clause-follows
+returns-in_default-clause-follows g c = g.met.P.OrderedPairs.follows_refl _
+
+pub returns-in_err-kind_of-clause-hidden : goal.returns-in_err-kind_of-clause-hidden
+returns-in_err-kind_of-clause-hidden g c seen = c.kind_of.ensures.hidden seen
+
+pub returns-in_err-kind_of-clause-follows : goal.returns-in_err-kind_of-clause-follows
+returns-in_err-kind_of-clause-follows g c = c.kind_of.ensures.follows
+
+pub returns-in_err-kind_of-2-clause-hidden : goal.returns-in_err-kind_of-2-clause-hidden
+returns-in_err-kind_of-2-clause-hidden g c seen = c.kind_of.ensures.hidden (c.kind_of-2.ensures.hidden seen)
+
+pub returns-in_err-kind_of-2-clause-follows : goal.returns-in_err-kind_of-2-clause-follows
+returns-in_err-kind_of-2-clause-follows g c = g.met.P.OrderedPairs.follows_trans _ _ _ c.kind_of.ensures.follows c.kind_of-2.ensures.follows
+
+pub returns-in-Absent-clause-hidden : goal.returns-in-Absent-clause-hidden
+returns-in-Absent-clause-hidden g c seen = c.kind_of.ensures.hidden (c.kind_of-2.ensures.hidden seen)
+
+pub returns-in-Absent-clause-follows : goal.returns-in-Absent-clause-follows
+returns-in-Absent-clause-follows g c = g.met.P.OrderedPairs.follows_trans _ _ _ c.kind_of.ensures.follows c.kind_of-2.ensures.follows

@@ -35,3 +35,21 @@ returns-in_ok-has_child-in-Dir-clause-call g c =
           let dir = dir_stands (node_at t c.args.path.now) c.in_ok-kind_of.field-0 (at.told seen t p holds) c.in-Dir.is in
           c.then_some.ensures ∙ remove_of_directory t c.args.path.now (sym c.is_root.ensures.value ∙ c.if-is_root.false) dir c.in_ok-has_child-in-Dir.field-0 (child.told (at.keeps.observable seen) t p (still_holds old between t p at.keeps seen holds) dir);
     }
+
+pub returns-then-is_root-clause-follows : goal.returns-then-is_root-clause-follows
+returns-then-is_root-clause-follows g c = g.met.P.OrderedPairs.follows_refl _
+
+pub returns-in_err-kind_of-clause-follows : goal.returns-in_err-kind_of-clause-follows
+returns-in_err-kind_of-clause-follows g c = c.kind_of.ensures.follows
+
+pub returns-in-Absent-clause-follows : goal.returns-in-Absent-clause-follows
+returns-in-Absent-clause-follows g c = c.kind_of.ensures.follows
+
+pub returns-in-File-clause-follows : goal.returns-in-File-clause-follows
+returns-in-File-clause-follows g c = c.kind_of.ensures.follows
+
+pub returns-in_err-has_child-in-Dir-clause-follows : goal.returns-in_err-has_child-in-Dir-clause-follows
+returns-in_err-has_child-in-Dir-clause-follows g c = g.met.P.OrderedPairs.follows_trans _ _ _ c.kind_of.ensures.follows c.has_child.ensures.follows
+
+pub returns-in_ok-has_child-in-Dir-clause-follows : goal.returns-in_ok-has_child-in-Dir-clause-follows
+returns-in_ok-has_child-in-Dir-clause-follows g c = g.met.P.OrderedPairs.follows_trans _ _ _ c.kind_of.ensures.follows c.has_child.ensures.follows

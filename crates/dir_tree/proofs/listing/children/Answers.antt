@@ -69,3 +69,18 @@ returns-clause-call g c =
           let few = few_listed (g.P.OrderedPairs.state c.args.pairs.now) t p c.args.path.now c.loop.from c.loop.counter c.loop.entries holds (g.met.P.OrderedPairs.few c.args.pairs.now seen) (kept.part seen t p holds directory) in
           absurd (omega arith);
     }
+
+pub returns-in_err-child-clause-follows : goal.returns-in_err-child-clause-follows
+returns-in_err-child-clause-follows g c = g.met.P.OrderedPairs.follows_trans _ _ _ c.loop.invariant.follows c.next_within.ensures.follows
+
+pub returns-in_default-clause-follows : goal.returns-in_default-clause-follows
+returns-in_default-clause-follows g c = g.met.P.OrderedPairs.follows_trans _ _ _ c.loop.invariant.follows c.next_within.ensures.follows
+
+pub returns-in_err-size-clause-follows : goal.returns-in_err-size-clause-follows
+returns-in_err-size-clause-follows g c = g.met.P.OrderedPairs.follows_trans _ _ _ (g.met.P.OrderedPairs.follows_trans _ _ _ c.loop.invariant.follows c.next_within.ensures.follows) c.size_of.ensures.follows
+
+pub returns-in_err-push-clause-follows : goal.returns-in_err-push-clause-follows
+returns-in_err-push-clause-follows g c = g.met.P.OrderedPairs.follows_trans _ _ _ (g.met.P.OrderedPairs.follows_trans _ _ _ c.loop.invariant.follows c.next_within.ensures.follows) c.size_of.ensures.follows
+
+pub returns-clause-follows : goal.returns-clause-follows
+returns-clause-follows g c = c.loop.invariant.follows

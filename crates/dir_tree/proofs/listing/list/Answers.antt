@@ -48,3 +48,18 @@ returns-in_ok-children-in-Dir-clause-call g c =
           step_done (λ x. Listing x) c.in_ok-children-in-Dir.field-0 t (ListChildren c.args.path.now) p new (list_of_directory t c.args.path.now directory)
           (ap Listing (rest.listed (at.keeps.observable seen) t p (still_holds old between t p at.keeps seen holds) directory)) (keeps.unchanged seen ∙ holds.pairs_are);
     }
+
+pub returns-in_err-kind_of-clause-follows : goal.returns-in_err-kind_of-clause-follows
+returns-in_err-kind_of-clause-follows g c = c.kind_of.ensures.follows
+
+pub returns-in-Absent-clause-follows : goal.returns-in-Absent-clause-follows
+returns-in-Absent-clause-follows g c = c.kind_of.ensures.follows
+
+pub returns-in-File-clause-follows : goal.returns-in-File-clause-follows
+returns-in-File-clause-follows g c = c.kind_of.ensures.follows
+
+pub returns-in_err-children-in-Dir-clause-follows : goal.returns-in_err-children-in-Dir-clause-follows
+returns-in_err-children-in-Dir-clause-follows g c = g.met.P.OrderedPairs.follows_trans _ _ _ c.kind_of.ensures.follows c.children.ensures.follows
+
+pub returns-in_ok-children-in-Dir-clause-follows : goal.returns-in_ok-children-in-Dir-clause-follows
+returns-in_ok-children-in-Dir-clause-follows g c = g.met.P.OrderedPairs.follows_trans _ _ _ c.kind_of.ensures.follows c.children.ensures.follows

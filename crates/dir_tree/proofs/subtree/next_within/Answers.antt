@@ -21,3 +21,12 @@ returns-in-None-clause-call g c =
       within = tt;
       found = λ seen blocks has path low. found_none c.args.from.now c.args.top.now blocks (g.P.OrderedPairs.state c.args.pairs.now).pairs c.in_ok-pair.field-0 has (call.observed seen).found c.in-None.is;
     }
+
+pub returns-in_err-pair-clause-follows : goal.returns-in_err-pair-clause-follows
+returns-in_err-pair-clause-follows g c = c.next_from.ensures.follows
+
+pub returns-in-Some-clause-follows : goal.returns-in-Some-clause-follows
+returns-in-Some-clause-follows g c = c.next_from.ensures.follows
+
+pub returns-in-None-clause-follows : goal.returns-in-None-clause-follows
+returns-in-None-clause-follows g c = c.next_from.ensures.follows

@@ -42,3 +42,15 @@ returns-in_default-clause-call g c =
           (λ rest holds. subst (λ (k : List ℕ). MatchOption c.in_ok-found.field-0 (LacksFrom k c.args.top.now rest) (λ at. IsFirstFrom k rest at.path at.number)) c.key-first.ensures.value (search.call.found (kept.observable seen) rest holds c.key-first.ensures.path (le_at_first c.args.top.now c.key-first.result c.key-first.ensures.value)))
           (search.call.keeps.unchanged (kept.observable seen));
     }
+
+pub returns-in_err-found-clause-follows : goal.returns-in_err-found-clause-follows
+returns-in_err-found-clause-follows g c = g.met.P.OrderedPairs.follows_trans _ _ _ c.loop.invariant.follows c.next_within.ensures.follows
+
+pub returns-in_default-clause-follows : goal.returns-in_default-clause-follows
+returns-in_default-clause-follows g c = g.met.P.OrderedPairs.follows_trans _ _ _ c.loop.invariant.follows c.next_within.ensures.follows
+
+pub returns-in_err-take-clause-follows : goal.returns-in_err-take-clause-follows
+returns-in_err-take-clause-follows g c = g.met.P.OrderedPairs.follows_trans _ _ _ (g.met.P.OrderedPairs.follows_trans _ _ _ c.loop.invariant.follows c.next_within.ensures.follows) c.take.ensures.follows
+
+pub returns-after-loop-clause-follows : goal.returns-after-loop-clause-follows
+returns-after-loop-clause-follows g c = c.loop.invariant.follows

@@ -43,3 +43,12 @@ returns-clause-answer g c observable =
       λ yes. same_gets old.slots (slots_of layout) (omega (arith, count, c.requires.count, c.requires.length, long)) (λ i low. c.loop-at.invariant.same observable i (omega (arith, low, count, c.requires.count, c.loop-at-test.false, c.slots-at-end.ensures.value))),
       λ same. refl,
     )
+
+pub returns-in_err-get-clause-follows : goal.returns-in_err-get-clause-follows
+returns-in_err-get-clause-follows g c = g.met.S.ReadSlots.follows_trans _ _ _ c.loop-at.invariant.so_far.follows c.get.ensures.follows
+
+pub returns-then-ne-clause-follows : goal.returns-then-ne-clause-follows
+returns-then-ne-clause-follows g c = g.met.S.ReadSlots.follows_trans _ _ _ c.loop-at.invariant.so_far.follows c.get.ensures.follows
+
+pub returns-clause-follows : goal.returns-clause-follows
+returns-clause-follows g c = c.loop-at.invariant.so_far.follows

@@ -86,3 +86,30 @@ returns-clause-call g c =
       counts_are = found.3;
     })
     (λ observable. sym (first.slots observable) ∙ (c.in_ok-are_layout.ensures.answer (first.observable ∙ observable)).0 c.if-not-branch.false)
+
+pub returns-in_err-pairs-clause-follows : goal.returns-in_err-pairs-clause-follows
+returns-in_err-pairs-clause-follows g c = c.read_pairs.ensures.follows
+
+pub returns-in_default-clause-follows : goal.returns-in_default-clause-follows
+returns-in_default-clause-follows g c = c.read_pairs.ensures.follows
+
+pub returns-in_err-pairs-2-clause-follows : goal.returns-in_err-pairs-2-clause-follows
+returns-in_err-pairs-2-clause-follows g c = c.read_pairs.ensures.follows
+
+pub returns-in_default-2-clause-follows : goal.returns-in_default-2-clause-follows
+returns-in_default-2-clause-follows g c = c.read_pairs.ensures.follows
+
+pub returns-in-Err-Full-clause-follows : goal.returns-in-Err-Full-clause-follows
+returns-in-Err-Full-clause-follows g c = c.read_pairs.ensures.follows
+
+pub returns-in-Err-NoMemory-clause-follows : goal.returns-in-Err-NoMemory-clause-follows
+returns-in-Err-NoMemory-clause-follows g c = c.read_pairs.ensures.follows
+
+pub returns-in_err-are_layout-clause-follows : goal.returns-in_err-are_layout-clause-follows
+returns-in_err-are_layout-clause-follows g c = g.met.S.ReadSlots.follows_trans _ _ _ c.read_pairs.ensures.follows c.are_layout.ensures.follows
+
+pub returns-then-not-branch-clause-follows : goal.returns-then-not-branch-clause-follows
+returns-then-not-branch-clause-follows g c = g.met.S.ReadSlots.follows_trans _ _ _ c.read_pairs.ensures.follows c.are_layout.ensures.follows
+
+pub returns-clause-follows : goal.returns-clause-follows
+returns-clause-follows g c = g.met.S.ReadSlots.follows_trans _ _ _ c.read_pairs.ensures.follows c.are_layout.ensures.follows

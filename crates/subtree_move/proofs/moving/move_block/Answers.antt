@@ -14,3 +14,12 @@ put-requires g c seen =
     let found : find key_cmp c.key.result old.pairs ≡ Some c.in-Some-2.value = sym call.found ∙ c.in-Some-2.is in
     let less = length-without c.key.result old.pairs (subst IsSome (sym found) refl) in
     omega (arith, ap length call.changed)
+
+pub returns-in_default-clause-follows : goal.returns-in_default-clause-follows
+returns-in_default-clause-follows g c = g.met.P.OrderedPairs.follows_refl _
+
+pub returns-in_err-value-clause-follows : goal.returns-in_err-value-clause-follows
+returns-in_err-value-clause-follows g c = c.take.ensures.follows
+
+pub returns-in_err-put-clause-follows : goal.returns-in_err-put-clause-follows
+returns-in_err-put-clause-follows g c = g.met.P.OrderedPairs.follows_trans _ _ _ c.take.ensures.follows c.put.ensures.follows

@@ -41,3 +41,15 @@ returns-then-is_none-clause-call g c =
     told_growth _ _ _ _ _ _ kept.walked search c.args.to.now true (λ seen t p holds.
     next_grows t c.args.from.now c.args.to.now c.loop.next c.in_ok-found.field-0 c.in-Some.found holds.tree c.in-Some.is search.within
     (answered _ _ _ _ _ _ kept.walked search seen t p holds c.key-next.ensures.path (kept.part seen t p holds).low) (c.replant.ensures.none.0 (c.is_none.ensures ∙ ap not c.if-is_none.true)))
+
+pub returns-in_err-found-clause-follows : goal.returns-in_err-found-clause-follows
+returns-in_err-found-clause-follows g c = g.met.P.OrderedPairs.follows_trans _ _ _ c.loop.invariant.follows c.next_within.ensures.follows
+
+pub returns-in_default-clause-follows : goal.returns-in_default-clause-follows
+returns-in_default-clause-follows g c = g.met.P.OrderedPairs.follows_trans _ _ _ c.loop.invariant.follows c.next_within.ensures.follows
+
+pub returns-then-is_none-clause-follows : goal.returns-then-is_none-clause-follows
+returns-then-is_none-clause-follows g c = g.met.P.OrderedPairs.follows_trans _ _ _ c.loop.invariant.follows c.next_within.ensures.follows
+
+pub returns-clause-follows : goal.returns-clause-follows
+returns-clause-follows g c = c.loop.invariant.follows

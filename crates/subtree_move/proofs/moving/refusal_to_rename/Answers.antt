@@ -90,3 +90,18 @@ returns g c =
       valid = c.is_root.ensures.valid;
       follows = g.met.P.OrderedPairs.follows_trans _ _ _ at.follows (g.met.P.OrderedPairs.follows_trans _ _ _ make.follows grow.follows);
     }
+
+pub returns-then-is_root-clause-follows : goal.returns-then-is_root-clause-follows
+returns-then-is_root-clause-follows g c = g.met.P.OrderedPairs.follows_refl _
+
+pub returns-in_err-kind_of-clause-follows : goal.returns-in_err-kind_of-clause-follows
+returns-in_err-kind_of-clause-follows g c = c.kind_of.ensures.follows
+
+pub returns-in-Absent-clause-follows : goal.returns-in-Absent-clause-follows
+returns-in-Absent-clause-follows g c = c.kind_of.ensures.follows
+
+pub returns-in_err-refusal-clause-follows : goal.returns-in_err-refusal-clause-follows
+returns-in_err-refusal-clause-follows g c = g.met.P.OrderedPairs.follows_trans _ _ _ c.kind_of.ensures.follows c.refusal_to_make.ensures.follows
+
+pub returns-in_err-outgrows-clause-follows : goal.returns-in_err-outgrows-clause-follows
+returns-in_err-outgrows-clause-follows g c = g.met.P.OrderedPairs.follows_trans _ _ _ (g.met.P.OrderedPairs.follows_trans _ _ _ c.kind_of.ensures.follows c.refusal_to_make.ensures.follows) c.outgrows.ensures.follows

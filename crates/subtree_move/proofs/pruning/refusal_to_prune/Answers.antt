@@ -22,3 +22,12 @@ returns-in_default g c = record {
       prune_of_one t c.args.path.now (sym c.is_root.ensures.value ∙ c.if-is_root.false) stands.0 stands.1);
   follows = c.in_ok-kind_of.ensures.follows;
 }
+
+pub returns-then-is_root-clause-follows : goal.returns-then-is_root-clause-follows
+returns-then-is_root-clause-follows g c = g.met.P.OrderedPairs.follows_refl _
+
+pub returns-in_err-kind_of-clause-follows : goal.returns-in_err-kind_of-clause-follows
+returns-in_err-kind_of-clause-follows g c = c.kind_of.ensures.follows
+
+pub returns-in-Absent-clause-follows : goal.returns-in-Absent-clause-follows
+returns-in-Absent-clause-follows g c = c.kind_of.ensures.follows
