@@ -6,7 +6,7 @@ use Rattle.std.specs.Cmp.Lexicographic.{nat_list_cmp_total}
 use Rattle.std.specs.Cmp.{alike_right, eq_by_cmp_equiv}
 use Rattle.std.specs.FinMap.{find, put, is_sorted, entries-from_sorted, get-from_sorted, entries-insert, get-remove, same_entries_map, same_map, entries, empty, len, len-entries, len-empty, len-insert, contains_key, slice_cmp-IsAntisymmetric, nat_cmp-IsAntisymmetric}
 use Rattle.std.specs.FinMap.Entries.{is_sorted-put, is_sorted-where_key, find-where_key}
-use Rattle.std.proofs.lemmas.List.{map-set, map-append, take-map, drop-map, length-map}
+use Rattle.std.proofs.lemmas.List.{length-map, map-set, map-append, take-map, drop-map}
 use Rattle.store_model.specs.Paths.{key_cmp}
 use Rattle.store_model.specs.Labels.{Label, label_bytes}
 use Rattle.store_model.specs.Pages.{Page, IsPage}
@@ -48,6 +48,10 @@ all_drop P (suc n) [] h = tt
 all_drop P (suc n) (x ∷ xs) h = all_drop P n xs h.1
 
 -- ---- pages that a map is made of
+
+-- where the page of a label stands there is an item
+pub stands_within : {A : Type 0} (page_of : A → Page) (items : List A) (key : List ℕ) (at : ℕ) → StandsAt (map entry_of (map page_of items)) key at → at < length items
+stands_within page_of items key at stands = subst (λ (n : ℕ). at < n) (length-map (map page_of items) entry_of ∙ length-map items page_of) stands.within
 
 -- pages that come by rising label, and the map that they are
 pub record AreMap (pages : List Page) (m : PageMap) : Type 0 where

@@ -1,5 +1,5 @@
 -- Pages in memory make a map of pages, each under its label.
-use Rattle.std.proofs.Common.{◌≡◌, ℕ, List, [], ◌∷◌, map, cond, T, IsTrue, Some, None, Less, Equal, Greater, refl, sym, subst, ap, ◌∙◌}
+use Rattle.std.proofs.Common.{◌≡◌, ℕ, List, [], ◌∷◌, map, cond, T, IsTrue, Some, Less, Equal, Greater, refl, sym, subst, ap, ◌∙◌}
 use Rattle.std.specs.Ordering.{is_eq}
 use Rattle.std.specs.List.{AllByRecursion}
 use Rattle.std.specs.FinMap.{find, is_sorted, get-from_sorted, slice_cmp-IsAntisymmetric, nat_cmp-IsAntisymmetric}

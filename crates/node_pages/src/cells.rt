@@ -3,6 +3,7 @@
 ghost use Rattle.std.specs.Prelude.{◌≡◌, ◌+◌, ◌*◌, ◌<◌, ◌≤◌, ◌↔◌, [], ◌∷◌, ◌++◌, length, map, take, drop, Some, IfSome, IfOk, OnOk, OnErr, IsTrue, slice_get};
 ghost use Rattle.std.specs.List.{flat_map, AllByRecursion};
 ghost use Rattle.std.specs.List.Sorted.{IsStrictlySortedBy};
+ghost use Rattle.std.specs.FinMap as maps;
 ghost use Rattle.store_model.specs.Lists.{runs};
 ghost use Rattle.store_model.specs.Paths.{key_cmp};
 ghost use Rattle.store_model.specs.Pages.{IsCell, page_room};
@@ -11,14 +12,16 @@ ghost use Rattle.store_model.specs.Images.{cell_bytes};
 ghost use Rattle.store_base.specs.Keys.{IsKey};
 ghost use Rattle.store_base.specs.Leads.{lead_of};
 ghost use Rattle.node_pages.specs.Cells.{IsCellList};
-ghost use Rattle.node_pages.specs.Groups.{pages_from};
+ghost use Rattle.node_pages.specs.Groups.{page_of_run, pages_from};
+ghost use Rattle.node_pages.specs.PagesState.{IsObservable, IsPagePut, most_pages};
 
 use crate::cell::Cell;
 use crate::page::Page;
+use crate::pages::Pages;
 use crate::spelling;
 use std::alloc::Global;
 use std::marker::Model;
-use store_base::{Key, Label, Lead, NoMemory};
+use store_base::{Fault, Key, Label, Lead, NoMemory};
 
 /// A list of fewer than 2^32 cells of one level. Contracts see its level and the list of its cells; each is one of the
 /// level, as `IsCellList` says.
@@ -63,6 +66,15 @@ impl Cells {
         })
     }
 
+    /// Becomes the empty list of a level, and keeps its memory.
+    pub fn restart(&mut self, level: u8)
+        ensures { self.new ≡ record { level = level; cells = [] } }
+    {
+        self.level = level;
+        self.count = 0;
+        self.bytes.clear();
+    }
+
     /// The level of its cells.
     pub fn level(&self) -> u8
         ensures value { result ≡ self.now.level }
@@ -95,14 +107,23 @@ impl Cells {
         spelling::cells_between(self.level, &self.bytes, first, past)
     }
 
+    /// The bytes of the key of cell `i`, the first being 0.
+    pub fn key_bytes(&self, i: u32) -> &[u8]
+        requires { i < length self.now.cells }
+        ensures value { IfSome (slice_get self.now.cells i) (λ cell. cell.key ≡ result.now) }
+        ensures valid { IsKey result.now }
+    {
+        let _ = self.len();
+        spelling::key_part(self.bytes_between(i, i + 1))
+    }
+
     /// The key of cell `i`, the first being 0, without its value.
     pub fn key(&self, i: u32) -> Key
         requires { i < length self.now.cells }
         ensures value { IfSome (slice_get self.now.cells i) (λ cell. cell.key ≡ result) }
         ensures valid { IsKey result }
     {
-        let _ = self.len();
-        spelling::read_key(spelling::key_part(self.bytes_between(i, i + 1)))
+        spelling::read_key(self.key_bytes(i))
     }
 
     /// Cell `i`, the first being 0.
@@ -160,6 +181,31 @@ impl Cells {
         let label = self.label(lead, first + index);
         let (done, past) = self.run(index);
         Page::of_run(label, (past - done) as u8, self.bytes_between(done, past))
+    }
+
+    /// Puts the page of run `index` in the group that `lead` leads, with the number `first + index`, into pages. There have
+    /// to be fewer than 2^32 - 1 pages. After a fault the pages are as they were.
+    pub fn put_page<P: Pages>(
+        &self,
+        pages: &mut P,
+        lead: &Lead,
+        first: u32,
+        index: u32,
+    ) -> Result<(), Fault>
+        requires rising { IsStrictlySortedBy key_cmp (map (λ c. c.key) self.now.cells) }
+        requires number { first + index < 4294967296 }
+        requires within { index < length (runs (page_room self.now.level) self.now.cells) }
+        requires room { IsObservable (P.state pages.old) → maps.len (P.state pages.old).pages < most_pages }
+        ensures call { IsPagePut (P.state pages.old) (P.state pages.new) (page_of_run self.now.level (lead_of lead.now) (first + index) (take (page_room self.now.level) (drop (page_room self.now.level * index) self.now.cells))) result }
+        ensures follows { P.follows pages.old pages.new }
+    {
+        let _ = self.len();
+        let (done, past) = self.run(index);
+        pages.put_run(
+            &self.label(lead, first + index),
+            (past - done) as u8,
+            self.bytes_between(done, past),
+        )
     }
 
     /// Whether `page`, with the same lead and numbers, is this page. None is made for it.

@@ -19,7 +19,7 @@ ghost use Rattle.node_pages.specs.Cells as cells;
 use crate::cell::Cell;
 use crate::spelling;
 use std::marker::Model;
-use store_base::{BLOCK, Key, Label, Slot};
+use store_base::{BLOCK, Key, Label, Slot, Value};
 
 /// The byte of a slot that counts the cells.
 const COUNT_AT: usize = 131;
@@ -217,12 +217,31 @@ impl Page {
         Page { label, slot }
     }
 
+    /// Makes it the page of a label and so many cells, whose bytes are given.
+    pub fn refill(&mut self, label: &Label, count: u8, run: &[u8])
+        requires packed { cells.ArePacked label.now.level count run.now }
+        requires page { IsPage (record { label = label.now; cells = cells.cells_in label.now.level count run.now }) }
+        ensures { self.new ≡ record { label = label.now; cells = cells.cells_in label.now.level count run.now } }
+    {
+        self.label = *label;
+        self.slot = [0; BLOCK];
+        begin(label, &mut self.slot);
+        fill(label, &mut self.slot, count, run);
+    }
+
     /// Its label.
     pub fn label(&self) -> Label
         ensures value { result ≡ self.now.label }
         ensures valid { IsPage self.now }
     {
         self.label
+    }
+
+    /// The level of its label.
+    pub fn level(&self) -> u8
+        ensures { result ≡ self.now.label.level }
+    {
+        level_of(&self.label)
     }
 
     /// How many cells it has: 1 to 10 at level 0, 1 to 31 above.
@@ -264,6 +283,14 @@ impl Page {
         ensures valid { IsPage self.now × IsCell self.now.label.level result }
     {
         spelling::read_cell(level_of(&self.label), self.bytes_between(i, i + 1))
+    }
+
+    /// The value of cell `i`, without its key; `None` above level 0.
+    pub fn value(&self, i: u32) -> Option<Value>
+        requires { i < length self.now.cells }
+        ensures { IfSome (slice_get self.now.cells i) (λ cell. cell.value ≡ result) }
+    {
+        spelling::value_part(level_of(&self.label), self.bytes_between(i, i + 1))
     }
 
     /// The bytes of the key of cell `i`.

@@ -5,6 +5,8 @@ ghost use Rattle.std.specs.Borrow.{sem};
 ghost use Rattle.std.specs.FinMap as maps;
 ghost use Rattle.std.specs.Io.BufRead.{Rests};
 ghost use Rattle.store_model.specs.PageMaps.{IsPageMap};
+ghost use Rattle.store_model.specs.Pages.{IsPage};
+ghost use Rattle.node_pages.specs.Cells.{ArePacked, cells_in};
 ghost use Rattle.node_pages.specs.PagesState.{PagesState, IsObservable, IsPageGet, IsPagePut, IsPageDrop, looked_at, most_pages};
 
 use crate::page::Page;
@@ -38,6 +40,17 @@ pub trait Pages {
         requires { IsObservable (state self.old) → maps.len (state self.old).pages < most_pages }
         ensures call { IsPagePut (state self.old) (state self.new) page result }
         ensures follows { follows self.old self.new };
+
+    /// As `put`, of the page of a label and so many cells, whose bytes are given. Pages that keep bytes need not make it first.
+    fn put_run(&mut self, label: &Label, count: u8, run: &[u8]) -> Result<(), Fault>
+        requires packed { ArePacked label.now.level count run.now }
+        requires page { IsPage (record { label = label.now; cells = cells_in label.now.level count run.now }) }
+        requires room { IsObservable (state self.old) → maps.len (state self.old).pages < most_pages }
+        ensures call { IsPagePut (state self.old) (state self.new) (record { label = label.now; cells = cells_in label.now.level count run.now }) result }
+        ensures follows { follows self.old self.new }
+    {
+        self.put(Page::of_run(*label, count, run))
+    }
 
     /// Drops the page under the label, if there is one. After a fault the pages are as they were.
     fn drop_page(&mut self, label: &Label) -> Result<(), Fault>

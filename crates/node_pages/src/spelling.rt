@@ -125,6 +125,21 @@ pub fn key_part(bytes: &[u8]) -> &[u8]
     key
 }
 
+/// The value of the cell of the level that the bytes spell.
+#[tactic(auto, unfolding(crate::specs::Cells::cell_in))]
+pub fn value_part(level: u8, bytes: &[u8]) -> Option<Value>
+    requires long { length bytes.now ≡ cells.cell_size level }
+    requires valid { cells.SpellsCell level bytes.now }
+    ensures { result ≡ (cells.cell_in level bytes.now).value }
+{
+    let (_, value) = bytes.split_at(KEY_LEN);
+    if level == 0 {
+        Some(read_value(value))
+    } else {
+        None
+    }
+}
+
 /// The cell of the level that the bytes spell.
 #[tactic(auto, unfolding(crate::specs::Cells::cell_in))]
 pub fn read_cell(level: u8, bytes: &[u8]) -> Cell
@@ -132,14 +147,10 @@ pub fn read_cell(level: u8, bytes: &[u8]) -> Cell
     requires valid { cells.SpellsCell level bytes.now }
     ensures { result ≡ cells.cell_in level bytes.now }
 {
-    let (key, value) = bytes.split_at(KEY_LEN);
+    let (key, _) = bytes.split_at(KEY_LEN);
     Cell {
         key: read_key(key),
-        value: if level == 0 {
-            Some(read_value(value))
-        } else {
-            None
-        },
+        value: value_part(level, bytes),
     }
 }
 

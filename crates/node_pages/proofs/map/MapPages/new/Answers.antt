@@ -1,4 +1,3 @@
-use Rattle.std.proofs.Common.{ap}
 use Rattle.node_pages.proofs.EntryLemmas.{map_of_none}
 use Rattle.node_pages.proofs.map.MapPages.new.Goals as goal
 

@@ -1,5 +1,5 @@
-use Rattle.std.proofs.Common.{refl}
-use Rattle.node_pages.proofs.EntryLemmas.{item_dropped, nothing_dropped}
+use Rattle.std.proofs.Common.{refl, arith}
+use Rattle.node_pages.proofs.EntryLemmas.{item_dropped, nothing_dropped, stands_within}
 use Rattle.node_pages.proofs.map.MapPagesPages.drop_page.Goals as goal
 
 pub invariant_of-self : goal.invariant_of-self
@@ -28,3 +28,6 @@ returns-in_default-clause-call c =
       hidden = λ o. tt;
       observed = λ o. record { observable = tt; changed = (nothing_dropped _ c.args.self.now.sorted c.args.self.now.valid c.args.label.now c.in_default.field-0 lacks).map_is; unchanged = tt };
     }
+
+pub remove-requires : goal.remove-requires
+remove-requires c = omega (arith, stands_within _ _ _ _ c.in-Ok.ensures, c.deref.ensures.len)

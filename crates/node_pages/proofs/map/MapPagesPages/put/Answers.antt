@@ -1,5 +1,5 @@
-use Rattle.std.proofs.Common.{refl}
-use Rattle.node_pages.proofs.EntryLemmas.{item_overwritten, item_inserted, rises_either_way, valid_either_way}
+use Rattle.std.proofs.Common.{refl, arith}
+use Rattle.node_pages.proofs.EntryLemmas.{item_overwritten, item_inserted, rises_either_way, valid_either_way, stands_within}
 use Rattle.node_pages.proofs.map.MapPagesPages.put.Goals as goal
 
 pub invariant_of-self : goal.invariant_of-self
@@ -38,3 +38,6 @@ returns-in_ok-insert-in-Err-clause-call c =
       hidden = λ o. tt;
       observed = λ o. record { observable = tt; changed = rw c.in_ok-insert-in-Err.ensures.items left.map_is; unchanged = tt };
     }
+
+pub index_mut-requires : goal.index_mut-requires
+index_mut-requires c = omega (arith, stands_within _ _ _ _ c.in-Ok.ensures, c.deref.ensures.len)
