@@ -1,6 +1,5 @@
 -- The program's draws, seen as those of the definitions.
 use Rattle.std.specs.Prelude.{ℕ, List}
-use Rattle.store_model.specs.Labels.{Label}
 use Rattle.store_model.specs.Draws.{Draw, ruler_start, ruler_level, sha256_start, sha256_level}
 
 -- the draw `ruler` of a table and a height

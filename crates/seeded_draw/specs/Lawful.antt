@@ -1,8 +1,7 @@
 -- The draws are lawful.
-use Rattle.std.proofs.Common.{◌≡◌, ℕ, ◌+◌, ◌-◌, ◌%◌, ◌<◌, ◌≤◌, min, List, Bool, true, false, arith}
+use Rattle.std.proofs.Common.{ℕ, ◌<◌, ◌≤◌, List, Bool, true, false, arith}
 use Rattle.std.specs.Prelude.{if◌then◌else◌, ◌==◌}
-use Rattle.store_model.specs.Labels.{Label}
-use Rattle.store_model.specs.Draws.{Draw, IsLawful, ruler_start, ruler_level, key_block, start_of_digest, level_of_digest, sha256_start, sha256_level}
+use Rattle.store_model.specs.Draws.{IsLawful, ruler_start, ruler_level, key_block, start_of_digest, level_of_digest, sha256_start, sha256_level}
 use Rattle.seeded_draw.specs.Drawn.{ruler_draw, sha256_draw}
 
 below_by : (b : Bool) (x y h : ℕ) → x < h → y < h → (if b then x else y) < h

@@ -1,3 +1,4 @@
 pub mod AnyDrawn
 pub mod Drawn
+pub mod Fronts
 pub mod Lawful

@@ -5,6 +5,7 @@ ghost use Rattle.seeded_draw.specs.AnyDrawn.{any_draw, any_is_lawful};
 ghost use Rattle.store_model.specs.Draws.{draw_of};
 
 use crate::draw::Draw;
+use crate::front::Front;
 use crate::ruler::RulerDraw;
 use crate::sha::ShaDraw;
 use store_base::{DrawKind, Key, Label, Params};
@@ -61,6 +62,13 @@ impl Draw for AnyDraw {
         match self {
             AnyDraw::Ruler(draw) => draw.level(key),
             AnyDraw::Sha256(draw) => draw.level(key),
+        }
+    }
+
+    fn level_from(&self, front: &mut Front, key: &Key) -> u8 {
+        match self {
+            AnyDraw::Ruler(draw) => draw.level_from(front, key),
+            AnyDraw::Sha256(draw) => draw.level_from(front, key),
         }
     }
 }

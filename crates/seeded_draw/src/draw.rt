@@ -4,6 +4,7 @@ ghost use Rattle.std.specs.Prelude.{◌≡◌};
 ghost use Rattle.store_model.specs.Labels.{IsLabel};
 ghost use Rattle.store_model.specs.Draws as draws;
 
+use crate::front::Front;
 use store_base::{Key, Label};
 
 /// A draw: two functions with bounds. The same label always has the same start, and the same key the same
@@ -28,6 +29,14 @@ pub trait Draw {
     /// The highest level on which the key stands, below `height`.
     fn level(&self, key: &Key) -> u8
         ensures { result ≡ (drawn self.now).level key.now };
+
+    /// As `level`, by what is kept of the key that was drawn for last: of keys that begin alike less is digested.
+    fn level_from(&self, front: &mut Front, key: &Key) -> u8
+        ensures { result ≡ (drawn self.now).level key.now }
+    {
+        let _ = front;
+        self.level(key)
+    }
 
     /// Starts lie in the table, and levels below the height.
     ghost lawful: { (d : Self) → draws.IsLawful (drawn d) };

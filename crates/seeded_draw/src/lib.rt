@@ -4,10 +4,12 @@
 
 mod any;
 mod draw;
+mod front;
 mod ruler;
 mod sha;
 
 pub use any::AnyDraw;
 pub use draw::Draw;
+pub use front::Front;
 pub use ruler::RulerDraw;
 pub use sha::{ShaDraw, level_of_digest, start_of_digest};

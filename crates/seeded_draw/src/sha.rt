@@ -1,6 +1,6 @@
 //! The draw `sha256`, by digests of the seed and the label or key.
 
-ghost use Rattle.std.specs.Prelude.{◌≡◌, ◌≤◌, ◌==◌, ◌∷◌, ◌++◌, length};
+ghost use Rattle.std.specs.Prelude.{◌≡◌, ◌≤◌, ◌==◌, ◌+◌, ◌∷◌, ◌++◌, length};
 ghost use Rattle.std.specs.List.{prefix_len};
 ghost use Rattle.sha2.specs.Sha256.{sha256};
 ghost use Rattle.seeded_draw.specs.Drawn.{sha256_draw};
@@ -8,8 +8,29 @@ ghost use Rattle.seeded_draw.specs.Lawful.{sha256_is_lawful};
 ghost use Rattle.store_model.specs.Draws.{start_of_digest, level_of_digest, hex_digits};
 
 use crate::draw::Draw;
+use crate::front::Front;
+use arrayvec::ArrayVec;
 use sha2::{Digest, Sha256};
 use store_base::{Key, Label, Params};
+
+/// The byte behind the seed in what a start is drawn from.
+const START_BYTE: u8 = 0x53;
+
+/// The byte behind the seed in what a level is drawn from.
+const LEVEL_BYTE: u8 = 0x4c;
+
+/// What a draw is made from has no more bytes: the seed, a byte, and a label.
+const MOST_LEN: usize = 163;
+
+/// Adds bytes behind those of a message, which has room for them.
+fn add(message: &mut ArrayVec<u8, MOST_LEN>, bytes: &[u8])
+    requires { length message.old.items + length bytes.now ≤ MOST_LEN }
+    ensures { message.new.items ≡ message.old.items ++ bytes.now }
+{
+    let Ok(()) = message.try_extend_from_slice(bytes) else {
+        unreachable!()
+    };
+}
 
 /// The slot that a digest draws, below `slots`: the number in its first eight bytes, high byte first,
 /// modulo `slots`, which is at least 1.
@@ -74,15 +95,16 @@ impl ShaDraw {
         }
     }
 
-    /// SHA-256 of the seed, a byte and more bytes.
-    fn digest(&self, byte: u8, bytes: &[u8]) -> [u8; 32]
-        ensures { result ≡ sha256 (self.now.seed ++ byte ∷ bytes.now) }
+    /// The seed, a byte and more bytes, of which it has room for those of a label.
+    fn message(&self, byte: u8, bytes: &[u8]) -> ArrayVec<u8, MOST_LEN>
+        requires { length bytes.now ≤ 130 }
+        ensures { result.items ≡ self.now.seed ++ byte ∷ bytes.now }
     {
-        let mut hasher = Sha256::new();
-        hasher.update(self.seed.as_slice());
-        hasher.update([byte].as_slice());
-        hasher.update(bytes);
-        hasher.finalize()
+        let mut message = ArrayVec::new();
+        add(&mut message, &self.seed);
+        add(&mut message, &[byte]);
+        add(&mut message, bytes);
+        message
     }
 }
 
@@ -101,11 +123,19 @@ impl Draw for ShaDraw {
 
     #[tactic(auto, unfolding(store_model::specs::Draws::sha256_start))]
     fn start(&self, label: &Label) -> u32 {
-        start_of_digest(&self.digest(0x53, &label.to_bytes()), self.slots)
+        let message = self.message(START_BYTE, &label.to_bytes());
+        start_of_digest(&Sha256::digest(message.as_slice()), self.slots)
     }
 
     #[tactic(auto, unfolding(store_model::specs::Draws::sha256_level))]
     fn level(&self, key: &Key) -> u8 {
-        level_of_digest(&self.digest(0x4c, key.as_bytes()), self.height)
+        let message = self.message(LEVEL_BYTE, key.as_bytes());
+        level_of_digest(&Sha256::digest(message.as_slice()), self.height)
+    }
+
+    #[tactic(auto, unfolding(store_model::specs::Draws::sha256_level))]
+    fn level_from(&self, front: &mut Front, key: &Key) -> u8 {
+        let message = self.message(LEVEL_BYTE, key.as_bytes());
+        level_of_digest(&front.digest(message.as_slice()), self.height)
     }
 }

@@ -1,4 +1,4 @@
-use Rattle.std.proofs.Common.{◌≡◌, ◌≤◌, length, drop, refl, arith}
+use Rattle.std.proofs.Common.{◌≤◌, length, drop, refl, arith}
 use Rattle.std.proofs.lemmas.List.{length-drop, take_all}
 use Rattle.seeded_draw.proofs.ruler.block_number.Goals as goal
 
