@@ -1,4 +1,5 @@
 pub mod Reading
+pub mod Ordering
 pub mod Searching
 pub mod Inserting
 pub mod InsertCalls

@@ -38,6 +38,12 @@ seen table slots at bytes are within got =
       bytes_are = same_Some bytes (slot_bytes (get_or table at None)) (sym got ∙ ap (λ (ss : List (List ℕ)). slice_get ss at) are ∙ slice_get-map slot_bytes table at ∙ ap (option_map slot_bytes) there);
     }
 
+-- what a table holds in a slot, whose bytes stand there
+pub stands_in : (table : Table) (slots : List (List ℕ)) (at : ℕ) → slots ≡ slots_of table → at < length table → (what : Option Page) × (slice_get table at ≡ Some what) × (slice_get slots at ≡ Some (slot_bytes what))
+stands_in table slots at are within =
+    let there = slice_get-get_or table at None within in
+    (get_or table at None, there, ap (λ (ss : List (List ℕ)). slice_get ss at) are ∙ slice_get-map slot_bytes table at ∙ ap (option_map slot_bytes) there)
+
 -- a page that a table holds is one
 pub seen_page : (d : Draw) (table : Table) (at : ℕ) (what : Option Page) (page : Page) → IsOrderedTable d table → slice_get table at ≡ Some what → what ≡ Some page → IsPage page
 seen_page d table at what page is there same = held_page table at page is.pages (there ∙ ap Some same)

@@ -25,10 +25,10 @@ use Rattle.store_model.proofs.PlacementLemmasTables.{tied_label_bytes}
 use Rattle.store_model.proofs.TreesLemmasBytes.{labels_same}
 use Rattle.store_model.proofs.PageMapsLemmas.{IsOrderedTable-page_map, pages_of_placed_map, found_stands, standing_found}
 use Rattle.store_base.specs.declared.store_fault.Fault.{Fault}
-use Rattle.store_base.specs.SlotsState.{SlotsState, IsObservable, AreSlotCalls, IsGet}
+use Rattle.store_base.specs.SlotsState.{SlotsState, IsObservable, AreSlotCalls}
 use Rattle.store_base.proofs.SlotsCalls.{AreSlotCalls-none, AreSlotCalls-then, AreSlotCalls-value, AreSlotCalls-fault, IsObservable-later}
-use Rattle.ordered_table.specs.Tables.{is_passed, looks, IsSlotOf, Finds, Looks}
-use Rattle.ordered_table.proofs.Reading.{probe_first, probe_next, probe_within, Seen, seen, seen_page}
+use Rattle.ordered_table.specs.Tables.{is_passed, looks, TellsOrder, Orders, IsSlotOf, Finds, Looks}
+use Rattle.ordered_table.proofs.Reading.{probe_first, probe_next, probe_within, stands_in, seen_page}
 
 -- ---- how many slots a search looks at
 
@@ -187,31 +187,23 @@ searching_starts d state l at law here = record {
 pub searching_within : (d : Draw) (old now : SlotsState) (l : Label) (look at : ℕ) → IsLawful d → old.count ≡ d.slots → Searching d old now l look at → at < d.slots
 searching_within d old now l look at law count s = subst (λ (n : ℕ). n < d.slots) (sym s.place) (probe_within d.slots (d.start l) look (law.start_in_range l))
 
--- what a read of the next slot tells
-pub record LooksAt (d : Draw) (old now new : SlotsState) (l : Label) (look at : ℕ) (buffer : List ℕ) (order : Option Ordering) : Type 0 where
+-- what a comparison in the next slot tells
+pub record LooksAt (d : Draw) (old now new : SlotsState) (l : Label) (look at : ℕ) (order : Option Ordering) : Type 0 where
   law : IsLawful d
   count : old.count ≡ d.slots
   within : look < d.slots
   searching : Searching d old now l look at
-  get : IsGet {T = Unit {0}} now new at buffer (Ok tt)
-  free : buffer ≡ slot_bytes None → order ≡ None
-  page : (page : Page) → IsPage page → buffer ≡ slot_bytes (Some page) → order ≡ Some (label_cmp page.label l)
+  orders : Orders now new at (label_bytes l) (Ok order)
 
-pub looks_at : (d : Draw) (old now new : SlotsState) (l : Label) (look at : ℕ) (buffer : List ℕ) (order : Option Ordering) → IsLawful d → old.count ≡ d.slots → look < d.slots → Searching d old now l look at
-    → IsGet {T = Unit {0}} now new at buffer (Ok tt) → (buffer ≡ slot_bytes None → order ≡ None) → ((page : Page) → IsPage page → buffer ≡ slot_bytes (Some page) → order ≡ Some (label_cmp page.label l))
-    → LooksAt d old now new l look at buffer order
-looks_at d old now new l look at buffer order law count within searching get free page = record { law = law; count = count; within = within; searching = searching; get = get; free = free; page = page }
+pub looks_at : (d : Draw) (old now new : SlotsState) (l : Label) (look at : ℕ) (wanted : List ℕ) (order : Option Ordering) → IsLawful d → old.count ≡ d.slots → look < d.slots → Searching d old now l look at
+    → Orders now new at wanted (Ok order) → wanted ≡ label_bytes l → LooksAt d old now new l look at order
+looks_at d old now new l look at wanted order law count within searching orders same =
+    record { law = law; count = count; within = within; searching = searching; orders = subst (λ (bytes : List ℕ). Orders now new at bytes (Ok order)) same orders }
 
 -- what is told of a slot is told of what the table holds there
-told : (l : Label) (what : Option Page) (buffer : List ℕ) (order : Option Ordering) → ((page : Page) → what ≡ Some page → IsPage page) → buffer ≡ slot_bytes what
-    → (buffer ≡ slot_bytes None → order ≡ None) → ((page : Page) → IsPage page → buffer ≡ slot_bytes (Some page) → order ≡ Some (label_cmp page.label l)) → order ≡ order_by l what
-told l None buffer order valid are free page = free are
-told l (Some p) buffer order valid are free page = page p (valid p refl) are
-
--- how a page's label stands to one, from how it stands to its bytes
-pub by_bytes : (slot bytes : List ℕ) (l : Label) (order : Option Ordering) → ((page : Page) → IsPage page → slot ≡ slot_bytes (Some page) → order ≡ Some (slice_cmp nat_cmp (label_bytes page.label) bytes)) → bytes ≡ label_bytes l
-    → (page : Page) → IsPage page → slot ≡ slot_bytes (Some page) → order ≡ Some (label_cmp page.label l)
-by_bytes slot bytes l order page_is same page is held = page_is page is held ∙ ap (λ (xs : List ℕ). Some (slice_cmp nat_cmp (label_bytes page.label) xs)) same
+told : (l : Label) (what : Option Page) (order : Option Ordering) → ((page : Page) → what ≡ Some page → IsPage page) → TellsOrder (slot_bytes what) (label_bytes l) order → order ≡ order_by l what
+told l None order valid tells = tells.free refl
+told l (Some page) order valid tells = tells.page page (valid page refl) refl
 
 -- the table holds there what was told
 record TellsOf (d : Draw) (table : Table) (l : Label) (look at : ℕ) (order : Option Ordering) : Type 0 where
@@ -220,33 +212,32 @@ record TellsOf (d : Draw) (table : Table) (l : Label) (look at : ℕ) (order : O
   in_probes : slice_get table (probe d.slots (d.start l) look) ≡ Some what
   order_is : order ≡ order_by l what
 
-tells : (d : Draw) (old now new : SlotsState) (l : Label) (look at : ℕ) (buffer : List ℕ) (order : Option Ordering) → LooksAt d old now new l look at buffer order → IsObservable old
+tells : (d : Draw) (old now new : SlotsState) (l : Label) (look at : ℕ) (order : Option Ordering) → LooksAt d old now new l look at order → IsObservable old
     → (table : Table) → IsOrderedTable d table → old.slots ≡ slots_of table → TellsOf d table l look at order
-tells d old now new l look at buffer order s observable table is are =
+tells d old now new l look at order s observable table is are =
     let within : at < length table = omega (arith, searching_within d old now l look at s.law s.count s.searching, is.slots) in
-    let got = (s.get.observed (IsObservable-later old now (Ok tt) s.searching.calls observable)).got in
-    let here = seen table now.slots at buffer (s.searching.reads observable ∙ are) within got in
+    let here = stands_in table now.slots at (s.searching.reads observable ∙ are) within in
     record {
-      what = here.what;
-      there = here.there;
-      in_probes = ap (slice_get table) (sym s.searching.place) ∙ here.there;
-      order_is = told l here.what buffer order (λ page same. seen_page d table at here.what page is here.there same) here.bytes_are s.free s.page;
+      what = here.0;
+      there = here.1;
+      in_probes = ap (slice_get table) (sym s.searching.place) ∙ here.1;
+      order_is = told l here.0 order (λ page same. seen_page d table at here.0 page is here.1 same) (s.orders.told (slot_bytes here.0) (IsObservable-later old now (Ok tt) s.searching.calls observable) here.2);
     }
 
 -- the calls so far
-searched : (d : Draw) (old now new : SlotsState) (l : Label) (look at : ℕ) (buffer : List ℕ) (order : Option Ordering) → LooksAt d old now new l look at buffer order → AreSlotCalls {T = Unit {0}} old new (Ok tt)
-searched d old now new l look at buffer order s = AreSlotCalls-then old now new tt (Ok tt) s.searching.calls s.get.calls
+searched : (d : Draw) (old now new : SlotsState) (l : Label) (look at : ℕ) (order : Option Ordering) → LooksAt d old now new l look at order → AreSlotCalls {T = Unit {0}} old new (Ok tt)
+searched d old now new l look at order s = AreSlotCalls-value old new order tt (AreSlotCalls-then old now new tt (Ok order) s.searching.calls s.orders.calls)
 
-still_read : (d : Draw) (old now new : SlotsState) (l : Label) (look at : ℕ) (buffer : List ℕ) (order : Option Ordering) → LooksAt d old now new l look at buffer order → IsObservable old → new.slots ≡ old.slots
-still_read d old now new l look at buffer order s observable = (s.get.observed (IsObservable-later old now (Ok tt) s.searching.calls observable)).slots ∙ s.searching.reads observable
+still_read : (d : Draw) (old now new : SlotsState) (l : Label) (look at : ℕ) (order : Option Ordering) → LooksAt d old now new l look at order → IsObservable old → new.slots ≡ old.slots
+still_read d old now new l look at order s observable = s.orders.reads (IsObservable-later old now (Ok tt) s.searching.calls observable) ∙ s.searching.reads observable
 
 -- it goes on behind a page of smaller label
-pub searching_goes_on : (d : Draw) (old now new : SlotsState) (l : Label) (look at : ℕ) (buffer : List ℕ) (order : Option Ordering) (next : ℕ) → LooksAt d old now new l look at buffer order
+pub searching_goes_on : (d : Draw) (old now new : SlotsState) (l : Label) (look at : ℕ) (order : Option Ordering) (next : ℕ) → LooksAt d old now new l look at order
     → order ≡ Some Less → next ≡ (at + 1) % d.slots → Searching d old new l (look + 1) next
-searching_goes_on d old now new l look at buffer order next s less is_next = record {
-  calls = searched d old now new l look at buffer order s;
+searching_goes_on d old now new l look at order next s less is_next = record {
+  calls = searched d old now new l look at order s;
   place = is_next ∙ probe_next d.slots (d.start l) look at s.searching.place;
-  reads = still_read d old now new l look at buffer order s;
+  reads = still_read d old now new l look at order s;
   passed = λ observable table is are k below. one_more observable table is are k (cases_lt k look) below;
 }
   where
@@ -254,17 +245,17 @@ searching_goes_on d old now new l look at buffer order next s less is_next = rec
     one_more observable table is are k (inl before) below = s.searching.passed observable table is are k before
     one_more observable table is are k (inr behind) below =
         let here : look ≡ k = omega arith in
-        let t = tells d old now new l look at buffer order s observable table is are in
+        let t = tells d old now new l look at order s observable table is are in
         subst (λ (n : ℕ). is_passed l (slice_get table (probe d.slots (d.start l) n)) ≡ true) here (ap (is_passed l) t.in_probes ∙ passed_is_less l t.what (sym t.order_is ∙ less))
 
 -- ---- what it answers
 
 -- a fault of the slots
-pub finds_fails : (d : Draw) (old now new : SlotsState) (l : Label) (look at before steps after : ℕ) (buffer : List ℕ) (fault : Fault) → IsLawful d → old.count ≡ d.slots → look < d.slots → Searching d old now l look at
-    → IsGet {T = Unit {0}} now new at buffer (Err fault) → steps ≡ before + look → after ≡ steps + 1 → Finds d old new l before after (Err fault)
-finds_fails d old now new l look at before steps after buffer fault law count within s get counted ticked = record {
-  calls = AreSlotCalls-then old now new tt (Err fault) s.calls (AreSlotCalls-fault now new fault get.calls);
-  reads = λ observable. (get.observed (IsObservable-later old now (Ok tt) s.calls observable)).slots ∙ s.reads observable;
+pub finds_fails : (d : Draw) (old now new : SlotsState) (l : Label) (look at before steps after : ℕ) (wanted : List ℕ) (fault : Fault) → IsLawful d → old.count ≡ d.slots → look < d.slots → Searching d old now l look at
+    → Orders now new at wanted (Err fault) → steps ≡ before + look → after ≡ steps + 1 → Finds d old new l before after (Err fault)
+finds_fails d old now new l look at before steps after wanted fault law count within s orders counted ticked = record {
+  calls = AreSlotCalls-then old now new tt (Err fault) s.calls (AreSlotCalls-fault now new fault orders.calls);
+  reads = λ observable. orders.reads (IsObservable-later old now (Ok tt) s.calls observable) ∙ s.reads observable;
   within = tt;
   most = omega (arith, counted, ticked, count, within);
   found = λ m observable holds.
@@ -283,17 +274,17 @@ same_label_there l None same = cc
 same_label_there l (Some page) same = (page, refl, same_Some (label_cmp page.label l) Equal same)
 
 -- the slot that holds the label
-pub finds_found : (d : Draw) (old now new : SlotsState) (l : Label) (look at before steps after : ℕ) (buffer : List ℕ) (order : Option Ordering) → LooksAt d old now new l look at buffer order
+pub finds_found : (d : Draw) (old now new : SlotsState) (l : Label) (look at before steps after : ℕ) (order : Option Ordering) → LooksAt d old now new l look at order
     → order ≡ Some Equal → steps ≡ before + look → after ≡ steps + 1 → Finds d old new l before after (Ok (Some at))
-finds_found d old now new l look at before steps after buffer order s same counted ticked = record {
-  calls = AreSlotCalls-value old new tt (Some at) (searched d old now new l look at buffer order s);
-  reads = still_read d old now new l look at buffer order s;
+finds_found d old now new l look at before steps after order s same counted ticked = record {
+  calls = AreSlotCalls-value old new tt (Some at) (searched d old now new l look at order s);
+  reads = still_read d old now new l look at order s;
   within = omega (arith, searching_within d old now l look at s.law s.count s.searching, s.count);
   most = omega (arith, counted, ticked, s.count, s.within);
   found = λ m observable holds.
       let table = place d (pages_of_map m) in
       let is = held_table d old.slots m s.law holds in
-      let t = tells d old now new l look at buffer order s observable table is.ordered is.slots_are in
+      let t = tells d old now new l look at order s observable table is.ordered is.slots_are in
       let p = same_label_there l t.what (sym t.order_is ∙ same) in
       let held : HoldsPage table at p.0 = t.there ∙ ap Some p.1 in
       let in_map : page_at m l ≡ Some p.0 = ap (maps.get m) (sym (tied_label_bytes p.0.label l p.2)) ∙ standing_found d old.slots m table at p.0 s.law is held in
@@ -315,17 +306,17 @@ finds_found d old now new l look at before steps after buffer order s same count
     some_is_no_none page e = cc
 
 -- no slot, where it ends at a free slot or at a page of greater label
-pub finds_ended : (d : Draw) (old now new : SlotsState) (l : Label) (look at before steps after : ℕ) (buffer : List ℕ) (order : Option Ordering) → LooksAt d old now new l look at buffer order → IsLabel l
+pub finds_ended : (d : Draw) (old now new : SlotsState) (l : Label) (look at before steps after : ℕ) (order : Option Ordering) → LooksAt d old now new l look at order → IsLabel l
     → (order ≡ Some Less → ⊥) → (order ≡ Some Equal → ⊥) → steps ≡ before + look → after ≡ steps + 1 → Finds d old new l before after (Ok None)
-finds_ended d old now new l look at before steps after buffer order s label not_less not_equal counted ticked = record {
-  calls = AreSlotCalls-value old new tt None (searched d old now new l look at buffer order s);
-  reads = still_read d old now new l look at buffer order s;
+finds_ended d old now new l look at before steps after order s label not_less not_equal counted ticked = record {
+  calls = AreSlotCalls-value old new tt None (searched d old now new l look at order s);
+  reads = still_read d old now new l look at order s;
   within = tt;
   most = omega (arith, counted, ticked, s.count, s.within);
   found = λ m observable holds.
       let table = place d (pages_of_map m) in
       let is = held_table d old.slots m s.law holds in
-      let t = tells d old now new l look at buffer order s observable table is.ordered is.slots_are in
+      let t = tells d old now new l look at order s observable table is.ordered is.slots_are in
       let passed = s.searching.passed observable table is.ordered is.slots_are in
       let ends = ap (is_passed l) t.in_probes ∙ not_passed l t.what (λ less. not_less (t.order_is ∙ less)) in
       let exact : after ≡ before + looks d table l = omega (arith, counted, ticked, looks_end d table l look s.within passed ends) in
@@ -368,22 +359,20 @@ finds_none d old now l look at before after law count all most s label counted =
 
 -- ---- a look into one slot
 
--- what was read of the slot
-pub record LooksInto (d : Draw) (old new : SlotsState) (at : ℕ) (l : Label) (buffer : List ℕ) (order : Option Ordering) : Type 0 where
+-- what is told of the slot
+pub record LooksInto (d : Draw) (old new : SlotsState) (at : ℕ) (l : Label) (order : Option Ordering) : Type 0 where
   law : IsLawful d
   within : at < d.slots
-  get : IsGet {T = Unit {0}} old new at buffer (Ok tt)
-  free : buffer ≡ slot_bytes None → order ≡ None
-  page : (page : Page) → IsPage page → buffer ≡ slot_bytes (Some page) → order ≡ Some (label_cmp page.label l)
+  orders : Orders old new at (label_bytes l) (Ok order)
 
-pub looks_into : (d : Draw) (old new : SlotsState) (at : ℕ) (l : Label) (buffer : List ℕ) (order : Option Ordering) → IsLawful d → old.count ≡ d.slots → at < old.count → IsGet {T = Unit {0}} old new at buffer (Ok tt)
-    → (buffer ≡ slot_bytes None → order ≡ None) → ((page : Page) → IsPage page → buffer ≡ slot_bytes (Some page) → order ≡ Some (label_cmp page.label l)) → LooksInto d old new at l buffer order
-looks_into d old new at l buffer order law count below get free page = record { law = law; within = omega (arith, count, below); get = get; free = free; page = page }
+pub looks_into : (d : Draw) (old new : SlotsState) (at : ℕ) (l : Label) (wanted : List ℕ) (order : Option Ordering) → IsLawful d → old.count ≡ d.slots → at < old.count → Orders old new at wanted (Ok order) → wanted ≡ label_bytes l → LooksInto d old new at l order
+looks_into d old new at l wanted order law count below orders same =
+    record { law = law; within = omega (arith, count, below); orders = subst (λ (bytes : List ℕ). Orders old new at bytes (Ok order)) same orders }
 
 -- the page of the label stands in a slot of which just this is told
-stands_there : (d : Draw) (old new : SlotsState) (at : ℕ) (l : Label) (buffer : List ℕ) (order : Option Ordering) → LooksInto d old new at l buffer order → (m : PageMap) → IsObservable old → HoldsPages d old.slots m
+stands_there : (d : Draw) (old new : SlotsState) (at : ℕ) (l : Label) (order : Option Ordering) → LooksInto d old new at l order → (m : PageMap) → IsObservable old → HoldsPages d old.slots m
     → (order ≡ Some Equal) ↔ IsSlotOf old.slots m l at
-stands_there d old new at l buffer order s m observable holds = (there, back)
+stands_there d old new at l order s m observable holds = (there, back)
   where
     table : Table
     table = place d (pages_of_map m)
@@ -391,42 +380,37 @@ stands_there d old new at l buffer order s m observable holds = (there, back)
     is : IsTableOf d old.slots m table
     is = held_table d old.slots m s.law holds
 
-    got : slice_get old.slots at ≡ Some buffer
-    got = (s.get.observed observable).got
-
-    what : Seen table at buffer
-    what = let within = s.within in seen table old.slots at buffer is.slots_are (omega (arith, within, is.ordered.slots)) got
+    what : (what : Option Page) × (slice_get table at ≡ Some what) × (slice_get old.slots at ≡ Some (slot_bytes what))
+    what = let within = s.within in stands_in table old.slots at is.slots_are (omega (arith, within, is.ordered.slots))
 
     there : order ≡ Some Equal → IsSlotOf old.slots m l at
     there same =
-        let order_is = told l what.what buffer order (λ page e. seen_page d table at what.what page is.ordered what.there e) what.bytes_are s.free s.page in
-        let p = same_label_there l what.what (sym order_is ∙ same) in
-        let held : HoldsPage table at p.0 = what.there ∙ ap Some p.1 in
+        let order_is = told l what.0 order (λ page e. seen_page d table at what.0 page is.ordered what.1 e) (s.orders.told (slot_bytes what.0) observable what.2) in
+        let p = same_label_there l what.0 (sym order_is ∙ same) in
         record {
           page = p.0;
-          in_map = ap (maps.get m) (sym (tied_label_bytes p.0.label l p.2)) ∙ standing_found d old.slots m table at p.0 s.law is held;
-          in_slot = ap (λ (ss : List (List ℕ)). slice_get ss at) is.slots_are ∙ slice_get-map slot_bytes table at ∙ ap (option_map slot_bytes) held;
+          in_map = ap (maps.get m) (sym (tied_label_bytes p.0.label l p.2)) ∙ standing_found d old.slots m table at p.0 s.law is (what.1 ∙ ap Some p.1);
+          in_slot = what.2 ∙ ap (λ (o : Option Page). Some (slot_bytes o)) p.1;
         }
 
     back : IsSlotOf old.slots m l at → order ≡ Some Equal
     back slot =
         let under = holds.pages (label_bytes l) slot.page slot.in_map in
-        let bytes : buffer ≡ slot_bytes (Some slot.page) = same_Some buffer (slot_bytes (Some slot.page)) (sym got ∙ slot.in_slot) in
         let tied : label_cmp slot.page.label l ≡ Equal = ap (λ (b : List ℕ). slice_cmp nat_cmp b (label_bytes l)) (sym under.under) ∙ tied_itself nat_list_cmp_total (label_bytes l) in
-        s.page slot.page under.valid bytes ∙ ap Some tied
+        (s.orders.told (slot_bytes (Some slot.page)) observable slot.in_slot).page slot.page under.valid refl ∙ ap Some tied
 
 -- the answer
-pub looks_told : (d : Draw) (old new : SlotsState) (at : ℕ) (l : Label) (buffer : List ℕ) (order : Option Ordering) (is_there : Bool) → LooksInto d old new at l buffer order → (is_there ≡ true → order ≡ Some Equal) → (order ≡ Some Equal → is_there ≡ true)
+pub looks_told : (d : Draw) (old new : SlotsState) (at : ℕ) (l : Label) (order : Option Ordering) (is_there : Bool) → LooksInto d old new at l order → (is_there ≡ true → order ≡ Some Equal) → (order ≡ Some Equal → is_there ≡ true)
     → Looks d old new at l (Ok is_there)
-looks_told d old new at l buffer order is_there s says equal = record {
-  calls = AreSlotCalls-value old new tt is_there s.get.calls;
-  reads = λ observable. (s.get.observed observable).slots;
-  there = λ m observable holds. let both = stands_there d old new at l buffer order s m observable holds in (λ e. both.0 (says e), λ slot. equal (both.1 slot));
+looks_told d old new at l order is_there s says equal = record {
+  calls = AreSlotCalls-value old new order is_there s.orders.calls;
+  reads = s.orders.reads;
+  there = λ m observable holds. let both = stands_there d old new at l order s m observable holds in (λ e. both.0 (says e), λ slot. equal (both.1 slot));
 }
 
 -- a fault of the slots
-pub looks_fail : (d : Draw) (old new : SlotsState) (at : ℕ) (l : Label) (buffer : List ℕ) (fault : Fault) → IsGet {T = Unit {0}} old new at buffer (Err fault) → Looks d old new at l (Err fault)
-looks_fail d old new at l buffer fault get = record { calls = AreSlotCalls-fault old new fault get.calls; reads = λ observable. (get.observed observable).slots; there = λ m observable holds. tt }
+pub looks_fail : (d : Draw) (old new : SlotsState) (at : ℕ) (l : Label) (wanted : List ℕ) (fault : Fault) → Orders old new at wanted (Err fault) → Looks d old new at l (Err fault)
+looks_fail d old new at l wanted fault orders = record { calls = AreSlotCalls-fault old new fault orders.calls; reads = orders.reads; there = λ m observable holds. tt }
 
 pub is_equal : (o : Ordering) → is_eq o ≡ true → o ≡ Equal
 is_equal Less e = cc

@@ -1,11 +1,13 @@
 -- What the calls on an ordered table answer, and what they leave.
 use Rattle.std.specs.Prelude.{◌≡◌, ◌↔◌, ℕ, ◌+◌, ◌<◌, ◌≤◌, min, List, Bool, false, IsTrue, Option, None, Some, Result, IsNone, IfSome, IfOk, OnOk, slice_get}
 use Rattle.std.specs.List.{prefix_len}
-use Rattle.std.specs.Ordering.{is_lt}
+use Rattle.std.specs.declared.cmp.Ordering.{Ordering}
+use Rattle.std.specs.Ordering.{nat_cmp, is_lt}
+use Rattle.std.specs.Cmp.Lexicographic.{slice_cmp}
 use Rattle.std.specs.FinMap as maps
-use Rattle.store_model.specs.Labels.{Label, label_cmp}
+use Rattle.store_model.specs.Labels.{Label, label_bytes, label_cmp}
 use Rattle.store_model.specs.Draws.{Draw}
-use Rattle.store_model.specs.Pages.{Page}
+use Rattle.store_model.specs.Pages.{Page, IsPage}
 use Rattle.store_model.specs.Placement.{Table, probes, place}
 use Rattle.store_model.specs.Images.{slot_bytes}
 use Rattle.store_model.specs.PageMaps.{PageMap, page_at, with_page, without_page, pages_of_map, HoldsPages}
@@ -21,6 +23,17 @@ is_passed l (Some (Some page)) = is_lt (label_cmp page.label l)
 -- how many slots a search reads: those of the probe sequence that it goes past and the one that ends it, or all where none does
 unfoldable pub looks : Draw → Table → Label → ℕ
 looks d table l = min d.slots (1 + prefix_len (λ slot. is_passed l (slice_get table slot)) (probes d l))
+
+-- how the label of the page that a slot of these bytes holds stands to the one of other bytes; in a free slot there is none
+pub record TellsOrder (slot wanted : List ℕ) (order : Option Ordering) : Type 0 where
+  pub free : slot ≡ slot_bytes None → order ≡ None
+  pub page : (page : Page) → IsPage page → slot ≡ slot_bytes (Some page) → order ≡ Some (slice_cmp nat_cmp (label_bytes page.label) wanted)
+
+-- what a comparison of the label in a slot does: it only reads, and tells how that label stands to the one of these bytes
+pub record Orders (old new : SlotsState) (at : ℕ) (wanted : List ℕ) (result : Result (Option Ordering) Fault) : Type 0 where
+  pub calls : AreSlotCalls old new result
+  pub reads : IsObservable old → new.slots ≡ old.slots
+  pub told : (slot : List ℕ) → IsObservable old → slice_get old.slots at ≡ Some slot → IfOk result (TellsOrder slot wanted)
 
 -- the slot holds the page that the map has under the label
 pub record IsSlotOf (slots : List (List ℕ)) (m : PageMap) (l : Label) (at : ℕ) : Type 0 where

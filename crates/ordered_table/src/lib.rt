@@ -11,12 +11,14 @@
 
 mod change;
 mod mem_slots;
+mod order;
 mod round;
 mod search;
 mod steps;
 
 pub use change::{insert, insert_from, overwrite};
 pub use mem_slots::MemSlots;
+pub use order::{OrderSlots, order_of};
 pub use round::next_slot;
 pub use search::{find, find_from, holds};
 pub use steps::Steps;

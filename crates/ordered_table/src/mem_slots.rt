@@ -2,6 +2,7 @@
 
 ghost use Rattle.store_base.specs.SlotsState.{AreWhole};
 
+use crate::order::OrderSlots;
 use std::alloc::Global;
 use store_base::{BLOCK, Fault, NoMemory, ReadSlots, Slot, Slots};
 
@@ -123,3 +124,5 @@ impl Slots for MemSlots {
         Ok(())
     }
 }
+
+impl OrderSlots for MemSlots {}

@@ -10,13 +10,13 @@ use Rattle.disk_model.specs.DiskCalls.{IsRead}
 use Rattle.gate_journal.specs.Changes as journal
 use Rattle.gate_journal.specs.Phases.{table_slot}
 use Rattle.gate_journal.specs.Places.{ReadsOnly}
-use Rattle.gate_journal.proofs.Calls.{AreCalls-none, AreCalls-one}
+use Rattle.gate_journal.proofs.Calls.{AreCalls-none, AreCalls-one, AreCalls-answered, AreCalls-failed}
 use Rattle.gate_journal.proofs.Layouts.{with-slots-changed, with-slots-kept}
 use Rattle.gate_journal.proofs.Reading.{ReadsOnly-refl, ReadsOnly-read}
 use Rattle.lru.specs.LruCache.{LruCache, promoted, put_entries, lru_cache}
 use Rattle.page_store.specs.Differences.{changes_of}
 use Rattle.page_store.proofs.DifferLemmas.{last_or_below}
-use Rattle.page_store.specs.Caches.{Kept, kept_at, IsTableSlot, IsCacheOf, KeepsAll, KeepsFew, most_kept, KeepsOne, Rewrites, RewritesFirst, ReadsSlot}
+use Rattle.page_store.specs.Caches.{Kept, kept_at, IsTableSlot, IsCacheOf, KeepsAll, KeepsFew, most_kept, KeepsOne, Rewrites, RewritesFirst, ReadsSlot, IsOfKept, TellsOfSlot}
 
 same_number : (i j : ℕ) → nat_eq i j ≡ true → i ≡ j
 same_number i j is = grind (arith, is)
@@ -67,7 +67,7 @@ kept_promoted at kept i = by_case (lookup_entry (nat_eq at) kept) refl
         found_first at kept e.1 e i found.0 ∙ same_there e found.1
 
 -- what is found among the first entries is found among all
-kept_in_first : (n : ℕ) (kept : Kept) (i : ℕ) (slot : List ℕ) → kept_at (take n kept) i ≡ Some slot → kept_at kept i ≡ Some slot
+pub kept_in_first : (n : ℕ) (kept : Kept) (i : ℕ) (slot : List ℕ) → kept_at (take n kept) i ≡ Some slot → kept_at kept i ≡ Some slot
 kept_in_first zero kept i slot is = absurd (none-some slot is)
 kept_in_first (suc n) [] i slot is = is
 kept_in_first (suc n) (e ∷ kept) i slot is = (elim (nat_eq i e.0) as (λ b. cond b (Some e.1) (kept_at (take n kept) i) ≡ Some slot → cond b (Some e.1) (kept_at kept i) ≡ Some slot) [
@@ -136,6 +136,9 @@ few_promoted old new at keeps is = subst KeepsFew (sym is) (record { room = keep
 pub few_put : {T E : Type 0} (result : Result T E) (old new : LruCache ℕ (List ℕ)) (at : ℕ) (slot : List ℕ) → KeepsFew old → OnOk result (new ≡ lru_cache (put_entries nat_eq old at slot) old.cap) → OnErr result (new ≡ old) → KeepsFew new
 few_put (Ok value) old new at slot keeps put left = subst KeepsFew (sym put) (record { room = keeps.room; few = long_put old at slot keeps })
 few_put (Err e) old new at slot keeps put left = subst KeepsFew (sym left) keeps
+
+pub few_first : (old new : LruCache ℕ (List ℕ)) (n : ℕ) → KeepsFew old → new ≡ lru_cache (take n old.entries) old.cap → KeepsFew new
+few_first old new n keeps is = subst KeepsFew (sym is) (record { room = keeps.room; few = omega (arith, keeps.few, length-take n old.entries) })
 
 -- ---- several slots
 
@@ -229,6 +232,19 @@ module _ (slots at : ℕ) (old : DiskState) (kept : Kept) (sound : IsObservable 
     slot = λ observable. (cached at buffer found).is observable;
   }
 
+  -- behind a look at what is kept
+  pub cache_kept : (after : Kept) → KeepsAll kept after → IsCacheOf slots old after
+  cache_kept after keeps i slot is = cached i slot (sym (keeps i) ∙ is)
+
+  -- it is kept, and something is told of it
+  pub slot_told : {T : Type 0} (IsOf : List ℕ → T → Type 0) (told : T) (after : Kept) → KeepsAll kept after → IsOfKept kept at IsOf told → TellsOfSlot slots at old old after IsOf (Ok told)
+  slot_told IsOf told after keeps is = record {
+    calls = AreCalls-none old told;
+    reads = λ observable. ReadsOnly-refl old (sound observable);
+    cached = cache_kept after keeps;
+    told = λ observable. subst (λ (slot : List ℕ). IsOf slot told) ((cached at is.slot is.there).is observable) is.is;
+  }
+
   module _ (new : DiskState) (mid : Kept) (buffer : List ℕ) (keeps : KeepsAll kept mid) where
     only_read : {T : Type 0} (result : Result T DiskFault) → IsRead {T = T} old new (table_at slots at) buffer result → IsObservable old → ReadsOnly old new
     only_read {T} result read observable = ReadsOnly-read old new result (table_at slots at) buffer observable read
@@ -259,3 +275,16 @@ module _ (slots at : ℕ) (old : DiskState) (kept : Kept) (sound : IsObservable 
           cached = cache_more slots old new read.call.observable kept cached (only_read (Ok tt) read) mid after at buffer keeps one now;
           slot = shows;
         }
+
+-- something is told of a slot that was read
+pub told_by_read : {T : Type 0} (slots at : ℕ) (old new : DiskState) (kept : Kept) (buffer : List ℕ) (IsOf : List ℕ → T → Type 0) (told : T) → ReadsSlot slots at old new kept buffer {T = Unit {0}} (Ok tt) → IsOf buffer told → TellsOfSlot slots at old new kept IsOf (Ok told)
+told_by_read slots at old new kept buffer IsOf told read is = record {
+  calls = AreCalls-answered old new tt told read.calls;
+  reads = read.reads;
+  cached = read.cached;
+  told = λ observable. subst (λ (slot : List ℕ). IsOf slot told) (read.slot observable) is;
+}
+
+-- and nothing where the read failed
+pub told_nothing : {T : Type 0} (slots at : ℕ) (old new : DiskState) (kept : Kept) (buffer : List ℕ) (IsOf : List ℕ → T → Type 0) (fault : DiskFault) → ReadsSlot slots at old new kept buffer {T = Unit {0}} (Err fault) → TellsOfSlot slots at old new kept IsOf (Err fault)
+told_nothing slots at old new kept buffer IsOf fault read = record { calls = AreCalls-failed old new fault fault read.calls; reads = read.reads; cached = read.cached; told = λ observable. tt }

@@ -1,5 +1,5 @@
 -- Lemmas on a page that is taken away from slots.
-use Rattle.std.proofs.Common.{◌≡◌, ℕ, Bool, true, false, cond, List, ◌∷◌, Option, Some, None, is_some, Ok, refl, sym, ap, subst, ◌∙◌}
+use Rattle.std.proofs.Common.{◌≡◌, ℕ, Bool, true, false, cond, List, [], ◌∷◌, Option, Some, None, is_some, Ok, Err, refl, sym, ap, subst, ◌∙◌}
 use Rattle.std.specs.FinMap as maps
 use Rattle.std.specs.FinMap.{get-remove, same_map, slice_cmp-IsAntisymmetric, nat_cmp-IsAntisymmetric}
 use Rattle.std.specs.Ordering.{nat_cmp, eq_by_cmp}
@@ -8,11 +8,12 @@ use Rattle.store_model.specs.Labels.{Label, label_bytes}
 use Rattle.store_model.specs.Draws.{Draw}
 use Rattle.store_model.specs.Pages.{Page}
 use Rattle.store_model.specs.PageMaps.{PageMap, page_at, without_page, HoldsPages}
+use Rattle.store_base.specs.declared.store_fault.Fault.{Fault}
 use Rattle.store_base.specs.SlotsState.{SlotsState}
 use Rattle.store_base.proofs.SlotsCalls.{AreSlotCalls-none, AreSlotCalls-then, AreSlotCalls-value, IsObservable-later}
 use Rattle.page_store.specs.Lookups.{Locates}
 use Rattle.page_store.specs.Staging.{Changes}
-use Rattle.page_store.specs.Carrying.{TakesPage, TakingPages}
+use Rattle.page_store.specs.Carrying.{TakesPage, taken_by, TakesPages, TakingPages}
 use Rattle.page_store.proofs.ChangeLemmas.{same_when_tied}
 
 -- where there is no page under a label nothing is taken out
@@ -64,3 +65,14 @@ module _ (d : Draw) (old now : SlotsState) (all rest left : Changes) (l : Label)
             let at = here.leads m observable holds in
             record { now = without_page at.now l; holds = taken.taken at.now (IsObservable-later old now (Ok tt) here.calls observable) at.holds; leads = at.leads };
       }
+
+-- one that cannot be taken away
+pub taking_fails : (d : Draw) (old now new : SlotsState) (all rest : Changes) (l : Label) (fault : Fault) → TakingPages d old now all rest → TakesPage {T = Unit {0}} d now new l (Err fault) → TakesPages {T = Unit {0}} d old new all (Err fault)
+taking_fails d old now new all rest l fault so_far fails = record { calls = AreSlotCalls-then old now new tt (Err fault) so_far.calls fails.calls; taken = λ m observable holds. tt }
+
+-- all were gone over
+pub taking_ends : (d : Draw) (old now : SlotsState) (all rest : Changes) → rest ≡ [] → TakingPages d old now all rest → TakesPages {T = Unit {0}} d old now all (Ok tt)
+taking_ends d old now all rest none so_far = record {
+  calls = so_far.calls;
+  taken = λ m observable holds. let at = so_far.leads m observable holds in subst (HoldsPages d now.slots) (ap (taken_by at.now) (sym none) ∙ at.leads) at.holds;
+}

@@ -1,15 +1,16 @@
 -- The loop that lays pages into slots.
-use Rattle.std.proofs.Common.{◌≡◌, ◌<◌, ◌≤◌, ◌+◌, ℕ, Bool, true, false, cond, List, [], ◌∷◌, Option, Some, None, is_some, Ok, refl, sym, ap, subst, ◌∙◌, arith}
+use Rattle.std.proofs.Common.{◌≡◌, ◌<◌, ◌≤◌, ◌+◌, ℕ, Bool, true, false, cond, List, [], ◌∷◌, Option, Some, None, is_some, Ok, Err, refl, sym, ap, subst, ◌∙◌, arith}
 use Rattle.std.specs.FinMap as maps
 use Rattle.std.specs.FinMap.{len-insert}
 use Rattle.std.specs.Cmp.Lexicographic.{nat_list_cmp_total}
 use Rattle.store_model.specs.Labels.{label_bytes}
 use Rattle.store_model.specs.Draws.{Draw}
 use Rattle.store_model.specs.Pages.{Page}
-use Rattle.store_model.specs.PageMaps.{PageMap, page_at, with_page}
+use Rattle.store_model.specs.PageMaps.{PageMap, page_at, with_page, HoldsPages}
+use Rattle.store_base.specs.declared.store_fault.Fault.{Fault}
 use Rattle.store_base.specs.SlotsState.{SlotsState}
 use Rattle.store_base.proofs.SlotsCalls.{AreSlotCalls-none, AreSlotCalls-then, IsObservable-later}
-use Rattle.page_store.specs.Carrying.{LaysPage, laid_by, LayingPages}
+use Rattle.page_store.specs.Carrying.{LaysPage, laid_by, LaysPages, LayingPages}
 
 one_more : (b : Bool) (n : ℕ) → n ≤ cond b n (n + 1)
 one_more true n = omega arith
@@ -50,3 +51,14 @@ module _ (d : Draw) (old now : SlotsState) (all rest left : List (Option Page)) 
             let free : page_at at.now page.label ≡ None → maps.len at.now < d.slots = λ none. let more = new_grows at.now page none in omega (arith, more, later, same, room) in
             record { now = with_page at.now page; holds = laid.laid at.now (IsObservable-later old now (Ok tt) here.calls observable) at.holds free; leads = at.leads };
       }
+
+-- one that cannot be laid
+pub laying_fails : (d : Draw) (old now new : SlotsState) (all rest : List (Option Page)) (page : Page) (fault : Fault) → LayingPages d old now all rest → LaysPage {T = Unit {0}} d now new page (Err fault) → LaysPages {T = Unit {0}} d old new all (Err fault)
+laying_fails d old now new all rest page fault so_far fails = record { calls = AreSlotCalls-then old now new tt (Err fault) so_far.calls fails.calls; laid = λ m observable holds room. tt }
+
+-- all were gone over
+pub laying_ends : (d : Draw) (old now : SlotsState) (all rest : List (Option Page)) → rest ≡ [] → LayingPages d old now all rest → LaysPages {T = Unit {0}} d old now all (Ok tt)
+laying_ends d old now all rest none so_far = record {
+  calls = so_far.calls;
+  laid = λ m observable holds room. let at = so_far.leads m observable holds room in subst (HoldsPages d now.slots) (ap (laid_by at.now) (sym none) ∙ at.leads) at.holds;
+}

@@ -7,7 +7,9 @@ pub mod DifferLemmas
 pub mod FindLemmas
 pub mod LayingLemmas
 pub mod LookupLemmas
+pub mod MapLemmas
 pub mod MemoLemmas
+pub mod StartLemmas
 pub mod OverlayLemmas
 pub mod ScanLemmas
 pub mod SettleLemmas

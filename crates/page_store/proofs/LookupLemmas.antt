@@ -1,5 +1,5 @@
 -- Lemmas on what is found of a label.
-use Rattle.std.proofs.Common.{◌≡◌, ◌↔◌, ℕ, Bool, true, false, List, Option, Some, None, IsNone, Result, Ok, Err, is_some, slice_get, refl, sym, ap, ◌∙◌}
+use Rattle.std.proofs.Common.{◌≡◌, ◌↔◌, ℕ, ◌<◌, Bool, true, false, List, Option, Some, None, IsNone, Result, Ok, Err, is_some, slice_get, refl, sym, ap, subst, ◌∙◌}
 use Rattle.std.proofs.lemmas.Option.{same_Some, none-some}
 use Rattle.std.specs.Map.{lookup}
 use Rattle.std.specs.BTreeMap.{is_at}
@@ -7,10 +7,11 @@ use Rattle.store_model.specs.Labels.{Label, label_bytes, label_cmp}
 use Rattle.store_model.specs.Draws.{Draw}
 use Rattle.store_model.specs.Pages.{Page, IsPage}
 use Rattle.store_model.specs.Images.{page_bytes, slot_bytes}
-use Rattle.store_model.specs.PageMaps.{PageMap, page_at}
+use Rattle.store_model.specs.PageMaps.{PageMap, page_at, HoldsPages}
 use Rattle.store_base.specs.declared.store_fault.Fault.{Fault}
-use Rattle.store_base.specs.SlotsState.{SlotsState, IsGet}
+use Rattle.store_base.specs.SlotsState.{SlotsState, IsObservable, IsGet}
 use Rattle.store_base.proofs.SlotsCalls.{AreSlotCalls-none, AreSlotCalls-then, AreSlotCalls-value, IsObservable-later}
+use Rattle.ordered_table.specs.Tables.{IsSlotOf}
 use Rattle.page_store.specs.Staging.{Changes, with_changes}
 use Rattle.page_store.specs.Lookups.{Locates, Reads, ReadsChanged, Finds}
 use Rattle.page_store.proofs.ChangeLemmas.{page_or, page_at-with_changes}
@@ -27,6 +28,26 @@ page_read d old mid new l at buffer page located got only = record {
       let shows = (got.observed (IsObservable-later old mid (Ok (Some at)) located.calls observable)).got in
       let bytes : slot_bytes (Some there.page) ≡ buffer = same_Some (slot_bytes (Some there.page)) buffer (sym there.in_slot ∙ ap (λ (ss : List (List ℕ)). slice_get ss at) (sym (located.reads observable)) ∙ shows) in
       only there.page (holds.pages (label_bytes l) there.page there.in_map).valid bytes ∙ sym there.in_map;
+}
+
+-- no slot was found
+pub none_read : (d : Draw) (old new : SlotsState) (l : Label) → Locates d old new l (Ok None) → Reads d old new l (Ok None)
+none_read d old new l located = record {
+  calls = AreSlotCalls-value old new None None located.calls;
+  reads = located.reads;
+  found = λ m observable holds. sym ((located.found m observable holds).absent.0 refl);
+}
+
+-- the slot that was found is where it was behind the search
+pub still_located : (d : Draw) (old new : SlotsState) (l : Label) (at : ℕ) → Locates d old new l (Ok (Some at)) → Locates d new new l (Ok (Some at))
+still_located d old new l at located = record {
+  calls = AreSlotCalls-none new (Some at);
+  reads = λ observable. refl;
+  within = subst (λ (n : ℕ). at < n) (sym located.calls.count) located.within;
+  found = λ m observable holds.
+      let before : IsObservable old = sym located.calls.observable ∙ observable in
+      let was = located.found m before (subst (λ (slots : List (List ℕ)). HoldsPages d slots m) (located.reads before) holds) in
+      record { absent = was.absent; slot = subst (λ (slots : List (List ℕ)). IsSlotOf slots m l at) (sym (located.reads before)) was.slot };
 }
 
 -- where something is staged under the label

@@ -2,17 +2,16 @@
 use Rattle.std.proofs.Common.{◌≡◌, ◌≢◌, ◌⊎◌, ℕ, zero, suc, ◌+◌, ◌*◌, ◌<◌, ◌≤◌, Bool, true, false, cond, List, [], ◌∷◌, ◌++◌, length, drop, slice_get, slice_set, slice_index_or, Option, Some, None, Result, Ok, refl, sym, ap, ap₂, subst, ◌∙◌, inl, inr, arith, length-append}
 use Rattle.std.proofs.lemmas.Option.{same_Some, none-some}
 use Rattle.std.specs.FinMap as maps
-use Rattle.std.specs.Int.{w32, from_be_bytes}
-use Rattle.std.specs.List.{AllByRecursion}
-use Rattle.std.specs.List.Sorted.{IsStrictlySortedBy}
+use Rattle.std.specs.Int.{w64, from_be_bytes}
+use Rattle.std.specs.List.{All}
 use Rattle.std.specs.declared.cmp.Ordering.TheVariants.{Less}
 use Rattle.std.specs.Map.{keys_of}
-use Rattle.std.proofs.lemmas.Map.Keys.{sorted_head, sorted_tail}
 use Rattle.std.specs.BTreeMap.{is_at}
 use Rattle.std.specs.Ordering.{nat_cmp, is_eq}
 use Rattle.std.specs.Cmp.{tied_itself}
 use Rattle.std.specs.Cmp.Lexicographic.{slice_cmp, nat_list_cmp_total}
-use Rattle.store_model.specs.Labels.{Label, label_bytes, label_cmp}
+use Rattle.store_model.specs.Labels.{Lead, Label, IsLabel, label_bytes, label_cmp}
+use Rattle.store_model.specs.Labels.Lead.{Start, Leader}
 use Rattle.store_model.specs.Draws.{Draw}
 use Rattle.store_model.specs.Pages.{Page}
 use Rattle.store_model.specs.PageMaps.{PageMap, page_at, HoldsPages}
@@ -20,8 +19,9 @@ use Rattle.store_base.specs.declared.store_fault.Fault.{Fault}
 use Rattle.store_base.specs.SlotsState.{SlotsState, IsObservable, AreSlotCalls}
 use Rattle.store_base.proofs.SlotsCalls.{AreSlotCalls-none}
 use Rattle.page_store.specs.Lookups.{Reads, ReadsChanged}
-use Rattle.page_store.specs.Memos.{checked, place_of, Remembered, IsRemembered, KeepsPlaces, IsKnown, IsMemoOf, Remembers, RemembersMore, staged_at, Renews, IsRenewing}
+use Rattle.page_store.specs.Memos.{wrapped, checked, checksum_from, checksum_of, checksum, place_of, Remembered, IsRemembered, KeepsPlaces, IsKnown, IsMemoOf, Remembers, RemembersMore, staged_at, Renews, IsRenewing}
 use Rattle.page_store.specs.Staging.{Changes, with_changes}
+use Rattle.page_store.proofs.SlotLemmas.{label_in-label_bytes}
 use Rattle.page_store.proofs.LookupLemmas.{staged_read, settled_read}
 use Rattle.ordered_table.proofs.Inserting.{same_or_not}
 use Rattle.page_store.proofs.ChangeLemmas.{page_or, page_at-with_changes, same_when_tied}
@@ -33,20 +33,37 @@ same_label k l tied = sym (same_when_tied (label_bytes k) (label_bytes l) tied)
 -- ---- the checksum
 
 -- one more word
-checked_more : (words : List (List ℕ)) (k word sum sums : ℕ) → k < length words → word ≡ from_be_bytes w32 (slice_index_or words k []) → checked (drop (suc k) words) (sum + word) (sums + (sum + word)) ≡ checked (drop k words) sum sums
+checked_more : (words : List (List ℕ)) (k word sum sums : ℕ) → k < length words → word ≡ from_be_bytes w64 (slice_index_or words k [])
+    → checked (drop (suc k) words) (wrapped (sum + word)) (wrapped (sums + wrapped (sum + word))) ≡ checked (drop k words) sum sums
 checked_more [] k word sum sums within is = absurd (omega (arith, within))
-checked_more (w ∷ words) zero word sum sums within is = ap (λ (n : ℕ). checked words (sum + n) (sums + (sum + n))) is
+checked_more (w ∷ words) zero word sum sums within is = ap (λ (n : ℕ). checked words (wrapped (sum + n)) (wrapped (sums + wrapped (sum + n)))) is
 checked_more (w ∷ words) (suc k) word sum sums within is = checked_more words k word sum sums (omega (arith, within)) is
 
-pub checked_next : (words : List (List ℕ)) (k next word sum sums : ℕ) → next ≡ suc k → k < length words → word ≡ from_be_bytes w32 (slice_index_or words k []) → checked (drop next words) (sum + word) (sums + (sum + word)) ≡ checked (drop k words) sum sums
-checked_next words k next word sum sums after within is = ap (λ (n : ℕ). checked (drop n words) (sum + word) (sums + (sum + word))) after ∙ checked_more words k word sum sums within is
+pub checked_next : (words : List (List ℕ)) (k next word sum sums more most : ℕ) → next ≡ suc k → k < length words → word ≡ from_be_bytes w64 (slice_index_or words k []) → more ≡ wrapped (sum + word) → most ≡ wrapped (sums + more)
+    → checked (drop next words) more most ≡ checked (drop k words) sum sums
+checked_next words k next word sum sums more most after within is adds ends =
+    ap (λ (n : ℕ). checked (drop n words) more most) after
+    ∙ ap₂ (λ (s t : ℕ). checked (drop (suc k) words) s t) adds (ends ∙ ap (λ (n : ℕ). wrapped (sums + n)) adds)
+    ∙ checked_more words k word sum sums within is
 
 -- all of them
-pub checked_all : (words : List (List ℕ)) (k sum sums : ℕ) → length words ≤ k → checked (drop k words) sum sums ≡ sums * 65536 + sum
+pub checked_all : (words : List (List ℕ)) (k sum sums : ℕ) → length words ≤ k → checked (drop k words) sum sums ≡ sums
 checked_all [] zero sum sums all = refl
 checked_all [] (suc k) sum sums all = refl
 checked_all (b ∷ words) zero sum sums all = absurd (omega (arith, all))
 checked_all (b ∷ words) (suc k) sum sums all = checked_all words k sum sums (omega (arith, all))
+
+-- it is that of the label
+checksum-label_bytes : (l : Label) → IsLabel l → checksum (label_bytes l) ≡ checksum_of l
+unfolding checksum
+checksum-label_bytes l valid = ap checksum_of (label_in-label_bytes l valid)
+
+pub checksum_led : (l : Label) (key : List ℕ) (first : ℕ) → IsLabel l → l.lead ≡ Leader key → first ≡ l.level + 256 * l.index → checksum_from (Leader key) first ≡ checksum (label_bytes l)
+checksum_led l key first valid leads is = ap (checksum_from (Leader key)) is ∙ ap (λ (lead : Lead). checksum_from lead (l.level + 256 * l.index)) (sym leads) ∙ sym (checksum-label_bytes l valid)
+
+pub checksum_unled : (l : Label) (first : ℕ) → IsLabel l → l.lead ≡ Start → first ≡ l.level + 256 * l.index → first ≡ checksum (label_bytes l)
+unfolding checksum_from
+checksum_unled l first valid leads is = is ∙ ap (λ (lead : Lead). checksum_from lead (l.level + 256 * l.index)) (sym leads) ∙ sym (checksum-label_bytes l valid)
 
 -- ---- the memo itself
 
@@ -138,17 +155,15 @@ memo_more d old new memo after at found read of more = record {
 
 -- ---- the loop that renews a memo
 
-pub renewing_begins : (memo : Remembered) (all rest : Changes) → IsStrictlySortedBy label_cmp (keys_of all) → rest ≡ all → IsRenewing memo memo all rest
-renewing_begins memo all rest rises start =
-    subst (λ (es : Changes). IsRenewing memo memo all es) (sym start)
-    (record { rises = rises; within = λ l page is. is; renews = λ l page is. inr (refl, is) })
+pub renewing_begins : (memo : Remembered) (all : Changes) → IsRenewing memo memo all all
+renewing_begins memo all = record { within = λ l page is. is; renews = λ l page is. inr (refl, is) }
 
 -- under a label below those of all changes nothing is staged
-none_below : (k l : Label) (es : Changes) → AllByRecursion (λ q. label_cmp k q ≡ Less) (keys_of es) → label_bytes l ≡ label_bytes k → staged_at es l ≡ None
+none_below : (k l : Label) (es : Changes) → All (λ q. label_cmp k q ≡ Less) (keys_of es) → label_bytes l ≡ label_bytes k → staged_at es l ≡ None
 none_below k l [] below same = refl
 none_below k l (e ∷ es) below same =
-    let apart : is_at (label_cmp l) e.0 ≡ false = ap (λ (b : List ℕ). is_eq (slice_cmp nat_cmp b (label_bytes e.0))) same ∙ ap is_eq below.0 in
-    ap (λ (b : Bool). cond b (Some e.1) (staged_at es l)) apart ∙ none_below k l es below.1 same
+    let apart : is_at (label_cmp l) e.0 ≡ false = ap (λ (b : List ℕ). is_eq (slice_cmp nat_cmp b (label_bytes e.0))) same ∙ ap is_eq (below 0 e.0 (omega arith)) in
+    ap (λ (b : Bool). cond b (Some e.1) (staged_at es l)) apart ∙ none_below k l es (λ i q low. below (suc i) q (omega (arith, low))) same
 
 -- what is staged first
 staged_first : (k l : Label) (v : Option Page) (es : Changes) → label_bytes l ≡ label_bytes k → staged_at ((k, v) ∷ es) l ≡ Some v
@@ -162,12 +177,12 @@ staged_later k l v es other = (elim (is_at (label_cmp l) k) as (λ b. is_at (lab
   | false ↦ λ apart. refl
 ]) refl
 
-pub renewing_keeps : (old now new : Remembered) (all rest left : Changes) (k : Label) (v : Option Page) → rest ≡ (k, v) ∷ left → IsRenewing old now all rest → Remembers now new k v → IsRenewing old new all left
-renewing_keeps old now new all rest left k v next so_far remembers =
+pub renewing_keeps : (old now new : Remembered) (all rest left : Changes) (entry : Label × Option Page) → rest ≡ entry ∷ left → All (λ q. label_cmp entry.0 q ≡ Less) (keys_of left) → IsRenewing old now all rest → Remembers now new entry.0 entry.1 → IsRenewing old new all left
+renewing_keeps old now new all rest left entry next below so_far remembers =
+    let k = entry.0 in
+    let v = entry.1 in
     let here = subst (λ (es : Changes). IsRenewing old now all es) next so_far in
-    let below = sorted_head label_cmp k (keys_of left) here.rises in
     record {
-      rises = sorted_tail label_cmp k (keys_of left) here.rises;
       within = λ l page is. here.within l page (staged_later k l v left (λ same. none-some page (sym (none_below k l left below same) ∙ is)) ∙ is);
       renews = λ l page is. elim (remembers l page is) [
         | inl was ↦ elim (here.renews l page was.1) [

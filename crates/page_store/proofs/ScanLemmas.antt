@@ -1,12 +1,12 @@
 -- The loop that compares the slots that were written with those of the disk.
-use Rattle.std.proofs.Common.{◌≡◌, ◌≢◌, ℕ, ◌+◌, ◌<◌, ◌≤◌, List, [], ◌∷◌, ◌++◌, length, Bool, false, cond, Option, Some, None, Ok, Err, refl, sym, ap, subst, ◌∙◌, inl, inr, arith, length-append}
+use Rattle.std.proofs.Common.{◌≡◌, ◌↔◌, ℕ, ◌+◌, ◌<◌, ◌≤◌, List, [], ◌∷◌, ◌++◌, length, Bool, true, false, cond, IsTrue, Option, Some, None, Ok, Err, refl, sym, ap, subst, ◌∙◌, inl, inr, arith, length-append}
 use Rattle.std.specs.declared.cmp.Ordering.TheVariants.{Less}
 use Rattle.std.specs.List.{AllByRecursion}
 use Rattle.std.specs.List.Sorted.{IsStrictlySortedBy}
 use Rattle.std.specs.Map.{keys_of}
 use Rattle.std.specs.BTreeMap.{is_at}
 use Rattle.std.specs.Ordering.{nat_cmp}
-use Rattle.std.proofs.lemmas.Bool.{cases_lt}
+use Rattle.std.proofs.lemmas.Bool.{cases_lt, false≢true}
 use Rattle.std.proofs.lemmas.Cmp.{ranked}
 use Rattle.std.proofs.lemmas.Map.Keys.{sorted_head, sorted_tail}
 use Rattle.std.proofs.lemmas.Option.{none-some}
@@ -16,15 +16,19 @@ use Rattle.disk_model.specs.DiskState.{DiskState, IsObservable, IsSound}
 use Rattle.gate_journal.specs.Changes.{AreChanges}
 use Rattle.gate_journal.specs.Phases.{table_slot}
 use Rattle.gate_journal.specs.Places.{AreCalls, ReadsOnly}
-use Rattle.gate_journal.proofs.Calls.{AreCalls-none, AreCalls-then, observable_after}
+use Rattle.gate_journal.proofs.Calls.{AreCalls-none, AreCalls-answered, AreCalls-then, observable_after}
 use Rattle.gate_journal.proofs.Reading.{ReadsOnly-refl, ReadsOnly-trans}
 use Rattle.page_store.specs.declared.changed.ChangedSlots.{ChangedSlots}
-use Rattle.page_store.specs.Caches.{Kept, IsCacheOf, ReadsSlot}
+use Rattle.page_store.specs.Caches.{Kept, IsCacheOf, TellsOfSlot}
 use Rattle.page_store.specs.Differences.{changes_of, AreDifferences}
 use Rattle.page_store.specs.OverlayState.{touched_at, bytes_or, slot_over}
 use Rattle.page_store.specs.Preparing.{FindsChanges}
 use Rattle.page_store.proofs.OverlayLemmas.{at_itself, at_other}
 use Rattle.page_store.proofs.DifferLemmas.{last_or_below, rising_none, rising_later, rising_more, differences_none, differences_later, differences_more}
+
+-- whether a slot has just these bytes
+abbrev pub IsSameAs : List ℕ → List ℕ → Bool → Type 0
+IsSameAs bytes slot is_same = IsTrue is_same ↔ (slot ≡ bytes)
 
 -- the loop has come so far: these slots were found, of those below a bound, and the others are at or above it
 pub record IsScanning (slots : ℕ) (written : List (ℕ × List ℕ)) (old now : DiskState) (items rest : List (ℕ × List ℕ)) : Type 0 where
@@ -107,19 +111,22 @@ module _ (slots : ℕ) (written : List (ℕ × List ℕ)) (within : (i : ℕ) (s
   has_bytes : (image : List ℕ) → slot ≡ slot_over slots written image at
   has_bytes image = sym (ap (λ (o : Option (List ℕ)). bytes_or o (table_slot slots image at)) written_at)
 
-  module _ (buffer : List ℕ) (kept : Kept) (read : ReadsSlot slots at now new kept buffer {T = Unit {0}} (Ok tt)) where
+  -- what is left was written
+  pub left_after : (i : ℕ) (other : List ℕ) → touched_at left i ≡ Some other → touched_at written i ≡ Some other
+  left_after i other is = sym (ahead_left i (past_left i other is)) ∙ is
+
+  module _ (kept : Kept) (is_same : Bool) (read : TellsOfSlot slots at now new kept (IsSameAs slot) (Ok is_same)) where
     calls_read : AreCalls {T = Unit {0}} {E = DiskFault} old new (Ok tt)
-    calls_read = AreCalls-then old now new tt (Ok tt) here.calls read.calls
+    calls_read = AreCalls-answered old new is_same tt (AreCalls-then old now new tt (Ok is_same) here.calls read.calls)
 
     reads_read : IsObservable old → ReadsOnly old new
     reads_read observable = ReadsOnly-trans old now new (here.reads observable) (read.reads (observable_after old now _ here.calls observable))
 
-    shows : IsObservable old → buffer ≡ table_slot slots old.bytes at
-    shows observable =
-        read.slot (observable_after old now _ here.calls observable) ∙ ap (λ (image : List ℕ). table_slot slots image at) (here.reads observable).bytes
+    shows : IsObservable old → IsSameAs slot (table_slot slots old.bytes at) is_same
+    shows observable = subst (λ (image : List ℕ). IsSameAs slot (table_slot slots image at) is_same) (here.reads observable).bytes (read.told (observable_after old now _ here.calls observable))
 
     -- a slot with the same bytes
-    pub scanning_passes : buffer ≡ slot → IsScanning slots written old new items left
+    pub scanning_passes : is_same ≡ true → IsScanning slots written old new items left
     scanning_passes same = record {
       calls = calls_read;
       reads = reads_read;
@@ -134,12 +141,12 @@ module _ (slots : ℕ) (written : List (ℕ × List ℕ)) (within : (i : ℕ) (s
           differences_later (table_slot slots old.bytes) (slot_over slots written old.bytes) here.bound (at + 1) (changes_of items) (let start = low in omega (arith, start))
           (λ i start below. elim (last_or_below at i below) [
             | inl less ↦ passed old.bytes i start less
-            | inr is ↦ subst (λ (k : ℕ). table_slot slots old.bytes k ≡ slot_over slots written old.bytes k) (sym is) (sym (shows observable) ∙ same ∙ has_bytes old.bytes)
+            | inr is ↦ subst (λ (k : ℕ). table_slot slots old.bytes k ≡ slot_over slots written old.bytes k) (sym is) ((shows observable).0 same ∙ has_bytes old.bytes)
           ]) (here.differ observable);
     }
 
     -- and one with others
-    pub scanning_finds : buffer ≢ slot → IsScanning slots written old new (items ++ (at, slot) ∷ []) left
+    pub scanning_finds : is_same ≡ false → IsScanning slots written old new (items ++ (at, slot) ∷ []) left
     scanning_finds other = record {
       calls = calls_read;
       reads = reads_read;
@@ -153,8 +160,12 @@ module _ (slots : ℕ) (written : List (ℕ × List ℕ)) (within : (i : ℕ) (s
       differ = λ observable.
           differences_more at items slot (table_slot slots old.bytes) (slot_over slots written old.bytes)
           (differences_later (table_slot slots old.bytes) (slot_over slots written old.bytes) here.bound at (changes_of items) low (passed old.bytes) (here.differ observable))
-          (has_bytes old.bytes) (λ same. other (shows observable ∙ same ∙ sym (has_bytes old.bytes)));
+          (has_bytes old.bytes) (λ same. false≢true (sym other ∙ (shows observable).1 (same ∙ sym (has_bytes old.bytes))));
     }
+
+-- what is left over was written
+pub left_over : (slots : ℕ) (written : List (ℕ × List ℕ)) (old now : DiskState) (items rest : List (ℕ × List ℕ)) → IsScanning slots written old now items rest → (i : ℕ) (slot : List ℕ) → touched_at rest i ≡ Some slot → touched_at written i ≡ Some slot
+left_over slots written old now items rest so_far i slot is = sym (so_far.ahead i (so_far.past i slot is)) ∙ is
 
 -- all were compared
 pub found_all : (slots : ℕ) (written : List (ℕ × List ℕ)) (old now : DiskState) (kept : Kept) (found : ChangedSlots) → IsCacheOf slots now kept → IsScanning slots written old now found.slots.items [] → FindsChanges slots written old now kept (Ok found)
@@ -183,10 +194,10 @@ none_reserved slots written disk kept sound cached =
     }
 
 -- there was no memory for a slot that differs
-pub none_found : (slots : ℕ) (written : List (ℕ × List ℕ)) (old now new : DiskState) (items rest : List (ℕ × List ℕ)) (at : ℕ) (kept : Kept) (buffer : List ℕ) → IsScanning slots written old now items rest → ReadsSlot slots at now new kept buffer {T = Unit {0}} (Ok tt)
+pub none_found : (slots : ℕ) (written : List (ℕ × List ℕ)) (old now new : DiskState) (items rest : List (ℕ × List ℕ)) (at : ℕ) (slot : List ℕ) (kept : Kept) (is_same : Bool) → IsScanning slots written old now items rest → TellsOfSlot slots at now new kept (IsSameAs slot) (Ok is_same)
     → FindsChanges slots written old new kept (Err causes.NoMemory)
-none_found slots written old now new items rest at kept buffer scanned read =
-    let calls : AreCalls {T = Unit {0}} {E = DiskFault} old new (Ok tt) = AreCalls-then old now new tt (Ok tt) scanned.calls read.calls in
+none_found slots written old now new items rest at slot kept is_same scanned read =
+    let calls : AreCalls {T = Unit {0}} {E = DiskFault} old new (Ok tt) = AreCalls-answered old new is_same tt (AreCalls-then old now new tt (Ok is_same) scanned.calls read.calls) in
     record {
       kept = record { size = calls.size; observable = calls.observable; faults = calls.rise; writes = calls.writes; syncs = calls.syncs };
       cached = read.cached;

@@ -26,7 +26,7 @@ label_with : ℕ → Lead → ℕ → Label
 label_with level lead index = record { level = level; lead = lead; index = index }
 
 -- a label is told by its bytes
-label_in-label_bytes : (l : Label) → IsLabel l → label_in (label_bytes l) ≡ l
+pub label_in-label_bytes : (l : Label) → IsLabel l → label_in (label_bytes l) ≡ l
 unfolding label_bytes label_with
 label_in-label_bytes l valid =
     let lead : lead_in (take 125 (drop 1 (label_bytes l))) ≡ l.lead = ap lead_in (sym (lead_bytes-spelled l (label_bytes l) valid refl)) ∙ lead_in-lead_bytes l.lead in

@@ -10,10 +10,11 @@ use Rattle.store_model.specs.Draws.{Draw}
 use Rattle.store_model.specs.Pages.{Page}
 use Rattle.store_model.specs.PageMaps.{PageMap, IsPageMap, page_at}
 use Rattle.store_base.specs.declared.store_fault.Fault.{Fault}
+use Rattle.store_base.specs.declared.store_fault.Fault.TheVariants as causes
 use Rattle.store_base.specs.Faults.{disk_faults_after}
 use Rattle.disk_model.specs.DiskState.{DiskState, IsObservable}
 use Rattle.gate_journal.specs.ViewState.{KeepsView}
-use Rattle.node_pages.specs.PagesState.{IsPageGet, most_pages}
+use Rattle.node_pages.specs.PagesState.{PagesState, IsPageGet, IsPagePut, most_pages}
 use Rattle.page_store.specs.OverlayState.{overlaid}
 use Rattle.page_store.specs.PageImages.{pages_in_table}
 use Rattle.page_store.specs.Staging.{Changes, with_change, with_changes, used_after}
@@ -124,3 +125,17 @@ module _ {D W : Type 0} (state : D → DiskState) (draw : W) (d : Draw) (p q : P
         unchanged = tt;
       };
     }
+
+-- there was no memory for a page
+pub put_refused : (pages : PagesState) (page : Page) → IsPagePut {T = Unit {0}} pages pages page (Err causes.NoMemory)
+put_refused pages page = record { faults = refl; lookups = refl; hidden = λ observable. observable; observed = λ observable. record { observable = observable; changed = tt; unchanged = refl } }
+
+-- calls that keep the view follow, whatever they stage
+pub view_follows : {D W : Type 0} (state : D → DiskState) (draw : W) (p q : Parameters) (disk after : D) (changes next : Changes) (lookups n : ℕ) (is_spent : Bool) → KeepsView p q (state disk) (state after)
+    → Follows state (staged_state state p draw disk changes lookups is_spent) (staged_state state q draw after next n is_spent)
+view_follows state draw p q disk after changes next lookups n is_spent view = record {
+  disk = view;
+  draw = refl;
+  runs = refl;
+  table = λ observable. ap₂ (λ (r : Parameters) (bytes : List ℕ). pages_in_table r.slots bytes) view.params (view.reads observable).bytes;
+}

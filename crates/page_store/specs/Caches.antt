@@ -1,5 +1,5 @@
 -- Slots of a table that are kept in memory.
-use Rattle.std.specs.Prelude.{◌≡◌, ◌≢◌, ◌⊎◌, ℕ, ◌<◌, ◌≤◌, List, length, Option, Some, Result, OnOk, nat_eq}
+use Rattle.std.specs.Prelude.{◌≡◌, ◌≢◌, ◌⊎◌, ℕ, ◌<◌, ◌≤◌, List, length, Option, Some, Result, OnOk, IfOk, nat_eq}
 use Rattle.std.specs.Map.{lookup}
 use Rattle.store_base.specs.declared.fault.DiskFault.{DiskFault}
 use Rattle.store_model.specs.Parameters.{block_len}
@@ -40,6 +40,10 @@ IsCacheOf slots disk kept = (i : ℕ) (slot : List ℕ) → kept_at kept i ≡ S
 abbrev pub KeepsAll : Kept → Kept → Type 0
 KeepsAll old new = (i : ℕ) → kept_at new i ≡ kept_at old i
 
+-- no slot is kept that was not
+abbrev pub KeepsNoMore : Kept → Kept → Type 0
+KeepsNoMore old new = (i : ℕ) (slot : List ℕ) → kept_at new i ≡ Some slot → kept_at old i ≡ Some slot
+
 -- no slot is kept but this one and those that were
 abbrev pub KeepsOne : Kept → Kept → ℕ → List ℕ → Type 0
 KeepsOne old new at slot = (i : ℕ) (other : List ℕ) → kept_at new i ≡ Some other → (kept_at old i ≡ Some other) ⊎ ((i ≡ at) × (other ≡ slot))
@@ -59,3 +63,16 @@ pub record ReadsSlot (slots at : ℕ) (old new : DiskState) (kept : Kept) (buffe
   pub reads : IsObservable old → ReadsOnly old new
   pub cached : IsCacheOf slots new kept
   pub slot : IsObservable old → OnOk result (buffer ≡ table_slot slots old.bytes at)
+
+-- something is told of a slot that is kept
+pub record IsOfKept {T : Type 0} (kept : Kept) (at : ℕ) (IsOf : List ℕ → T → Type 0) (told : T) : Type 0 where
+  pub slot : List ℕ
+  pub there : kept_at kept at ≡ Some slot
+  pub is : IsOf slot told
+
+-- Something is told of a slot of the table of a disk, from what is kept of it or else from the disk.
+pub record TellsOfSlot {T : Type 0} (slots at : ℕ) (old new : DiskState) (kept : Kept) (IsOf : List ℕ → T → Type 0) (result : Result T DiskFault) : Type 0 where
+  pub calls : AreCalls old new result
+  pub reads : IsObservable old → ReadsOnly old new
+  pub cached : IsCacheOf slots new kept
+  pub told : IsObservable old → IfOk result (IsOf (table_slot slots old.bytes at))

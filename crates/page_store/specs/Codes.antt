@@ -10,6 +10,7 @@ use Rattle.store_model.specs.Labels.Lead.{Start, Leader}
 use Rattle.store_model.specs.Pages.{Cell, Page}
 use Rattle.store_model.specs.PageMaps.{PageMap}
 use Rattle.page_store.specs.Memos.{Remembered}
+use Rattle.page_store.specs.Starts.{Starts}
 use Rattle.page_store.specs.StagedState.{StagedState}
 
 abbrev pub key_of_lead : Lead → Option (List ℕ)
@@ -41,6 +42,9 @@ page_map_code = maps.code (coded_list coded_ℕ) page_code
 
 abbrev pub remembered_code : Coded Remembered
 remembered_code = coded_list (coded_option (coded× label_code (coded_option page_code)))
+
+abbrev pub starts_code : Coded Starts
+starts_code = coded_list (coded× label_code coded_ℕ)
 
 abbrev pub bit_of_kind : DrawKind → Bool
 bit_of_kind Ruler = false

@@ -6,6 +6,7 @@ pub mod Differences
 pub mod Faults
 pub mod Lookups
 pub mod Memos
+pub mod Starts
 pub mod OverlayState
 pub mod Overlays
 pub mod PageImages

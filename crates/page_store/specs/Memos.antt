@@ -1,33 +1,46 @@
 -- What was found under labels of slots, kept in memory.
-use Rattle.std.specs.Prelude.{◌≡◌, ◌≢◌, ◌⊎◌, ℕ, ◌+◌, ◌*◌, ◌%◌, ◌≤◌, List, [], ◌∷◌, length, take, drop, slice_get, slice_index, Option, Some, None}
-use Rattle.std.specs.Int.{w32, from_be_bytes}
+use Rattle.std.specs.Prelude.{◌≡◌, ◌≢◌, ◌⊎◌, ℕ, ◌+◌, ◌*◌, ◌%◌, ◌≤◌, List, [], ◌∷◌, length, slice_get, slice_index, Option, Some, None}
+use Rattle.std.specs.Int.{w64, from_be_bytes}
 use Rattle.std.specs.Simd.{first_chunks}
-use Rattle.std.specs.List.Sorted.{IsStrictlySortedBy}
-use Rattle.std.specs.Map.{keys_of, lookup}
+use Rattle.std.specs.Map.{lookup}
 use Rattle.std.specs.BTreeMap.{is_at}
-use Rattle.store_model.specs.Labels.{Label, label_bytes, label_cmp}
+use Rattle.store_model.specs.Labels.{Lead, Label, label_bytes, label_cmp}
+use Rattle.store_model.specs.Labels.Lead.{Start, Leader}
 use Rattle.store_model.specs.Draws.{Draw}
 use Rattle.store_model.specs.Pages.{Page}
 use Rattle.store_model.specs.PageMaps.{PageMap, page_at, HoldsPages}
 use Rattle.store_base.specs.SlotsState.{SlotsState, IsObservable}
+use Rattle.page_store.specs.PageImages.{label_in}
 use Rattle.page_store.specs.Staging.{Changes}
 
--- the sum of the numbers that words spell, behind a first one, and the sum of all such sums on the way, as one number
+-- a number within 64 bits
+abbrev pub wrapped : ℕ → ℕ
+wrapped n = n % 18446744073709551616
+
+-- the sum of all sums on the way from a first one over the numbers that words spell, each within 64 bits
 abbrev pub checked : List (List ℕ) → ℕ → ℕ → ℕ
-checked [] sum sums = sums * 65536 + sum
-checked (word ∷ words) sum sums = checked words (sum + from_be_bytes w32 word) (sums + (sum + from_be_bytes w32 word))
+checked [] sum sums = sums
+checked (word ∷ words) sum sums = checked words (wrapped (sum + from_be_bytes w64 word)) (wrapped (sums + wrapped (sum + from_be_bytes w64 word)))
 
--- the 32 words of four bytes behind the second byte
+-- the first 15 words of eight bytes of a key
 abbrev pub words_of : List ℕ → List (List ℕ)
-words_of bytes = first_chunks 4 32 (take 128 (drop 2 bytes))
+words_of key = first_chunks 8 15 key
 
--- the checksum of bytes: of the first, and of those words (Fletcher)
+-- the checksum of a label, from a first number: that number, or with it that of the last two bytes and of the words of the key that leads (Fletcher)
+unfoldable pub checksum_from : Lead → ℕ → ℕ
+checksum_from Start first = first
+checksum_from (Leader key) first = checked (words_of key) (first + 256 * slice_index key 122 + slice_index key 123) 0
+
+abbrev pub checksum_of : Label → ℕ
+checksum_of l = checksum_from l.lead (l.level + 256 * l.index)
+
+-- the checksum of the label that these bytes spell
 unfoldable pub checksum : List ℕ → ℕ
-checksum bytes = checked (words_of bytes) (slice_index bytes 0) 0
+checksum bytes = checksum_of (label_in bytes)
 
 -- how many places there are
 abbrev pub memo_places : ℕ
-memo_places = 251
+memo_places = 227
 
 -- the place of a label, by its bytes
 unfoldable pub place_of : List ℕ → ℕ
@@ -77,7 +90,6 @@ Renews changes old new = (l : Label) (page : Option Page) → IsRemembered new l
 
 -- a loop that renews it has come so far
 pub record IsRenewing (old now : Remembered) (all rest : Changes) : Type 0 where
-  pub rises : IsStrictlySortedBy label_cmp (keys_of rest)
   pub within : (l : Label) (page : Option Page) → staged_at rest l ≡ Some page → staged_at all l ≡ Some page
   pub renews : (l : Label) (page : Option Page) → IsRemembered now l page
       → (staged_at all l ≡ Some page) ⊎ ((staged_at all l ≡ staged_at rest l) × IsRemembered old l page)

@@ -1,10 +1,16 @@
 //! Values on the heap.
 
-ghost use Rattle.std.specs.Prelude.{◌≡◌, IfOk, option_copied};
+ghost use Rattle.std.specs.Prelude.{◌≡◌, ◌+◌, ◌≤◌, IfOk, length, option_copied};
+ghost use Rattle.store_model.specs.Parameters.{block_len};
+ghost use Rattle.disk_model.specs.DiskCalls.{IsRead};
+ghost use Rattle.store_model.specs.Pages.{IsPage};
+ghost use Rattle.node_pages.specs.Cells.{ArePacked, cells_in};
 
+use disk_model::Disk;
+use node_pages::Page;
 use std::alloc::Global;
 use std::marker::Model;
-use store_base::NoMemory;
+use store_base::{DiskFault, Label, NoMemory, Slot};
 
 /// A value on the heap, so that what keeps it stays small. Contracts see the value.
 #[derive(Drop)]
@@ -37,6 +43,37 @@ impl<T> Boxed<T> {
         ensures { result.now ≡ self.now }
     {
         &self.inside
+    }
+}
+
+impl<T: Copy> Boxed<T> {
+    /// Puts a copy of the value in the place of the one that is there. It takes no memory.
+    pub fn set(&mut self, value: &T)
+        ensures { self.new ≡ value.now }
+    {
+        *self.inside = *value;
+    }
+}
+
+impl Boxed<Slot> {
+    /// Reads the bytes of a disk from this place on. After `DiskFault` it may hold anything. It takes no memory.
+    pub fn read<D: Disk>(&mut self, disk: &mut D, at: u64) -> Result<(), DiskFault>
+        requires { at + block_len ≤ (D.state disk.old).size }
+        ensures call { IsRead (D.state disk.old) (D.state disk.new) at self.new result }
+        ensures long { length self.new ≡ block_len }
+    {
+        disk.read_at(at, self.inside.as_mut())
+    }
+}
+
+impl Boxed<Page> {
+    /// Makes it the page of a label and so many cells, whose bytes are given. It takes no memory.
+    pub fn refill(&mut self, label: &Label, count: u8, run: &[u8])
+        requires packed { ArePacked label.now.level count run.now }
+        requires page { IsPage (record { label = label.now; cells = cells_in label.now.level count run.now }) }
+        ensures { self.new ≡ record { label = label.now; cells = cells_in label.now.level count run.now } }
+    {
+        self.inside.refill(label, count, run);
     }
 }
 

@@ -1,24 +1,26 @@
 //! Slots of a table that were read, kept in memory.
 
-ghost use Rattle.std.specs.Prelude.{◌≡◌, ◌<◌, ◌≤◌, ℕ, List, [], Some, IfOk, length};
+ghost use Rattle.std.specs.Prelude.{◌≡◌, ◌<◌, ◌≤◌, ℕ, List, [], Some, IfOk, IfSome, length};
 ghost use Rattle.std.specs.Bool.{OnTrue};
 ghost use Rattle.store_model.specs.Parameters.{image_len, slots_limit};
 ghost use Rattle.disk_model.specs.DiskState.{IsObservable, IsDurable};
 ghost use Rattle.gate_journal.specs.Changes.{AreChanges};
 ghost use Rattle.gate_journal.specs.Phases.{HasEmptyJournal};
-ghost use Rattle.page_store.specs.Caches.{kept_at, KeepsAll, KeepsOne, Rewrites, RewritesFirst, most_kept, IsCacheOf, ReadsSlot};
+ghost use Rattle.page_store.specs.Caches.{kept_at, KeepsAll, KeepsNoMore, KeepsOne, Rewrites, RewritesFirst, most_kept, IsCacheOf, ReadsSlot, IsOfKept, TellsOfSlot};
 ghost use Rattle.page_store.specs.Committing.{CommitsSlots};
 ghost use Rattle.page_store.specs.Differences.{changes_of};
 
 use crate::boxed::Boxed;
 use crate::changed::ChangedSlots;
+use crate::spares::Spares;
+use crate::told::Told;
 use disk_model::Disk;
 use gate_journal::Journal;
 use lru::LruCache;
 use std::alloc::Global;
 use std::marker::Model;
 use std::num::NonZeroUsize;
-use store_base::{DiskFault, NoMemory, Params, Slot, table_at};
+use store_base::{BLOCK, DiskFault, NoMemory, Params, Slot, table_at};
 
 /// How many slots are kept.
 const KEPT_SLOTS: usize = 64;
@@ -76,34 +78,64 @@ impl SlotCache {
         true
     }
 
+    /// What is told of the slot by these bytes, where it is kept. It takes no memory.
+    fn tell<T: Told>(&mut self, at: u32, wanted: &[u8]) -> Option<T>
+        ensures told { IfSome result (IsOfKept self.old at (λ slot told. T.of slot wanted.now told)) }
+        ensures kept { KeepsAll self.old self.new }
+    {
+        let slot = self.slots.get(&at)?;
+        Some(T::tell(slot.get(), wanted))
+    }
+
     /// Keeps a slot, where there is memory for it; where these come to more than 64, the one asked for longest ago goes.
     fn keep(&mut self, at: u32, slot: &Slot)
         ensures { KeepsOne self.old self.new at slot.now }
     {
         // Without memory for it the slot is left out.
-        let Ok(kept) = Boxed::new(self.alloc, *slot) else {
-            return;
-        };
-        let _ = self.slots.put(at, kept);
+        if let Ok(kept) = Boxed::new(self.alloc, *slot) {
+            self.keep_box(at, kept);
+        }
     }
 
-    /// Gives a slot that is kept its new bytes. It takes no memory.
-    fn rewrite(&mut self, at: u32, slot: Boxed<Slot>)
-        ensures { Rewrites self.old self.new at slot }
+    /// As `keep`, of a slot in a box.
+    fn keep_box(&mut self, at: u32, slot: Boxed<Slot>)
+        ensures { KeepsOne self.old self.new at slot }
     {
-        if !self.slots.contains(&at) {
-            return;
-        }
-        // The slot is kept already, so the call takes no memory.
         let _ = self.slots.put(at, slot);
     }
 
-    /// Gives the slots that are kept their new bytes. It takes no memory.
-    pub(crate) fn rewrite_all(&mut self, changed: Vec<(u32, Boxed<Slot>)>)
+    /// Gives up the slot that was asked for longest ago, where as many are kept as may be. It takes no memory.
+    fn give_up(&mut self) -> Option<Boxed<Slot>>
+        ensures { KeepsNoMore self.old self.new }
+    {
+        if self.slots.len() < KEPT_SLOTS {
+            return None;
+        }
+        let (_, slot) = self.slots.pop_lru()?;
+        Some(slot)
+    }
+
+    /// Gives a slot that is kept its new bytes, and hands out a box that is left over. It takes no memory.
+    fn rewrite(&mut self, at: u32, slot: Boxed<Slot>) -> Option<Boxed<Slot>>
+        ensures { Rewrites self.old self.new at slot }
+    {
+        if !self.slots.contains(&at) {
+            return Some(slot);
+        }
+        // The slot is kept already, so the call takes no memory.
+        self.slots.put(at, slot).ok()?
+    }
+
+    /// Gives the slots that are kept their new bytes; boxes that are left over are spared. It takes no memory but for these.
+    pub(crate) fn rewrite_all(
+        &mut self,
+        changed: Vec<(u32, Boxed<Slot>)>,
+        spares: &mut Spares<Slot>,
+    )
         ensures { RewritesFirst (length changed.items) (changes_of changed.items) self.old self.new }
     {
         for (at, slot) in changed {
-            self.rewrite(at, slot);
+            spares.take(self.rewrite(at, slot));
         }
     }
 
@@ -138,6 +170,70 @@ pub(crate) fn read_slot<D: Disk>(
     Ok(())
 }
 
+/// What is told by these bytes of this slot of the table of a disk that has so many. A slot that is kept is not copied for it.
+pub(crate) fn tell_slot<D: Disk, T: Told>(
+    disk: &mut D,
+    cache: &mut SlotCache,
+    slots: u32,
+    at: u32,
+    wanted: &[u8],
+) -> Result<T, DiskFault>
+    requires in_range { slots ≤ slots_limit }
+    requires below { at < slots }
+    requires size { (D.state disk.old).size ≡ image_len slots }
+    requires cached { IsCacheOf slots (D.state disk.old) cache.old }
+    ensures call { TellsOfSlot slots at (D.state disk.old) (D.state disk.new) cache.new (λ slot told. T.of slot wanted.now told) result }
+{
+    match cache.tell(at, wanted) {
+        Some(told) => Ok(told),
+        None => load_and_tell(disk, cache, slots, at, wanted),
+    }
+}
+
+/// As `tell_slot`, of a slot that is not kept: it is read into the box of the one that it takes the place of.
+fn load_and_tell<D: Disk, T: Told>(
+    disk: &mut D,
+    cache: &mut SlotCache,
+    slots: u32,
+    at: u32,
+    wanted: &[u8],
+) -> Result<T, DiskFault>
+    requires in_range { slots ≤ slots_limit }
+    requires below { at < slots }
+    requires size { (D.state disk.old).size ≡ image_len slots }
+    requires cached { IsCacheOf slots (D.state disk.old) cache.old }
+    ensures call { TellsOfSlot slots at (D.state disk.old) (D.state disk.new) cache.new (λ slot told. T.of slot wanted.now told) result }
+{
+    let Some(mut slot) = cache.give_up() else {
+        return read_and_tell(disk, cache, slots, at, wanted);
+    };
+    slot.read(disk, table_at(slots, at))?;
+    let told = T::tell(slot.get(), wanted);
+    cache.keep_box(at, slot);
+    Ok(told)
+}
+
+/// As `tell_slot`, of a slot that is not kept, while fewer are kept than may be.
+// It stands apart, since each call of `tell_slot` would clear its slot.
+#[inline(never)]
+fn read_and_tell<D: Disk, T: Told>(
+    disk: &mut D,
+    cache: &mut SlotCache,
+    slots: u32,
+    at: u32,
+    wanted: &[u8],
+) -> Result<T, DiskFault>
+    requires in_range { slots ≤ slots_limit }
+    requires below { at < slots }
+    requires size { (D.state disk.old).size ≡ image_len slots }
+    requires cached { IsCacheOf slots (D.state disk.old) cache.old }
+    ensures call { TellsOfSlot slots at (D.state disk.old) (D.state disk.new) cache.new (λ slot told. T.of slot wanted.now told) result }
+{
+    let mut there = [0; BLOCK];
+    read_slot(disk, cache, slots, at, &mut there)?;
+    Ok(T::tell(&there, wanted))
+}
+
 /// Commits the changed slots of the table of a disk of these parameters, and gives those that are kept their new bytes.
 /// After `DiskFault` the disk may have the old slots or the new ones, and none is kept.
 pub(crate) fn commit_slots<D: Disk>(
@@ -145,6 +241,7 @@ pub(crate) fn commit_slots<D: Disk>(
     cache: &mut SlotCache,
     params: &Params,
     changed: ChangedSlots,
+    spares: &mut Spares<Slot>,
 ) -> Result<(), DiskFault>
     requires size { (D.state disk.old).size ≡ image_len params.now.slots }
     requires changes { AreChanges params.now.slots (changes_of changed.slots.items) }
@@ -155,7 +252,7 @@ pub(crate) fn commit_slots<D: Disk>(
 {
     match Journal::commit(disk, params, &changed) {
         Ok(()) => {
-            cache.rewrite_all(changed.slots);
+            cache.rewrite_all(changed.slots, spares);
             Ok(())
         }
         Err(fault) => {

@@ -7,9 +7,10 @@ ghost use Rattle.page_store.specs.Caches.{IsCacheOf};
 ghost use Rattle.page_store.specs.Overlays.{disk_of, params_of, touched_of};
 ghost use Rattle.page_store.specs.OverlayState.{touched_at};
 ghost use Rattle.page_store.specs.Preparing.{FindsChanges, FindsSlots};
+ghost use Rattle.page_store.specs.Starts.{AreStarts};
 
 use crate::boxed::Boxed;
-use crate::cache::{SlotCache, read_slot};
+use crate::cache::{SlotCache, tell_slot};
 use crate::carry::carry_out;
 use crate::changed::ChangedSlots;
 use crate::hints::Hints;
@@ -19,30 +20,30 @@ use node_pages::Page;
 use seeded_draw::Draw;
 use std::alloc::Global;
 use std::collections::BTreeMap;
-use std::mem;
-use store_base::{BLOCK, Fault, Label, Slot};
+use store_base::{Fault, Label, Slot};
 
 /// The slots that were written and have other bytes in the table of the disk, which has so many slots. The disk is only
-/// read, and what the cache keeps of it is not read again.
+/// read, and what the cache keeps of it is not read again. What was written is taken one by one, since so its map keeps
+/// its memory.
 fn find_changes<D: Disk>(
     alloc: Global,
     disk: &mut D,
     cache: &mut SlotCache,
     slots: u32,
-    written: BTreeMap<u32, Boxed<Slot>>,
+    written: &mut BTreeMap<u32, Boxed<Slot>>,
 ) -> Result<ChangedSlots, Fault>
     requires in_range { slots ≤ slots_limit }
     requires size { (D.state disk.old).size ≡ image_len slots }
-    requires within { (i : ℕ) (slot : List ℕ) → touched_at written.entries i ≡ Some slot → i < slots }
-    requires filled { (i : ℕ) (slot : List ℕ) → touched_at written.entries i ≡ Some slot → length slot ≡ block_len }
+    requires within { (i : ℕ) (slot : List ℕ) → touched_at written.old.entries i ≡ Some slot → i < slots }
+    requires filled { (i : ℕ) (slot : List ℕ) → touched_at written.old.entries i ≡ Some slot → length slot ≡ block_len }
     requires cached { IsCacheOf slots (D.state disk.old) cache.old }
-    ensures call { FindsChanges slots written.entries (D.state disk.old) (D.state disk.new) cache.new result }
+    ensures call { FindsChanges slots written.old.entries (D.state disk.old) (D.state disk.new) cache.new result }
+    ensures left { (i : ℕ) (slot : List ℕ) → touched_at written.new.entries i ≡ Some slot → touched_at written.old.entries i ≡ Some slot }
 {
     let mut changed = Vec::with_capacity(alloc, written.len())?;
-    let mut was = [0; BLOCK];
-    for (at, kept) in written {
-        read_slot(disk, cache, slots, at, &mut was)?;
-        if was != *kept.get() {
+    while let Some((at, kept)) = written.pop_first() {
+        let is_same: bool = tell_slot(disk, cache, slots, at, kept.get())?;
+        if !is_same {
             changed.push((at, kept))?;
         }
     }
@@ -57,17 +58,18 @@ pub fn find_slots<D: Disk, W: Draw>(
     hints: &mut Hints,
     changes: &BTreeMap<Label, Option<Boxed<Page>>>,
 ) -> Result<ChangedSlots, Fault>
-    requires { (params_of overlay.old).slots ≡ (W.drawn draw.now).slots }
+    requires count { (params_of overlay.old).slots ≡ (W.drawn draw.now).slots }
+    requires starts { AreStarts (W.drawn draw.now) hints.old }
     ensures call { FindsSlots (W.drawn draw.now) (params_of overlay.old) (touched_of overlay.old) changes.now.entries (D.state (disk_of overlay.old)) (D.state (disk_of overlay.new)) result }
     ensures follows { KeepsView (params_of overlay.old) (params_of overlay.new) (D.state (disk_of overlay.old)) (D.state (disk_of overlay.new)) }
+    ensures starts { AreStarts (W.drawn draw.now) hints.new }
 {
     carry_out(overlay, draw, hints, changes)?;
-    let written = mem::replace(&mut overlay.touched, BTreeMap::new(overlay.alloc));
     find_changes(
         overlay.alloc,
         &mut overlay.disk,
         &mut overlay.cache,
         overlay.params.slots(),
-        written,
+        &mut overlay.touched,
     )
 }

@@ -5,8 +5,9 @@
 //! bytes differ, so that the table is again the placement of the pages; a crash leaves the old pages or the new ones.
 //!
 //! Up to 64 slots that were read last are kept in memory (`SlotCache`), each as the table of the disk has it, and are not
-//! read again. What was found under up to 251 labels is remembered too (`PageMemo`), and is not looked up again. The slot
-//! where a page was found last is looked at first (`Hints`), so that for most pages no start is drawn.
+//! read again. What was found under up to 227 labels is remembered too (`PageMemo`), and is not looked up again. The slot
+//! where a page was found last is looked at first (`Hints`), so that for most pages no start is drawn; and the starts that
+//! were drawn last are kept.
 #![tactic(auto)]
 
 mod boxed;
@@ -16,10 +17,13 @@ mod changed;
 mod compare;
 mod fault;
 mod hints;
+mod maps;
 mod memo;
 mod overlay;
 mod search;
+mod spares;
 mod staged;
+mod told;
 
 pub use cache::SlotCache;
 pub use fault::SettleFault;

@@ -2,17 +2,21 @@
 
 ghost use Rattle.std.specs.Prelude.{◌≡◌, ◌<◌, ◌≤◌, [], IfSome, OnOk, length};
 ghost use Rattle.store_model.specs.Labels.{label_bytes};
-ghost use Rattle.page_store.specs.Memos.{checksum, place_of, IsRemembered, KeepsPlaces, Remembers, RemembersMore, Renews};
+ghost use Rattle.store_model.specs.Labels.Lead.{Leader};
+ghost use Rattle.page_store.specs.Memos.{checksum_from, checksum, place_of, IsRemembered, KeepsPlaces, Remembers, RemembersMore, Renews};
 
 use crate::boxed::{Boxed, on_heap};
+use crate::spares::Spares;
 use node_pages::Page;
 use std::alloc::Global;
 use std::collections::BTreeMap;
 use std::marker::Model;
+use std::mem;
 use store_base::{Label, NoMemory};
 
-/// How many places there are: a prime, so that each byte of a checksum counts.
-const PLACES: usize = 251;
+/// How many places there are: a prime, so that each byte of a checksum counts, and one by which 256 leaves a remainder of 29,
+/// so that names that differ in two digits side by side have different places.
+const PLACES: usize = 227;
 
 /// What was found under labels: a page, or that there is none. Each label has a place, by its checksum, and of the labels
 /// of one place the last one is remembered. Contracts see what is at each place, with its label.
@@ -35,25 +39,30 @@ impl Model for PageMemo {
     ghost invariant = { λ memo. RemembersFew memo.places.items };
 }
 
-/// The checksum of the bytes of a label, by words of four bytes (Fletcher).
-fn checksum_of(bytes: &[u8; 130]) -> u64
-    ensures { result ≡ checksum bytes.now }
+/// The checksum of a first number and a key, by its last two bytes and its words of eight bytes (Fletcher).
+fn checksum_of_key(key: &[u8; 124], first: u64) -> u64
+    requires { first ≤ 1_099_511_627_775 }
+    ensures { result ≡ checksum_from (Leader key.now) first }
 {
-    let (words, _) = bytes[2..].as_chunks::<4>();
-    let mut sum = u64::from(bytes[0]);
+    let (words, _) = key.as_chunks::<8>();
+    let mut sum = first + 256 * u64::from(key[122]) + u64::from(key[123]);
     let mut sums: u64 = 0;
     for word in words {
-        sum += u64::from(u32::from_be_bytes(*word));
-        sums += sum;
+        sum = sum.wrapping_add(u64::from_be_bytes(*word));
+        sums = sums.wrapping_add(sum);
     }
-    sums * 65_536 + sum
+    sums
 }
 
 /// The checksum of a label, from which its places follow, here and in the hints.
 pub fn checksum_of_label(label: &Label) -> u64
     ensures { result ≡ checksum (label_bytes label.now) }
 {
-    checksum_of(&label.to_bytes())
+    let first = u64::from(label.level) + 256 * u64::from(label.index);
+    match label.lead.key_bytes() {
+        Some(key) => checksum_of_key(key, first),
+        None => first,
+    }
 }
 
 /// The place of a label.
@@ -75,6 +84,12 @@ fn make_places(places: &mut Vec<Option<(Label, Option<Boxed<Page>>)>>) -> Result
         places.push(None)?;
     }
     Ok(())
+}
+
+/// The page that an entry has, if it has one.
+fn page_of(entry: Option<(Label, Option<Boxed<Page>>)>) -> Option<Boxed<Page>> {
+    let (_, page) = entry?;
+    page
 }
 
 impl PageMemo {
@@ -103,16 +118,17 @@ impl PageMemo {
         None
     }
 
-    /// Remembers this of the label, in the place of what was, where there is memory for it.
-    fn keep(&mut self, label: Label, found: Option<Boxed<Page>>)
+    /// Remembers this of the label, in the place of what was, where there is memory for it, and hands out a page that had
+    /// this place.
+    fn keep(&mut self, label: Label, found: Option<Boxed<Page>>) -> Option<Boxed<Page>>
         ensures { Remembers self.old self.new label found }
     {
         let Ok(()) = make_places(&mut self.places) else {
             self.places.clear();
-            return;
+            return None;
         };
         let place = place_of(&label);
-        self.places[place] = Some((label, found));
+        page_of(mem::replace(&mut self.places[place], Some((label, found))))
     }
 
     /// Remembers what was found under the label, where there is memory for it.
@@ -120,17 +136,30 @@ impl PageMemo {
         ensures { RemembersMore self.old self.new label.now found }
     {
         if let Ok(kept) = on_heap(self.alloc, found) {
-            self.keep(*label, kept);
+            let _ = self.keep(*label, kept);
         }
     }
 
-    /// Takes over what is staged: under each label of a change what is there behind it, where there is memory for it. Under each
-    /// other label nothing more is remembered than was.
-    pub fn renew(&mut self, changes: BTreeMap<Label, Option<Boxed<Page>>>)
-        ensures { Renews changes.entries self.old self.new }
+    /// Remembers that nothing was found under the label, where there is memory for it.
+    pub fn remember_none(&mut self, label: &Label)
+        ensures { RemembersMore self.old self.new label.now None }
     {
-        for (label, change) in changes {
-            self.keep(label, change);
+        let _ = self.keep(*label, None);
+    }
+
+    /// Takes over what is staged: under each label of a change what is there behind it, where there is memory for it. Under each
+    /// other label nothing more is remembered than was. Pages that gave place are spared.
+    // The changes are taken one by one, since so their map keeps its memory.
+    pub fn renew(
+        &mut self,
+        changes: &mut BTreeMap<Label, Option<Boxed<Page>>>,
+        spares: &mut Spares<Page>,
+    )
+        ensures renews { Renews changes.old.entries self.old self.new }
+        ensures emptied { changes.new.entries ≡ [] }
+    {
+        while let Some((label, change)) = changes.pop_first() {
+            spares.take(self.keep(label, change));
         }
     }
 

@@ -8,9 +8,12 @@ ghost use Rattle.page_store.specs.OverlayState.{touched_at, overlaid, overlaid_c
 ghost use Rattle.gate_journal.specs.ViewState.{KeepsView, KeepsView-refl, KeepsView-trans};
 
 use crate::boxed::Boxed;
-use crate::cache::{SlotCache, read_slot};
+use crate::cache::{SlotCache, read_slot, tell_slot};
+use crate::spares::Spares;
 use disk_model::Disk;
+use ordered_table::{OrderSlots, order_of};
 use std::alloc::Global;
+use std::cmp::Ordering;
 use std::collections::BTreeMap;
 use store_base::{Fault, Params, ReadSlots, Slot, Slots};
 
@@ -23,6 +26,7 @@ pub struct Overlay<D: Disk> {
     pub(crate) params: Params,
     pub(crate) touched: BTreeMap<u32, Boxed<Slot>>,
     pub(crate) cache: SlotCache,
+    pub(crate) spares: Spares<Slot>,
     pub(crate) ghost sized: { (D.state disk).size ≡ image_len params.slots },
     pub(crate) ghost within: { (i : ℕ) (slot : List ℕ) → touched_at touched.entries i ≡ Some slot → i < params.slots },
     pub(crate) ghost filled: { (i : ℕ) (slot : List ℕ) → touched_at touched.entries i ≡ Some slot → length slot ≡ block_len },
@@ -47,6 +51,7 @@ impl<D: Disk> Overlay<D> {
             params: *params,
             touched: BTreeMap::new(alloc),
             cache,
+            spares: Spares::new(alloc),
         }
     }
 
@@ -60,6 +65,7 @@ impl<D: Disk> Overlay<D> {
             params: _,
             touched: _,
             cache: _,
+            spares: _,
         } = self;
         disk
     }
@@ -90,9 +96,20 @@ impl<D: Disk> ReadSlots for Overlay<D> {
     }
 }
 
+impl<D: Disk> OrderSlots for Overlay<D> {
+    fn order(&mut self, at: u32, wanted: &[u8; 130]) -> Result<Option<Ordering>, Fault> {
+        if let Some(slot) = self.touched.get(&at) {
+            return Ok(order_of(slot.get(), wanted));
+        }
+        let slots = self.params.slots();
+        Ok(tell_slot(&mut self.disk, &mut self.cache, slots, at, wanted)?)
+    }
+}
+
 impl<D: Disk> Slots for Overlay<D> {
     fn set(&mut self, at: u32, slot: &Slot) -> Result<(), Fault> {
-        self.touched.insert(at, Boxed::new(self.alloc, *slot)?)?;
+        let kept = self.spares.copy(slot)?;
+        self.spares.take(self.touched.insert(at, kept)?);
         Ok(())
     }
 }

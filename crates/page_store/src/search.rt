@@ -2,22 +2,23 @@
 
 ghost use Rattle.std.specs.Prelude.{◌≡◌, ◌<◌, None, IfSome, IsNone};
 ghost use Rattle.store_model.specs.Labels.{label_bytes};
-ghost use Rattle.page_store.specs.Lookups.{Consults, Locates, LocatesAgain, Reads, Finds};
+ghost use Rattle.page_store.specs.Lookups.{Consults, Locates, LocatesAgain, Finds};
 ghost use Rattle.page_store.specs.Memos.{place_of, IsKnown, IsMemoOf, staged_at};
+ghost use Rattle.page_store.specs.Starts.{AreStarts};
 
 use crate::boxed::Boxed;
 use crate::hints::Hints;
 use crate::memo::{PageMemo, place_of};
 use node_pages::{Page, decode_page};
-use ordered_table::{Steps, find_from, holds};
+use ordered_table::{OrderSlots, Steps, find_from, holds};
 use seeded_draw::Draw;
 use std::collections::BTreeMap;
 use std::marker::Brand;
 use std::sync::ledger::{Blank, Ledger};
-use store_base::{BLOCK, Fault, Label, ReadSlots};
+use store_base::{BLOCK, Fault, Label};
 
 /// As `locate_from`, with a ledger for its steps.
-fn locate_counted<S: ReadSlots, W: Draw, L: Ledger>(
+fn locate_counted<S: OrderSlots, W: Draw, L: Ledger>(
     slots: &mut S,
     draw: &W,
     start: u32,
@@ -36,7 +37,7 @@ fn locate_counted<S: ReadSlots, W: Draw, L: Ledger>(
 }
 
 /// As `locate`, from the start of the label.
-pub fn locate_from<S: ReadSlots, W: Draw>(
+pub fn locate_from<S: OrderSlots, W: Draw>(
     slots: &mut S,
     draw: &W,
     start: u32,
@@ -51,7 +52,7 @@ pub fn locate_from<S: ReadSlots, W: Draw>(
 }
 
 /// The slot where the page of the label was found last, if it holds the page still; `None` tells nothing.
-pub fn locate_again<S: ReadSlots, W: Draw>(
+pub fn locate_again<S: OrderSlots, W: Draw>(
     slots: &mut S,
     draw: &W,
     hints: &Hints,
@@ -73,48 +74,52 @@ pub fn locate_again<S: ReadSlots, W: Draw>(
 
 /// The slot that holds the page of the label; `None` exactly where the slots hold no such page. It is searched for only
 /// where it is not the one where the page was found last.
-pub fn locate<S: ReadSlots, W: Draw>(
+pub fn locate<S: OrderSlots, W: Draw>(
     slots: &mut S,
     draw: &W,
     hints: &mut Hints,
     label: &Label,
 ) -> Result<Option<u32>, Fault>
-    requires { (S.state slots.old).count ≡ (W.drawn draw.now).slots }
+    requires count { (S.state slots.old).count ≡ (W.drawn draw.now).slots }
+    requires starts { AreStarts (W.drawn draw.now) hints.old }
     ensures call { Locates (W.drawn draw.now) (S.state slots.old) (S.state slots.new) label.now result }
     ensures follows { S.follows slots.old slots.new }
+    ensures starts { AreStarts (W.drawn draw.now) hints.new }
 {
     if let Some(at) = locate_again(slots, draw, hints, label)? {
         return Ok(Some(at));
     }
-    let found = locate_from(slots, draw, draw.start(label), label)?;
+    let start = hints.start(draw, label);
+    let found = locate_from(slots, draw, start, label)?;
     hints.keep(label, found);
     Ok(found)
 }
 
-/// The page of the label in the slots, or `None` where they hold no such page. A slot that was found and holds no page,
-/// as only slots that are not observable may, is as one that was not found.
-fn read_page<S: ReadSlots, W: Draw>(
+/// Has remembered the page in slot `at`, which was found under the label, where there is memory for it. A slot that holds no
+/// page, as only slots that are not observable may, is as one that was not found.
+// It stands apart from `look_up`, each call of which would clear its page.
+#[inline(never)]
+fn remember_at<S: OrderSlots, W: Draw>(
     slots: &mut S,
-    draw: &W,
-    hints: &mut Hints,
+    _draw: &W,
+    memo: &mut PageMemo,
+    at: u32,
     label: &Label,
-) -> Result<Option<Page>, Fault>
-    requires { (S.state slots.old).count ≡ (W.drawn draw.now).slots }
-    ensures call { Reads (W.drawn draw.now) (S.state slots.old) (S.state slots.new) label.now result }
+) -> Result<(), Fault>
+    requires located { Locates (W.drawn _draw.now) (S.state slots.old) (S.state slots.old) label.now (Ok (Some at)) }
+    requires remembered { IsMemoOf (W.drawn _draw.now) (S.state slots.old) memo.old }
+    ensures call { Consults (S.state slots.old) (S.state slots.new) result }
+    ensures remembered { IsMemoOf (W.drawn _draw.now) (S.state slots.new) memo.new }
     ensures follows { S.follows slots.old slots.new }
 {
-    let Some(at) = locate(slots, draw, hints, label)? else {
-        return Ok(None);
-    };
     let mut slot = [0; BLOCK];
     slots.get(at, &mut slot)?;
-    Ok(decode_page(&slot))
+    memo.remember(label, decode_page(&slot));
+    Ok(())
 }
 
 /// Has remembered what the slots hold under the label, where there is memory for it.
-// It stands apart from `learn`, each call of which would clear its page.
-#[inline(never)]
-fn look_up<S: ReadSlots, W: Draw>(
+fn look_up<S: OrderSlots, W: Draw>(
     slots: &mut S,
     draw: &W,
     hints: &mut Hints,
@@ -123,13 +128,17 @@ fn look_up<S: ReadSlots, W: Draw>(
 ) -> Result<(), Fault>
     requires count { (S.state slots.old).count ≡ (W.drawn draw.now).slots }
     requires remembered { IsMemoOf (W.drawn draw.now) (S.state slots.old) memo.old }
+    requires starts { AreStarts (W.drawn draw.now) hints.old }
     ensures call { Consults (S.state slots.old) (S.state slots.new) result }
     ensures remembered { IsMemoOf (W.drawn draw.now) (S.state slots.new) memo.new }
     ensures follows { S.follows slots.old slots.new }
+    ensures starts { AreStarts (W.drawn draw.now) hints.new }
 {
-    let found = read_page(slots, draw, hints, label)?;
-    memo.remember(label, found);
-    Ok(())
+    let Some(at) = locate(slots, draw, hints, label)? else {
+        memo.remember_none(label);
+        return Ok(());
+    };
+    remember_at(slots, draw, memo, at, label)
 }
 
 /// What is known of the label, whose place in the memo this is, by the changes, or else by the memo: a page, or that there
@@ -152,7 +161,7 @@ pub fn known<'a>(
 
 /// Has the page of the label known, whose place in the memo this is, where there is memory for it: what is not known is
 /// read and remembered.
-pub fn learn<S: ReadSlots, W: Draw>(
+pub fn learn<S: OrderSlots, W: Draw>(
     slots: &mut S,
     draw: &W,
     hints: &mut Hints,
@@ -164,9 +173,11 @@ pub fn learn<S: ReadSlots, W: Draw>(
     requires count { (S.state slots.old).count ≡ (W.drawn draw.now).slots }
     requires remembered { IsMemoOf (W.drawn draw.now) (S.state slots.old) memo.old }
     requires place { place ≡ place_of (label_bytes label.now) }
+    requires starts { AreStarts (W.drawn draw.now) hints.old }
     ensures call { Consults (S.state slots.old) (S.state slots.new) result }
     ensures remembered { IsMemoOf (W.drawn draw.now) (S.state slots.new) memo.new }
     ensures follows { S.follows slots.old slots.new }
+    ensures starts { AreStarts (W.drawn draw.now) hints.new }
 {
     // The memo comes first, since to find a label among the changes takes comparisons of labels.
     if memo.recall(place, label).is_some() || changes.contains_key(label) {
@@ -176,7 +187,7 @@ pub fn learn<S: ReadSlots, W: Draw>(
 }
 
 /// Whether there is a page under the label, by the changes, or else by the memo, or else by the slots.
-pub fn has_page<S: ReadSlots, W: Draw>(
+pub fn has_page<S: OrderSlots, W: Draw>(
     slots: &mut S,
     draw: &W,
     hints: &mut Hints,
@@ -186,9 +197,11 @@ pub fn has_page<S: ReadSlots, W: Draw>(
 ) -> Result<bool, Fault>
     requires count { (S.state slots.old).count ≡ (W.drawn draw.now).slots }
     requires remembered { IsMemoOf (W.drawn draw.now) (S.state slots.old) memo.now }
+    requires starts { AreStarts (W.drawn draw.now) hints.old }
     ensures call { Finds (W.drawn draw.now) (S.state slots.old) (S.state slots.new) changes.now.entries label.now result }
     ensures remembered { IsMemoOf (W.drawn draw.now) (S.state slots.new) memo.now }
     ensures follows { S.follows slots.old slots.new }
+    ensures starts { AreStarts (W.drawn draw.now) hints.new }
 {
     if let Some(page) = known(changes, memo, place_of(label), label) {
         return Ok(page.is_some());

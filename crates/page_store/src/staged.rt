@@ -12,6 +12,7 @@ ghost use Rattle.gate_journal.specs.Places.{AreCalls, ReadsOnly};
 ghost use Rattle.store_model.specs.PageMaps.{PageMap, IsPageMap, page_at};
 ghost use Rattle.node_pages.specs.PagesState.{IsPageGet, IsPagePut, IsPageDrop, looked_at, most_pages};
 ghost use Rattle.page_store.specs.Memos.{place_of, IsMemoOf};
+ghost use Rattle.page_store.specs.Starts.{AreStarts};
 ghost use Rattle.page_store.specs.OverlayState.{overlaid};
 ghost use Rattle.page_store.specs.PageImages.{pages_in_table, StandsAt};
 ghost use Rattle.page_store.specs.Staging.{with_change, used_after};
@@ -22,9 +23,11 @@ use crate::cache::{SlotCache, commit_slots};
 use crate::compare::find_slots;
 use crate::fault::SettleFault;
 use crate::hints::Hints;
+use crate::maps::empty;
 use crate::memo::{PageMemo, place_of};
 use crate::overlay::Overlay;
 use crate::search::{has_page, known, learn};
+use crate::spares::Spares;
 use disk_model::Disk;
 use gate_journal::Journal;
 use node_pages::{Page, Pages};
@@ -32,7 +35,6 @@ use seeded_draw::Draw;
 use std::alloc::Global;
 use std::collections::BTreeMap;
 use std::marker::Model;
-use std::mem;
 use store_base::{DiskFault, Fault, Label, NoMemory, Params};
 
 /// The pages in the table of an image, with changes that are not settled yet. Contracts see it as one record: the map of
@@ -48,11 +50,13 @@ pub struct Staged<D: Disk, W: Draw> {
     memo: PageMemo,
     /// Where it was found.
     hints: Hints,
+    spares: Spares<Page>,
     /// How many pages there are now, and how many of them the table has.
     used: u32,
     settled: u32,
     lookups: u64,
     is_spent: bool,
+    ghost started: { AreStarts (W.drawn draw) hints },
     ghost remembered: { IsMemoOf (W.drawn draw) (overlaid overlay.params.slots overlay.touched.entries (D.state overlay.disk)) memo },
 }
 
@@ -84,13 +88,14 @@ fn count_after(used: u32, was_there: bool, is_there: bool) -> u32
 /// Keeps a change under its label, in the place of the one that was kept. After want of memory the changes are as they were.
 fn keep_change(
     changes: &mut BTreeMap<Label, Option<Boxed<Page>>>,
+    spares: &mut Spares<Page>,
     label: Label,
     change: Option<Boxed<Page>>,
 ) -> Result<(), NoMemory>
     ensures ok { OnOk result (changes.new.entries ≡ insert_entry label_cmp changes.old.entries label change) }
     ensures err { OnErr result (changes.new.entries ≡ changes.old.entries) }
 {
-    changes.insert(label, change)?;
+    spares.take(changes.insert(label, change)?.flatten());
     Ok(())
 }
 
@@ -129,6 +134,7 @@ impl<D: Disk, W: Draw> Staged<D, W> {
             changes: BTreeMap::new(alloc),
             memo: PageMemo::new(alloc),
             hints: Hints::new(alloc),
+            spares: Spares::new(alloc),
             used: pages,
             settled: pages,
             lookups: 0,
@@ -169,6 +175,7 @@ impl<D: Disk, W: Draw> Staged<D, W> {
             changes: _,
             memo: _,
             hints: _,
+            spares: _,
             used: _,
             settled: _,
             lookups: _,
@@ -181,7 +188,7 @@ impl<D: Disk, W: Draw> Staged<D, W> {
     pub fn discard(&mut self)
         ensures { self.new ≡ record self.old { map = self.old.table } }
     {
-        self.changes.clear();
+        empty(&mut self.changes);
         self.used = self.settled;
     }
 
@@ -228,7 +235,7 @@ impl<D: Disk, W: Draw> Staged<D, W> {
             &label,
         )?;
         let used = count_after(self.used, is_there, change.is_some());
-        keep_change(&mut self.changes, label, change)?;
+        keep_change(&mut self.changes, &mut self.spares, label, change)?;
         self.used = used;
         Ok(())
     }
@@ -261,13 +268,19 @@ impl<D: Disk, W: Draw> Staged<D, W> {
             &self.changes,
         );
         // Whatever was found, the slots are the disk's again.
-        self.overlay.touched.clear();
+        empty(&mut self.overlay.touched);
         let changed = found?;
         let overlay = &mut self.overlay;
-        match commit_slots(&mut overlay.disk, &mut overlay.cache, &params, changed) {
+        let spares = &mut overlay.spares;
+        match commit_slots(
+            &mut overlay.disk,
+            &mut overlay.cache,
+            &params,
+            changed,
+            spares,
+        ) {
             Ok(()) => {
-                let changes = mem::replace(&mut self.changes, BTreeMap::new(self.overlay.alloc));
-                self.memo.renew(changes);
+                self.memo.renew(&mut self.changes, &mut self.spares);
                 self.settled = self.used;
                 Ok(())
             }
@@ -315,8 +328,13 @@ impl<D: Disk, W: Draw> Pages for Staged<D, W> {
 
     fn put(&mut self, page: Page) -> Result<(), Fault> {
         let label = page.label();
-        let kept = Boxed::new(self.overlay.alloc, page)?;
+        let kept = self.spares.copy(&page)?;
         self.stage(label, Some(kept))
+    }
+
+    fn put_run(&mut self, label: &Label, count: u8, run: &[u8]) -> Result<(), Fault> {
+        let kept = self.spares.page(label, count, run)?;
+        self.stage(*label, Some(kept))
     }
 
     fn drop_page(&mut self, label: &Label) -> Result<(), Fault> {

@@ -1,6 +1,7 @@
-use Rattle.std.proofs.Common.{ℕ, List, sym, ap, subst}
-use Rattle.std.specs.BTreeMap.{BTreeMap}
+use Rattle.std.proofs.Common.{◌≡◌, ◌<◌, ℕ, List, Some, sym, ap, subst, ◌∙◌}
+use Rattle.store_model.specs.Parameters.{image_len}
 use Rattle.page_store.specs.Caches.{IsCacheOf}
+use Rattle.page_store.specs.OverlayState.{touched_at}
 use Rattle.page_store.specs.Preparing.{FindsChanges}
 use Rattle.page_store.proofs.FindLemmas.{slots_found}
 use Rattle.page_store.proofs.compare.find_slots.Goals as goal
@@ -10,10 +11,10 @@ returns-clause-call g c =
     let state = g.D.Disk.state in
     let before = c.args.overlay.now in
     let after = c.carry_out.new.slots in
-    slots_found (g.W.Draw.drawn c.args.draw.now) before.params after.params before.touched.entries after.touched.entries c.args.changes.now.entries (state before.disk) (state after.disk) (state c.find_changes.new.disk) c.in_ok-carry_out.field-0 c.requires
+    slots_found (g.W.Draw.drawn c.args.draw.now) before.params after.params before.touched.entries after.touched.entries c.args.changes.now.entries (state before.disk) (state after.disk) (state c.find_changes.new.disk) c.in_ok-carry_out.field-0 c.requires.count
     c.in_ok-carry_out.ensures.call c.in_ok-carry_out.ensures.follows c.find_changes.new.cache c.find_changes.result
     (subst (λ (n : ℕ). FindsChanges n after.touched.entries (state after.disk) (state c.find_changes.new.disk) c.find_changes.new.cache c.find_changes.result) c.slots.ensures.value
-    (subst (λ (es : List (ℕ × List ℕ)). FindsChanges c.slots.result es (state after.disk) (state c.find_changes.new.disk) c.find_changes.new.cache c.find_changes.result) (ap (λ (m : BTreeMap ℕ (List ℕ)). m.entries) c.replace-written.ensures.value) c.find_changes.ensures.call))
+    c.find_changes.ensures.call)
 
 pub find_changes-requires-clause-cached : goal.find_changes-requires-clause-cached
 find_changes-requires-clause-cached g c =
@@ -22,3 +23,20 @@ find_changes-requires-clause-cached g c =
 
 pub invariant_of-overlay-clause-cached : goal.invariant_of-overlay-clause-cached
 invariant_of-overlay-clause-cached g c = subst (λ (n : ℕ). IsCacheOf n (g.D.Disk.state c.find_changes.new.disk) c.find_changes.new.cache) c.slots.ensures.value c.find_changes.ensures.call.cached
+
+pub invariant_of-overlay-clause-within : goal.invariant_of-overlay-clause-within
+invariant_of-overlay-clause-within g c i slot is = c.carry_out.new.slots.within i slot (c.find_changes.ensures.left i slot is)
+
+pub invariant_of-overlay-clause-filled : goal.invariant_of-overlay-clause-filled
+invariant_of-overlay-clause-filled g c i slot is = c.carry_out.new.slots.filled i slot (c.find_changes.ensures.left i slot is)
+
+pub find_changes-requires-clause-size : goal.find_changes-requires-clause-size
+find_changes-requires-clause-size g c = c.carry_out.new.slots.sized ∙ ap image_len (sym c.slots.ensures.value)
+
+pub find_changes-requires-clause-within : goal.find_changes-requires-clause-within
+find_changes-requires-clause-within g c =
+    let after = c.carry_out.new.slots in
+    subst (λ (n : ℕ). (i : ℕ) (slot : List ℕ) → touched_at after.touched.entries i ≡ Some slot → i < n) (sym c.slots.ensures.value) after.within
+
+pub find_changes-requires-clause-filled : goal.find_changes-requires-clause-filled
+find_changes-requires-clause-filled g c = c.carry_out.new.slots.filled

@@ -15,3 +15,21 @@ returns-clause-call g c = found_by_place _ _ _ c.args.changes.now.entries c.args
 
 pub returns-clause-remembered : goal.returns-clause-remembered
 returns-clause-remembered g c = memo_read _ _ _ _ _ c.in_ok-locate.ensures.call.calls c.in_ok-locate.ensures.call.reads c.requires.remembered
+
+pub returns-in-Some-clause-follows : goal.returns-in-Some-clause-follows
+returns-in-Some-clause-follows g c = g.met.S.ReadSlots.follows_refl c.args.slots.now
+
+pub returns-in-Some-clause-starts : goal.returns-in-Some-clause-starts
+returns-in-Some-clause-starts g c = c.requires.starts
+
+pub returns-in_err-locate-clause-follows : goal.returns-in_err-locate-clause-follows
+returns-in_err-locate-clause-follows g c = c.in_err-locate.ensures.follows
+
+pub returns-in_err-locate-clause-starts : goal.returns-in_err-locate-clause-starts
+returns-in_err-locate-clause-starts g c = c.in_err-locate.ensures.starts
+
+pub returns-clause-follows : goal.returns-clause-follows
+returns-clause-follows g c = c.in_ok-locate.ensures.follows
+
+pub returns-clause-starts : goal.returns-clause-starts
+returns-clause-starts g c = c.in_ok-locate.ensures.starts

@@ -10,3 +10,6 @@ returns c =
 
 pub invariant_of-self : goal.invariant_of-self
 invariant_of-self c = few_put c.put.result c.self.inside.slots c.put.new.self c.args.at c.args.slot c.self.invariant c.put.ensures.entries c.put.ensures.err
+
+pub invariant_of-self-2 : goal.invariant_of-self-2
+invariant_of-self-2 c = few_put c.put.result c.self.inside.slots c.put.new.self c.args.at c.args.slot c.self.invariant c.put.ensures.entries c.put.ensures.err

@@ -1,6 +1,10 @@
+use Rattle.std.proofs.Common.{length}
 use Rattle.page_store.specs.Memos.{IsRenewing}
 use Rattle.page_store.proofs.memo.PageMemo.renew.Given as goal
 
 -- what was taken over so far
 abbrev pub invariant-loop-label : goal.invariant-loop-label
-invariant-loop-label l = IsRenewing l.fn.self l.self l.fn.changes.entries l.label-iterator
+invariant-loop-label l = IsRenewing l.fn.self l.self l.fn.changes.entries l.changes.entries
+
+abbrev pub decreases-loop-label : goal.decreases-loop-label
+decreases-loop-label l = length l.changes.entries

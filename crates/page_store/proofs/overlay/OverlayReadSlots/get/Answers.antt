@@ -1,9 +1,11 @@
-use Rattle.std.proofs.Common.{◌≡◌, ℕ, ◌+◌, List, Option, Some, Ok, map, refl, sym, ap, subst, ◌∙◌, arith}
+use Rattle.std.proofs.Common.{◌≡◌, ℕ, ◌+◌, List, Option, Some, Ok, Err, map, refl, sym, ap, subst, ◌∙◌, arith}
+use Rattle.std.proofs.lemmas.Result.{err_from_is_err_and}
+use Rattle.gate_journal.specs.ViewState.{KeepsView-refl}
 use Rattle.store_model.specs.Lists.{numbers_below}
 use Rattle.page_store.specs.Caches.{IsCacheOf, ReadsSlot}
 use Rattle.page_store.specs.OverlayState.{bytes_or, slot_over}
 use Rattle.gate_journal.specs.Phases.{table_slot}
-use Rattle.page_store.proofs.OverlayLemmas.{get_number}
+use Rattle.page_store.proofs.OverlayLemmas.{get_number, get_failed, view_read}
 use Rattle.page_store.proofs.overlay.OverlayReadSlots.get.Goals as goal
 
 pub returns-in-Some-clause-call : goal.returns-in-Some-clause-call
@@ -46,3 +48,22 @@ read_slot-requires-clause-cached g c = subst (λ (n : ℕ). IsCacheOf n (g.D.Dis
 
 pub invariant_of-self-clause-cached : goal.invariant_of-self-clause-cached
 invariant_of-self-clause-cached g c = subst (λ (n : ℕ). IsCacheOf n (g.D.Disk.state c.read_slot.new.disk) c.read_slot.new.cache) c.slots-slots.ensures.value c.read_slot.ensures.call.cached
+
+pub returns-in_err-read_slot-clause-call : goal.returns-in_err-read_slot-clause-call
+returns-in_err-read_slot-clause-call g c =
+    let o = c.args.self.now in
+    let old = g.D.Disk.state o.disk in
+    let new = g.D.Disk.state c.read_slot.new.disk in
+    let fault = c.in_err-read_slot.field-0.0 in
+    let read = subst (λ (n : ℕ). ReadsSlot n c.args.at old new c.read_slot.new.cache c.read_slot.new.into {T = Unit {0}} (Err fault)) c.slots-slots.ensures.value c.in_err-read_slot.ensures.call in
+    let p = err_from_is_err_and c.from_residual.result c.from_residual.ensures.1 in
+    rw (p.1, p.2) (get_failed o.params.slots o.touched.entries old new c.read_slot.new.cache c.args.at c.read_slot.new.into fault read)
+
+pub returns-in_err-read_slot-clause-follows : goal.returns-in_err-read_slot-clause-follows
+returns-in_err-read_slot-clause-follows g c = view_read c.args.self.now.params (g.D.Disk.state c.args.self.now.disk) (g.D.Disk.state c.read_slot.new.disk) c.read_slot.result c.read_slot.ensures.call.calls c.read_slot.ensures.call.reads
+
+pub returns-clause-follows : goal.returns-clause-follows
+returns-clause-follows g c = view_read c.args.self.now.params (g.D.Disk.state c.args.self.now.disk) (g.D.Disk.state c.read_slot.new.disk) c.read_slot.result c.read_slot.ensures.call.calls c.read_slot.ensures.call.reads
+
+pub returns-in-Some-clause-follows : goal.returns-in-Some-clause-follows
+returns-in-Some-clause-follows g c = KeepsView-refl c.args.self.now.params (g.D.Disk.state c.args.self.now.disk) (g.met.D.Disk.sound c.args.self.now.disk)

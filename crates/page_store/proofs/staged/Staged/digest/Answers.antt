@@ -18,7 +18,7 @@ invariant_of-self-inside g c =
     let new = g.D.Disk.state c.digest.new.disk in
     let cached = cache_read overlay.params.slots old new c.digest.ensures.calls.observable overlay.cache overlay.cached c.digest.ensures.reads overlay.cache (λ i. refl) in
     let remembered = memo_later (g.W.Draw.drawn s.draw) overlay.params overlay.params old new overlay.touched.entries overlay.touched.entries s.memo (read_below overlay.params old new overlay.touched.entries c.digest.ensures.calls.observable c.digest.ensures.reads) s.remembered in
-    ((c.digest.ensures.calls.size ∙ overlay.sized, (overlay.within, (overlay.filled, (cached, tt)))), (remembered, tt))
+    ((c.digest.ensures.calls.size ∙ overlay.sized, (overlay.within, (overlay.filled, (cached, tt)))), (s.started, (remembered, tt)))
 
 pub returns-clause-follows : goal.returns-clause-follows
 returns-clause-follows g c =

@@ -1,14 +1,10 @@
-use Rattle.std.proofs.Common.{Option, Result, Err, refl, sym, ap, subst, ◌∙◌, arith}
+use Rattle.std.proofs.Common.{Result, Err, refl, sym, ap, subst, ◌∙◌, arith}
 use Rattle.std.proofs.lemmas.Result.{err_from_is_err_and}
-use Rattle.std.specs.BTreeMap.{BTreeMap}
 use Rattle.gate_journal.specs.ViewState.{KeepsView-refl}
 use Rattle.page_store.specs.declared.fault.SettleFault.{SettleFault}
 use Rattle.page_store.specs.declared.fault.SettleFault.TheVariants as causes
-use Rattle.store_model.specs.Labels.{Label}
-use Rattle.store_model.specs.Pages.{Page}
 use Rattle.store_model.specs.Parameters.{Parameters}
 use Rattle.page_store.specs.Caches.{IsCacheOf}
-use Rattle.page_store.specs.Memos.{Renews}
 use Rattle.page_store.specs.Preparing.{FindsSlots}
 use Rattle.page_store.specs.Settling.{Settles}
 use Rattle.page_store.specs.StagedState.{StagedState, staged_state}
@@ -29,14 +25,14 @@ invariant_of-self g c =
     let s = c.self.inside in
     let mid = c.find_slots-found.new.overlay in
     let at = read_since g.D.Disk.state g.W.Draw.drawn s.draw s.overlay.disk mid.disk g.met.D.Disk.sound s.overlay.sized c.self.invariant c.self.view_is c.requires c.find_slots-found.ensures.follows in
-    read_staged at c.clear.new.self.entries c.clear.ensures.empty
+    read_staged at c.empty.new.map.entries c.empty.ensures
 
 pub invariant_of-self-inside-in-Break-1 : goal.invariant_of-self-inside-in-Break-1
 invariant_of-self-inside-in-Break-1 g c =
     let s = c.self.inside in
     let mid = c.find_slots-found.new.overlay in
     let at = read_since g.D.Disk.state g.W.Draw.drawn s.draw s.overlay.disk mid.disk g.met.D.Disk.sound s.overlay.sized c.self.invariant c.self.view_is c.requires c.find_slots-found.ensures.follows in
-    (read_memo at c.clear.new.self.entries c.clear.ensures.empty s.memo s.remembered, tt)
+    (c.find_slots-found.ensures.starts, (read_memo at c.empty.new.map.entries c.empty.ensures s.memo s.remembered, tt))
 
 pub returns-in_err-changed : goal.returns-in_err-changed
 returns-in_err-changed g c =
@@ -79,29 +75,28 @@ invariant_of-self-in-Ok g c =
     let s = c.self.inside in
     let mid = c.find_slots-found.new.overlay in
     let at = read_since g.D.Disk.state g.W.Draw.drawn s.draw s.overlay.disk mid.disk g.met.D.Disk.sound s.overlay.sized c.self.invariant c.self.view_is c.requires c.find_slots-found.ensures.follows in
-    done_staged at (omega (arith, c.if-self-slots.false, c.slots-slots.ensures.value)) (g.met.W.Draw.lawful s.draw) c.in_ok-changed.changed c.in_ok-changed.was c.find_slots-found.ensures.call c.commit_slots.new.disk c.in-Ok.field-0 c.in-Ok.ensures.call.calls c.in-Ok.ensures.call.commits c.clear.new.self.entries c.replace-changes.new.dest.entries c.clear.ensures.empty (ap (λ (m : BTreeMap Label (Option Page)). m.entries) c.replace-changes.ensures.after ∙ c.new.ensures.empty)
+    done_staged at (omega (arith, c.if-self-slots.false, c.slots-slots.ensures.value)) (g.met.W.Draw.lawful s.draw) c.in_ok-changed.changed c.in_ok-changed.was c.find_slots-found.ensures.call c.commit_slots.new.disk c.in-Ok.field-0 c.in-Ok.ensures.call.calls c.in-Ok.ensures.call.commits c.empty.new.map.entries c.renew.new.changes.entries c.empty.ensures c.renew.ensures.emptied
 
 pub invariant_of-self-inside-in-Ok : goal.invariant_of-self-inside-in-Ok
 invariant_of-self-inside-in-Ok g c =
     let s = c.self.inside in
     let mid = c.find_slots-found.new.overlay in
     let at = read_since g.D.Disk.state g.W.Draw.drawn s.draw s.overlay.disk mid.disk g.met.D.Disk.sound s.overlay.sized c.self.invariant c.self.view_is c.requires c.find_slots-found.ensures.follows in
-    let renews = subst (λ (m : BTreeMap Label (Option Page)). Renews m.entries s.memo c.renew.new.self) c.replace-changes.ensures.value c.renew.ensures in
-    (done_memo at (omega (arith, c.if-self-slots.false, c.slots-slots.ensures.value)) (g.met.W.Draw.lawful s.draw) c.in_ok-changed.changed c.in_ok-changed.was c.find_slots-found.ensures.call c.commit_slots.new.disk c.in-Ok.field-0 c.in-Ok.ensures.call.calls c.in-Ok.ensures.call.commits c.clear.new.self.entries c.clear.ensures.empty s.memo c.renew.new.self s.remembered renews, tt)
+    (c.find_slots-found.ensures.starts, (done_memo at (omega (arith, c.if-self-slots.false, c.slots-slots.ensures.value)) (g.met.W.Draw.lawful s.draw) c.in_ok-changed.changed c.in_ok-changed.was c.find_slots-found.ensures.call c.commit_slots.new.disk c.in-Ok.field-0 c.in-Ok.ensures.call.calls c.in-Ok.ensures.call.commits c.empty.new.map.entries c.empty.ensures s.memo c.renew.new.self s.remembered c.renew.ensures.renews, tt))
 
 pub returns-in-Ok : goal.returns-in-Ok
 returns-in-Ok g c =
     let s = c.self.inside in
     let mid = c.find_slots-found.new.overlay in
     let at = read_since g.D.Disk.state g.W.Draw.drawn s.draw s.overlay.disk mid.disk g.met.D.Disk.sound s.overlay.sized c.self.invariant c.self.view_is c.requires c.find_slots-found.ensures.follows in
-    record { call = done at (omega (arith, c.if-self-slots.false, c.slots-slots.ensures.value)) (g.met.W.Draw.lawful s.draw) c.in_ok-changed.changed c.in_ok-changed.was c.find_slots-found.ensures.call c.commit_slots.new.disk c.in-Ok.field-0 c.in-Ok.ensures.call.calls c.in-Ok.ensures.call.commits c.replace-changes.new.dest.entries (ap (λ (m : BTreeMap Label (Option Page)). m.entries) c.replace-changes.ensures.after ∙ c.new.ensures.empty) c.commit_slots.ensures.call.none c.in-Ok.ensures.call.makes }
+    record { call = done at (omega (arith, c.if-self-slots.false, c.slots-slots.ensures.value)) (g.met.W.Draw.lawful s.draw) c.in_ok-changed.changed c.in_ok-changed.was c.find_slots-found.ensures.call c.commit_slots.new.disk c.in-Ok.field-0 c.in-Ok.ensures.call.calls c.in-Ok.ensures.call.commits c.renew.new.changes.entries c.renew.ensures.emptied c.commit_slots.ensures.call.none c.in-Ok.ensures.call.makes }
 
 pub invariant_of-self-in-Err : goal.invariant_of-self-in-Err
 invariant_of-self-in-Err g c =
     let s = c.self.inside in
     let mid = c.find_slots-found.new.overlay in
     let at = read_since g.D.Disk.state g.W.Draw.drawn s.draw s.overlay.disk mid.disk g.met.D.Disk.sound s.overlay.sized c.self.invariant c.self.view_is c.requires c.find_slots-found.ensures.follows in
-    failed_staged at (omega (arith, c.if-self-slots.false, c.slots-slots.ensures.value)) (g.met.W.Draw.lawful s.draw) c.in_ok-changed.changed c.in_ok-changed.was c.find_slots-found.ensures.call c.commit_slots.new.disk c.clear.new.self.entries
+    failed_staged at (omega (arith, c.if-self-slots.false, c.slots-slots.ensures.value)) (g.met.W.Draw.lawful s.draw) c.in_ok-changed.changed c.in_ok-changed.was c.find_slots-found.ensures.call c.commit_slots.new.disk c.empty.new.map.entries
 
 pub returns-in-Err : goal.returns-in-Err
 returns-in-Err g c =

@@ -6,10 +6,10 @@ use Rattle.store_base.specs.declared.store_fault.Fault.TheVariants as causes
 use Rattle.store_base.proofs.SlotsCalls.{AreSlotCalls-fault}
 use Rattle.node_pages.specs.PagesState.{most_pages}
 use Rattle.page_store.specs.Staging.{Changes, used_after}
-use Rattle.page_store.specs.StagedState.{StagedState, staged_state, IsStaged, IsTold, pages_state}
+use Rattle.page_store.specs.StagedState.{StagedState, staged_state, IsStaged, IsTold, pages_state, Follows}
 use Rattle.page_store.specs.Stagings.{Stages}
 use Rattle.page_store.proofs.StagedLemmas.{read_later, staged_later}
-use Rattle.page_store.proofs.StagedCalls.{stage_failed, stage_staged, stage_done}
+use Rattle.page_store.proofs.StagedCalls.{stage_failed, stage_staged, stage_done, view_follows}
 use Rattle.page_store.proofs.staged.Staged.stage.Goals as goal
 
 pub invariant_of-self : goal.invariant_of-self
@@ -74,3 +74,30 @@ returns-clause-call g c =
     let read = read_later s.overlay.params slots.params (state s.overlay.disk) (state slots.disk) s.overlay.touched.entries slots.touched.entries c.has_page.ensures.follows c.has_page.ensures.call.reads in
     let ends = stage_done state s.draw d s.overlay.params slots.params s.overlay.disk slots.disk s.overlay.touched.entries slots.touched.entries s.changes.entries s.used s.settled s.lookups s.is_spent c.self.invariant read c.args.label c.args.change c.in_ok-is_there.is_there c.keep_change.new.changes.entries c.count_after-used.result c.in_ok-is_there.ensures.call c.in_ok-keep_change.ensures.ok c.requires.fits (omega arith) (subst (λ (x : StagedState g.row.D.Denot g.row.W.Denot). IsSome c.args.change → IsTold state x → maps.len x.map < most_pages) (sym c.self.view_is) c.requires.few) (c.count_after-used.ensures ∙ ap (λ (b : Bool). min most_pages (used_after s.used c.in_ok-is_there.is_there b)) c.is_some.ensures) in
     subst (λ (x : StagedState g.row.D.Denot g.row.W.Denot). Stages {T = Unit {0}} (pages_state state x) (pages_state state (staged_state state slots.params s.draw slots.disk c.keep_change.new.changes.entries s.lookups s.is_spent)) c.args.label c.args.change (Ok tt)) c.self.view_is ends
+
+pub returns-in_err-is_there-clause-follows : goal.returns-in_err-is_there-clause-follows
+returns-in_err-is_there-clause-follows g c =
+    let s = c.self.inside in
+    let slots = c.has_page.new.slots in
+    let state = g.D.Disk.state in
+    let next = s.changes.entries in
+    subst (λ (x : StagedState g.row.D.Denot g.row.W.Denot). Follows state x (staged_state state slots.params s.draw slots.disk next s.lookups s.is_spent)) c.self.view_is
+    (view_follows state s.draw s.overlay.params slots.params s.overlay.disk slots.disk s.changes.entries next s.lookups s.lookups s.is_spent c.has_page.ensures.follows)
+
+pub returns-in_err-keep_change-clause-follows : goal.returns-in_err-keep_change-clause-follows
+returns-in_err-keep_change-clause-follows g c =
+    let s = c.self.inside in
+    let slots = c.has_page.new.slots in
+    let state = g.D.Disk.state in
+    let next = c.keep_change.new.changes.entries in
+    subst (λ (x : StagedState g.row.D.Denot g.row.W.Denot). Follows state x (staged_state state slots.params s.draw slots.disk next s.lookups s.is_spent)) c.self.view_is
+    (view_follows state s.draw s.overlay.params slots.params s.overlay.disk slots.disk s.changes.entries next s.lookups s.lookups s.is_spent c.has_page.ensures.follows)
+
+pub returns-clause-follows : goal.returns-clause-follows
+returns-clause-follows g c =
+    let s = c.self.inside in
+    let slots = c.has_page.new.slots in
+    let state = g.D.Disk.state in
+    let next = c.keep_change.new.changes.entries in
+    subst (λ (x : StagedState g.row.D.Denot g.row.W.Denot). Follows state x (staged_state state slots.params s.draw slots.disk next s.lookups s.is_spent)) c.self.view_is
+    (view_follows state s.draw s.overlay.params slots.params s.overlay.disk slots.disk s.changes.entries next s.lookups s.lookups s.is_spent c.has_page.ensures.follows)

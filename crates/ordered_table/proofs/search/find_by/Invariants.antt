@@ -1,6 +1,6 @@
 use Rattle.std.proofs.Common.{◌≡◌, ◌+◌}
 use Rattle.ordered_table.proofs.Searching.{Searching}
-use Rattle.ordered_table.proofs.search.find_from.Given as goal
+use Rattle.ordered_table.proofs.search.find_by.Given as goal
 
 abbrev pub invariant-loop-look : goal.invariant-loop-look
 invariant-loop-look g l =
