@@ -4,7 +4,6 @@ use Rattle.std.specs.FinMap.{put}
 use Rattle.store_base.specs.declared.store_fault.Fault.{Fault}
 use Rattle.store_base.specs.declared.store_fault.Fault.TheVariants.{NoMemory}
 use Rattle.store_base.specs.declared.label.Lead as declared
-use Rattle.store_base.specs.Faults.{disk_faults_after}
 use Rattle.store_base.specs.Keys.{IsKey}
 use Rattle.store_base.specs.Leads.{lead_of}
 use Rattle.store_model.specs.Paths.{key_cmp}
@@ -21,6 +20,7 @@ use Rattle.skip_levels.specs.Groups.{HoldsGroup}
 use Rattle.skip_levels.specs.PairChanges.{IsPutting, IsTaking, PutsPairFrom, TakesPairFrom}
 use Rattle.skip_levels.specs.PairsState.{without}
 use Rattle.skip_levels.specs.SearchPath.{leader_behind, group_cost, group_below, group_at_or_below, levels_cost, path_cost_below, not_above, below, above}
+use Rattle.skip_levels.proofs.CallsBehind.{memory_lacks, fails_behind, failed_call}
 use Rattle.skip_levels.proofs.LevelChanges.{pages_between, all_changed}
 use Rattle.skip_levels.proofs.PathCosts.{cost_of_level, levels_within, costs_from, costs_down, costs_within}
 use Rattle.skip_levels.proofs.PathLemmas.{holds_path}
@@ -28,25 +28,6 @@ use Rattle.skip_levels.proofs.PlaceCosts.{low_group, high_group}
 use Rattle.skip_levels.proofs.PlaceGroups.{group_of_place}
 use Rattle.skip_levels.proofs.PlaceLists.{within, put_begins, put_first, put_below, floor_below, pair_there, take_within, take_begins, take_first, take_below}
 use Rattle.skip_levels.proofs.PlaceSteps.{SetsAt, SplitsAt, JoinsAt}
-use Rattle.skip_levels.proofs.ValueLemmas.{same_count}
-
--- ---- calls one after another
-
-pub memory_lacks : {A C : Type 0} (old mid : PagesState) (a : A) → IsPagesCall {T = A} old mid (Ok a) → IsPagesCall {T = C} old mid (Err NoMemory)
-memory_lacks old mid a h = record { faults = h.faults; lookups_kept = h.lookups_kept; hidden = h.hidden; observable = h.observable }
-
--- and one behind another
-pub fails_behind : {A B C : Type 0} (old mid new : PagesState) (a : A) (fault : Fault) → IsPagesCall {T = A} old mid (Ok a) → IsPagesCall {T = B} mid new (Err fault) → IsPagesCall {T = C} old new (Err fault)
-fails_behind {A} {B} {C} old mid new a fault h g = record {
-  faults = g.faults ∙ ap (λ n. disk_faults_after {T = B} n (Err fault)) h.faults ∙ same_count B C old.faults fault;
-  lookups_kept = omega (arith, h.lookups_kept, g.lookups_kept);
-  hidden = λ o. h.hidden (g.hidden o);
-  observable = λ o. g.observable (h.observable o);
-}
-
--- and one alone
-failed_call : {A C : Type 0} (old new : PagesState) (fault : Fault) → IsPagesCall {T = A} old new (Err fault) → IsPagesCall {T = C} old new (Err fault)
-failed_call {A} {C} old new fault h = record { faults = h.faults ∙ same_count A C old.faults fault; lookups_kept = h.lookups_kept; hidden = h.hidden; observable = h.observable }
 
 -- ---- the first level
 

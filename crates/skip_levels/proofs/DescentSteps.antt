@@ -1,80 +1,81 @@
--- The steps of a way down from level to level on the search path of a key, and descents that are made of such ways.
-use Rattle.std.proofs.Common.{◌≡◌, ℕ, suc, ◌+◌, ◌-◌, ◌<◌, ◌≤◌, List, Option, Some, None, Result, Ok, Err, IfOk, refl, sym, ap, subst, ◌∙◌, arith}
-use Rattle.std.specs.Option.{option_or}
+-- The steps of a way down from level to level on the search path of a key, and searches that are made of such ways.
+use Rattle.std.proofs.Common.{◌≡◌, ℕ, suc, ◌+◌, ◌-◌, ◌<◌, ◌≤◌, List, Option, Some, None, Result, Ok, Err, refl, sym, ap, subst, ◌∙◌, arith}
 use Rattle.store_base.specs.declared.store_fault.Fault.{Fault}
-use Rattle.store_base.specs.declared.store_fault.Fault.TheVariants.{Disk, NoMemory}
 use Rattle.store_base.specs.declared.label.Lead.{Lead}
 use Rattle.store_base.specs.Faults.{disk_faults_after}
 use Rattle.store_base.specs.Leads.{lead_of}
-use Rattle.store_model.specs.Labels as labels
 use Rattle.store_model.specs.Labels.Lead.{Start}
 use Rattle.store_model.specs.Draws.{Draw}
 use Rattle.store_model.specs.Pairs.{Pair}
 use Rattle.store_model.specs.Pages.{Cell}
 use Rattle.store_model.specs.PageMaps.{PageMap}
 use Rattle.node_pages.specs.PagesState.{PagesState, IsObservable}
-use Rattle.skip_levels.specs.Floors.{floor_of, after_of, lead_from, lead_at, key_ahead, key_in}
+use Rattle.skip_levels.specs.Floors.{floor_of, after_of, lead_from, key_ahead}
 use Rattle.skip_levels.specs.Groups.{HoldsGroup}
 use Rattle.skip_levels.specs.SearchPath.{above, leader_behind, leader_ahead, not_above, levels_cost}
-use Rattle.skip_levels.specs.Descent.{HoldsPairs, IsSearched, LeadsPath, LeadsAhead, LiesIn, IsPlace, IsWayFrom, IsWayDown, IsDescent}
-use Rattle.skip_levels.specs.declared.search.Neighbours.{Neighbours}
+use Rattle.skip_levels.specs.Descent.{HoldsPairs, IsSearched, LiesIn, IsPlace, IsWayFrom, IsWayDown, IsPlaceSearch}
 use Rattle.skip_levels.specs.declared.search.PathEnd.{PathEnd}
-use Rattle.skip_levels.specs.Searches.{FindsNeighbours, ReadsGroup, IsGroupSearch}
+use Rattle.skip_levels.specs.Searches.{seen, led_by, followed_by, ReadsGroup, IsGroupSearch}
 use Rattle.skip_levels.proofs.PlaceGroups.{group_of_place}
 use Rattle.skip_levels.proofs.Descents.{next_lead, next_ahead, start_leads_highest, none_ahead_highest}
 use Rattle.skip_levels.proofs.PathLemmas.{side_passes, side_fails, holds_path, few_on_path}
+use Rattle.skip_levels.proofs.KnownPlaces.{known_at}
 use Rattle.skip_levels.proofs.PathCosts.{cost_within, cost_of_level, levels_joined}
+use Rattle.skip_levels.proofs.ValueLemmas.{same_count}
 
--- of the cells that are found, keys alone are wanted
-lead_at_key : (found : Option Cell) (lead : labels.Lead) → lead_at (key_in found) lead ≡ lead_from found lead
-lead_at_key None lead = refl
-lead_at_key (Some cell) lead = refl
+-- what the cells next to a key make of a place on its search path
+lead_seen : (floor after : Option Cell) (end : PathEnd) → lead_of (seen followed_by after (seen led_by floor end)).lead ≡ lead_from floor (lead_of end.lead)
+lead_seen None None end = refl
+lead_seen None (Some cell) end = refl
+lead_seen (Some cell) None end = refl
+lead_seen (Some cell) (Some other) end = refl
 
-ahead_at_key : (found : Option Cell) (next : Option (List ℕ)) → option_or (key_in found) next ≡ key_ahead found next
-ahead_at_key None next = refl
-ahead_at_key (Some cell) next = refl
+next_seen : (floor after : Option Cell) (end : PathEnd) → (seen followed_by after (seen led_by floor end)).next ≡ key_ahead after end.next
+next_seen None None end = refl
+next_seen None (Some cell) end = refl
+next_seen (Some cell) None end = refl
+next_seen (Some cell) (Some other) end = refl
 
 module _ (old : PagesState) (top : ℕ) (from : PathEnd) (key : List ℕ) where
   -- what is known of observable pages on the way down
-  pub record Nears (now : PagesState) (level : ℕ) (lead : Lead) (ahead : Option (List ℕ)) : Type 0 where
+  pub record Nears (now : PagesState) (level : ℕ) (end : PathEnd) : Type 0 where
     pub observable : IsObservable now
     pub unchanged : now.pages ≡ old.pages
-    pub place : (d : Draw) (s : List Pair) → IsWayFrom d s old.pages top key from → IsPlace d s level key (record { lead = lead; next = ahead })
+    pub place : (d : Draw) (s : List Pair) → IsWayFrom d s old.pages top key from → IsPlace d s level key end
     pub lookups : (d : Draw) (s : List Pair) → IsWayFrom d s old.pages top key from → now.lookups ≤ old.lookups + levels_cost d s key (suc level) (suc top - suc level)
 
-  -- the way is at a level, and this leads its group
-  pub record Descends (now : PagesState) (level : ℕ) (lead : Lead) (ahead : Option (List ℕ)) : Type 0 where
+  -- the way is at a level, and this is the place
+  pub record Descends (now : PagesState) (level : ℕ) (end : PathEnd) : Type 0 where
     pub faults : now.faults ≡ old.faults
     pub lookups_kept : old.lookups ≤ now.lookups
     pub hidden : IsObservable now → IsObservable old
-    pub observed : IsObservable old → Nears now level lead ahead
+    pub observed : IsObservable old → Nears now level end
 
-  pub way_starts : Descends old top from.lead from.next
+  pub way_starts : Descends old top from
   way_starts = record {
     faults = refl;
     lookups_kept = omega arith;
     hidden = λ o. o;
-    observed = λ o. record { observable = o; unchanged = refl; place = λ d s f. record { lead = f.place.lead; next = f.place.next }; lookups = λ d s f. omega arith };
+    observed = λ o. record { observable = o; unchanged = refl; place = λ d s f. f.place; lookups = λ d s f. omega arith };
   }
 
-  module _ (now next : PagesState) (level : ℕ) (lead : Lead) (ahead : Option (List ℕ)) (w : Descends now level lead ahead) (within : level ≤ top) where
-    -- what one search of the level's group makes
-    level_searched : {result : Result (Neighbours (Option (List ℕ))) Fault} (n : Nears now level lead ahead) → ReadsGroup key_in now next level (lead_of lead) key result
-        → (d : Draw) (s : List Pair) → IsWayFrom d s old.pages top key from → FindsNeighbours key_in now next level key (group_of_place d level (not_above key s) (above key s)) result
-    level_searched n g d s f =
+  module _ (now next : PagesState) (level : ℕ) (end : PathEnd) (w : Descends now level end) (within : level ≤ top) where
+    -- the level's group
+    holds_group : Nears now level end → (d : Draw) (s : List Pair) → IsWayFrom d s old.pages top key from → HoldsGroup now.pages level (lead_of end.lead) (group_of_place d level (not_above key s) (above key s))
+    holds_group n d s f =
         let group = group_of_place d level (not_above key s) (above key s) in
-        g.floor group (subst (λ m. HoldsGroup m level (lead_of lead) group) (sym n.unchanged)
-        (subst (λ l. HoldsGroup old.pages level l group) (sym (n.place d s f).lead) (holds_path d s old level key f.holds (omega (arith, f.within))))) (few_on_path d s old level key f.holds)
+        subst (λ m. HoldsGroup m level (lead_of end.lead) group) (sym n.unchanged)
+        (subst (λ l. HoldsGroup old.pages level l group) (sym (n.place d s f).lead) (holds_path d s old level key f.holds (omega (arith, f.within))))
 
     -- what the levels from this one on cost
-    level_cost : {result : Result (Neighbours (Option (List ℕ))) Fault} (n : Nears now level lead ahead) → ReadsGroup key_in now next level (lead_of lead) key result
+    level_cost : {IsFound : List Cell → Type 0} (n : Nears now level end) → ReadsGroup now next level (lead_of end.lead) IsFound
         → (d : Draw) (s : List Pair) → IsWayFrom d s old.pages top key from → next.lookups ≤ old.lookups + levels_cost d s key level (suc top - level)
     level_cost n g d s f =
-        omega (arith, (level_searched n g d s f).lookups, n.lookups d s f, cost_of_level d s key level (suc top) f.holds.pairs (omega arith))
+        omega (arith, g.lookups (group_of_place d level (not_above key s) (above key s)) (holds_group n d s f), n.lookups d s f, cost_of_level d s key level (suc top) f.holds.pairs (omega arith))
 
-    pub way_fails : (fault : Fault) (bottom : ℕ) → suc bottom ≤ level → IsGroupSearch key_in now next level (lead_of lead) key (Err fault) → IsWayDown old next top from bottom key (Err fault)
-    way_fails fault bottom low search = record {
-      faults = search.faults ∙ ap (λ n. disk_faults_after {T = Neighbours (Option (List ℕ))} n (Err fault)) w.faults ∙ same_count fault;
+    pub way_fails : {S : Type 0} (below : PathEnd) (fault : Fault) (bottom : ℕ) → suc bottom ≤ level → IsGroupSearch {S = S} led_by followed_by now next level (lead_of end.lead) key end below (Err fault) → IsWayDown old next top from bottom key (Err fault)
+    way_fails {S} below fault bottom low search = record {
+      faults = search.faults ∙ ap (λ n. disk_faults_after {T = S} n (Err fault)) w.faults ∙ same_count S PathEnd old.faults fault;
       lookups_kept = omega (arith, search.lookups_kept, w.lookups_kept);
       hidden = λ o. w.hidden (search.hidden o);
       observed = λ o. let n = w.observed o in let g = search.observed n.observable in record {
@@ -87,15 +88,11 @@ module _ (old : PagesState) (top : ℕ) (from : PathEnd) (key : List ℕ) where
       };
     }
       where
-        same_count : (f : Fault) → disk_faults_after {T = Neighbours (Option (List ℕ))} old.faults (Err f) ≡ disk_faults_after {T = PathEnd} old.faults (Err f)
-        same_count Disk = refl
-        same_count NoMemory = refl
-
         levels_between : (b : ℕ) → suc top - suc b ≡ top - b
         levels_between b = omega arith
 
-    pub way_goes_on : (near : Neighbours (Option (List ℕ))) (below : Lead) (further : Option (List ℕ)) (lower : ℕ) → level ≡ suc lower → IsGroupSearch key_in now next level (lead_of lead) key (Ok near) → lead_of below ≡ lead_at near.floor (lead_of lead) → further ≡ option_or near.after ahead → Descends next lower below further
-    way_goes_on near below further lower is search lead_is ahead_is = record {
+    pub way_goes_on : {S : Type 0} (done : S) (below : PathEnd) (lower : ℕ) → level ≡ suc lower → IsGroupSearch led_by followed_by now next level (lead_of end.lead) key end below (Ok done) → Descends next lower below
+    way_goes_on done below lower is search = record {
       faults = search.faults ∙ w.faults;
       lookups_kept = omega (arith, search.lookups_kept, w.lookups_kept);
       hidden = λ o. w.hidden (search.hidden o);
@@ -106,12 +103,13 @@ module _ (old : PagesState) (top : ℕ) (from : PathEnd) (key : List ℕ) where
             let low = not_above key s in
             let high = above key s in
             let at = n.place d s f in
-            let near_is = (level_searched n g d s f).found in
+            let group = group_of_place d level low high in
+            let is_seen : below ≡ seen followed_by (after_of key group) (seen led_by (floor_of key group) end) = g.found group (holds_group n d s f) (few_on_path d s old level key f.holds) in
             record {
-              lead = lead_is ∙ ap (λ o. lead_at o (lead_of lead)) near_is.floor ∙ lead_at_key (floor_of key (group_of_place d level low high)) (lead_of lead) ∙ ap (lead_from (floor_of key (group_of_place d level low high))) at.lead
+              lead = ap (λ (e : PathEnd). lead_of e.lead) is_seen ∙ lead_seen (floor_of key group) (after_of key group) end ∙ ap (lead_from (floor_of key group)) at.lead
                   ∙ subst (λ k. lead_from (floor_of key (group_of_place d k low high)) (leader_behind d k low) ≡ leader_behind d lower low) (sym is)
                   (sym (next_lead d lower key low high (side_passes d (suc lower) key s) (side_fails d (suc lower) key s)));
-              next = ahead_is ∙ ap (λ o. option_or o ahead) near_is.after ∙ ahead_at_key (after_of key (group_of_place d level low high)) ahead ∙ ap (key_ahead (after_of key (group_of_place d level low high))) at.next
+              next = ap (λ (e : PathEnd). e.next) is_seen ∙ next_seen (floor_of key group) (after_of key group) end ∙ ap (key_ahead (after_of key group)) at.next
                   ∙ subst (λ k. key_ahead (after_of key (group_of_place d k low high)) (leader_ahead d k high) ≡ leader_ahead d lower high) (sym is)
                   (sym (next_ahead d lower key low high (side_passes d (suc lower) key s) (side_fails d (suc lower) key s)));
             };
@@ -119,101 +117,135 @@ module _ (old : PagesState) (top : ℕ) (from : PathEnd) (key : List ℕ) where
       };
     }
 
-  pub way_ends : (now : PagesState) (lead : Lead) (ahead : Option (List ℕ)) (level bottom : ℕ) → level ≡ bottom → Descends now level lead ahead → IsWayDown old now top from bottom key (Ok (record { lead = lead; next = ahead }))
-  way_ends now lead ahead level bottom low w = record {
+  pub way_ends : (now : PagesState) (end : PathEnd) (level bottom : ℕ) → level ≡ bottom → Descends now level end → IsWayDown old now top from bottom key (Ok end)
+  way_ends now end level bottom low w = record {
     faults = w.faults;
     lookups_kept = w.lookups_kept;
     hidden = w.hidden;
     observed = λ o. let n = w.observed o in record {
       observable = n.observable;
       unchanged = n.unchanged;
-      found = λ d s f. subst (λ k. IsPlace d s k key (record { lead = lead; next = ahead })) low (n.place d s f);
+      found = λ d s f. subst (λ k. IsPlace d s k key end) low (n.place d s f);
       lookups = λ d s f.
           let count : suc top - suc level ≡ top - level = omega arith in
           subst (λ k. now.lookups ≤ old.lookups + levels_cost d s key (suc k) (top - k)) low (subst (λ k. now.lookups ≤ old.lookups + levels_cost d s key (suc level) k) count (n.lookups d s f));
     };
   }
 
--- ---- from the highest level
-
--- what is found of every list
-found_of_all : (old : PagesState) (height : ℕ) (known : Option PathEnd) (bottom : ℕ) (key : List ℕ) (result : Result PathEnd Fault) → ((d : Draw) (s : List Pair) → IsSearched d s old.pages height known → IfOk result (IsPlace d s bottom key))
-    → IfOk result (λ end. LeadsPath old height known bottom key end.lead) × IfOk result (λ end. LeadsAhead old height known bottom key end.next)
-found_of_all old height known bottom key (Ok end) places = (λ d s h. (places d s h).lead, λ d s h. (places d s h).next)
-found_of_all old height known bottom key (Err fault) places = (tt, tt)
+-- ---- a search from the highest level
 
 -- nothing is known at the highest level: the start leads its one group
-highest_place : (d : Draw) (s : List Pair) (m : PageMap) (height top : ℕ) (key : List ℕ) (start : PathEnd) → lead_of start.lead ≡ Start → start.next ≡ None → height ≡ suc top → HoldsPairs d s m → height ≡ d.height → IsWayFrom d s m top key start
-highest_place d s m height top key start lead next is h high = record {
+highest_place : (d : Draw) (s : List Pair) (m : PageMap) (height highest : ℕ) (key : List ℕ) (start : PathEnd) → lead_of start.lead ≡ Start → start.next ≡ None → height ≡ suc highest → HoldsPairs d s m → height ≡ d.height → IsWayFrom d s m highest key start
+highest_place d s m height highest key start lead next is h high = record {
   holds = h;
   within = omega arith;
   place = record {
-    lead = lead ∙ sym (start_leads_highest d top (not_above key s) h.lawful (omega arith));
-    next = next ∙ sym (none_ahead_highest d top (above key s) h.lawful (omega arith));
+    lead = lead ∙ sym (start_leads_highest d highest (not_above key s) h.lawful (omega arith));
+    next = next ∙ sym (none_ahead_highest d highest (above key s) h.lawful (omega arith));
   };
 }
 
-pub whole_descent : (old new : PagesState) (height : ℕ) (known : Option PathEnd) (top bottom : ℕ) (key : List ℕ) (start : PathEnd) (result : Result PathEnd Fault) → lead_of start.lead ≡ Start → start.next ≡ None → height ≡ suc top → IsWayDown old new top start bottom key result → IsDescent old new height known bottom key result
-whole_descent old new height known top bottom key start result lead next is way = record {
-  faults = way.faults;
-  lookups_kept = way.lookups_kept;
-  hidden = way.hidden;
-  observed = λ o.
-      let n = way.observed o in
-      let all = found_of_all old height known bottom key result (λ d s h. n.found d s (highest_place d s old.pages height top key start lead next is h.holds h.high)) in
-      record {
-        observable = n.observable;
-        unchanged = n.unchanged;
-        lead = all.0;
-        next = all.1;
-        lookups = λ d s h.
-            let count : top - bottom ≡ height - suc bottom = omega arith in
-            subst (λ k. new.lookups ≤ old.lookups + levels_cost d s key (suc bottom) k) count (n.lookups d s (highest_place d s old.pages height top key start lead next is h.holds h.high));
-      };
-}
+module _ (old mid : PagesState) (height highest : ℕ) (known : Option PathEnd) (top : ℕ) (key : List ℕ) (start : PathEnd) (is_start : lead_of start.lead ≡ Start) (none_ahead : start.next ≡ None) (high : height ≡ suc highest) (within : top < height) where
+  from_highest : (d : Draw) (s : List Pair) → IsSearched d s old.pages height known → IsWayFrom d s old.pages highest key start
+  from_highest d s h = highest_place d s old.pages height highest key start is_start none_ahead high h.holds h.high
+
+  pub upper_fails : (fault : Fault) → IsWayDown old mid highest start top key (Err fault) → IsPlaceSearch old mid height known top key known (Err fault)
+  upper_fails fault way = record {
+    faults = way.faults ∙ same_count PathEnd Lead old.faults fault;
+    lookups_kept = way.lookups_kept;
+    hidden = way.hidden;
+    observed = λ o. let n = way.observed o in record {
+      observable = n.observable;
+      unchanged = n.unchanged;
+      lead = λ d s h. tt;
+      place = λ d s h. tt;
+      right = λ d s h. h.right;
+      lookups = λ d s h.
+          let count : highest - top ≡ height - suc top = omega arith in
+          omega (arith, n.lookups d s (from_highest d s h), ap (levels_cost d s key (suc top)) count, cost_within d s key 1 (suc top) height (omega arith) (omega arith));
+    };
+  }
+
+  -- the way to level 0 is one
+  pub low_found : (low : PathEnd) → top ≡ 0 → IsWayDown old mid highest start 0 key (Ok low) → IsPlaceSearch old mid height known 0 key (Some low) (Ok low.lead)
+  low_found low lowest way = record {
+    faults = way.faults;
+    lookups_kept = way.lookups_kept;
+    hidden = way.hidden;
+    observed = λ o. let n = way.observed o in record {
+      observable = n.observable;
+      unchanged = n.unchanged;
+      lead = λ d s h. (n.found d s (from_highest d s h)).lead;
+      place = λ d s h. n.found d s (from_highest d s h);
+      right = λ d s h. known_at d s key low h.holds.pairs (n.found d s (from_highest d s h));
+      lookups = λ d s h. let count : highest - 0 ≡ height - 1 = omega arith in omega (arith, n.lookups d s (from_highest d s h), ap (levels_cost d s key 1) count);
+    };
+  }
+
+  module _ (new : PagesState) (upper : PathEnd) (first : IsWayDown old mid highest start top key (Ok upper)) where
+    way_on : (o : IsObservable old) (d : Draw) (s : List Pair) → IsSearched d s old.pages height known → IsWayFrom d s mid.pages top key upper
+    way_on o d s h =
+        let n = first.observed o in
+        record { holds = subst (HoldsPairs d s) (sym n.unchanged) h.holds; within = omega (arith, h.high); place = n.found d s (from_highest d s h) }
+
+    cost_of_both : {result : Result PathEnd Fault} → IsWayDown mid new top upper 0 key result → (o : IsObservable old) (d : Draw) (s : List Pair) → IsSearched d s old.pages height known → new.lookups ≤ old.lookups + levels_cost d s key 1 (height - 1)
+    cost_of_both second o d s h =
+        let u = first.observed o in
+        let above_top : highest - top ≡ height - suc top = omega arith in
+        let count : (top - 0) + (height - suc top) ≡ height - 1 = omega arith in
+        let place : 1 + (top - 0) ≡ suc top = omega arith in
+        omega (
+          arith,
+          (second.observed u.observable).lookups d s (way_on o d s h),
+          u.lookups d s (from_highest d s h),
+          ap (levels_cost d s key (suc top)) above_top,
+          sym (ap (λ k. levels_cost d s key k (height - suc top)) place),
+          levels_joined d s key 1 (top - 0) (height - suc top),
+          ap (levels_cost d s key 1) count,
+        )
+
+    pub lower_fails : (fault : Fault) → IsWayDown mid new top upper 0 key (Err fault) → IsPlaceSearch old new height known top key known (Err fault)
+    lower_fails fault second = record {
+      faults = second.faults ∙ ap (λ n. disk_faults_after {T = PathEnd} n (Err fault)) first.faults ∙ same_count PathEnd Lead old.faults fault;
+      lookups_kept = omega (arith, second.lookups_kept, first.lookups_kept);
+      hidden = λ o. first.hidden (second.hidden o);
+      observed = λ o.
+          let u = first.observed o in
+          let n = second.observed u.observable in
+          record { observable = n.observable; unchanged = n.unchanged ∙ u.unchanged; lead = λ d s h. tt; place = λ d s h. tt; right = λ d s h. h.right; lookups = cost_of_both second o };
+    }
+
+    pub lead_found : (low : PathEnd) → IsWayDown mid new top upper 0 key (Ok low) → IsPlaceSearch old new height known top key (Some low) (Ok upper.lead)
+    lead_found low second = record {
+      faults = second.faults ∙ first.faults;
+      lookups_kept = omega (arith, second.lookups_kept, first.lookups_kept);
+      hidden = λ o. first.hidden (second.hidden o);
+      observed = λ o.
+          let u = first.observed o in
+          let n = second.observed u.observable in
+          record {
+            observable = n.observable;
+            unchanged = n.unchanged ∙ u.unchanged;
+            lead = λ d s h. (u.found d s (from_highest d s h)).lead;
+            place = λ d s h. n.found d s (way_on o d s h);
+            right = λ d s h. known_at d s key low h.holds.pairs (n.found d s (way_on o d s h));
+            lookups = cost_of_both second o;
+          };
+    }
 
 -- ---- to a group that is known
 
-pub known_descent : (old : PagesState) (height : ℕ) (place : PathEnd) (key : List ℕ) → LiesIn place key → IsDescent old old height (Some place) 0 key (Ok place)
-known_descent old height place key lies = record {
+pub lead_is_known : (old : PagesState) (height top : ℕ) (place : PathEnd) (key : List ℕ) → top ≡ 0 → LiesIn place key → IsPlaceSearch old old height (Some place) top key (Some place) (Ok place.lead)
+lead_is_known old height top place key lowest lies = record {
   faults = refl;
   lookups_kept = omega arith;
   hidden = λ o. o;
-  observed = λ o. record { observable = o; unchanged = refl; lead = λ d s h. (h.right key lies).lead; next = λ d s h. (h.right key lies).next; lookups = λ d s h. omega arith };
+  observed = λ o. record {
+    observable = o;
+    unchanged = refl;
+    lead = λ d s h. subst (λ k. lead_of place.lead ≡ leader_behind d k (not_above key s)) (sym lowest) (h.right key lies).lead;
+    place = λ d s h. h.right key lies;
+    right = λ d s h. h.right;
+    lookups = λ d s h. omega arith;
+  };
 }
-
--- ---- on from the end of a descent
-
-module _ (old mid new : PagesState) (height : ℕ) (known : Option PathEnd) (top : ℕ) (key : List ℕ) (upper : PathEnd) (first : IsDescent old mid height known top key (Ok upper)) (within : top < height) where
-  way_on : (o : IsObservable old) (d : Draw) (s : List Pair) → IsSearched d s old.pages height known → IsWayFrom d s mid.pages top key upper
-  way_on o d s h =
-      let n = first.observed o in
-      record { holds = subst (HoldsPairs d s) (sym n.unchanged) h.holds; within = omega (arith, h.high); place = record { lead = n.lead d s h; next = n.next d s h } }
-
-  pub descent_on : (result : Result PathEnd Fault) → IsWayDown mid new top upper 0 key result → IsDescent old new height known 0 key result
-  descent_on result way = record {
-    faults = way.faults ∙ ap (λ n. disk_faults_after n result) first.faults;
-    lookups_kept = omega (arith, way.lookups_kept, first.lookups_kept);
-    hidden = λ o. first.hidden (way.hidden o);
-    observed = λ o.
-        let u = first.observed o in
-        let n = way.observed u.observable in
-        let all = found_of_all old height known 0 key result (λ d s h. n.found d s (way_on o d s h)) in
-        record {
-          observable = n.observable;
-          unchanged = n.unchanged ∙ u.unchanged;
-          lead = all.0;
-          next = all.1;
-          lookups = λ d s h.
-              let count : (top - 0) + (height - suc top) ≡ height - 1 = omega arith in
-              let place : 1 + (top - 0) ≡ suc top = omega arith in
-              omega (
-                arith,
-                n.lookups d s (way_on o d s h),
-                u.lookups d s h,
-                sym (ap (λ k. levels_cost d s key k (height - suc top)) place),
-                levels_joined d s key 1 (top - 0) (height - suc top),
-                ap (levels_cost d s key 1) count,
-              );
-        };
-  }

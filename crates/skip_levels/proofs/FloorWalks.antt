@@ -1,84 +1,92 @@
 -- A search in the pages of one group, page after page.
-use Rattle.std.proofs.Common.{◌≡◌, ◌⊎◌, ℕ, zero, suc, ◌+◌, ◌-◌, ◌<◌, ◌≤◌, List, length, Option, Some, None, Result, Ok, Err, IfOk, refl, ap, ◌∙◌, arith}
+use Rattle.std.proofs.Common.{◌≡◌, ◌⊎◌, ℕ, zero, suc, ◌+◌, ◌-◌, ◌<◌, ◌≤◌, List, length, Option, Some, None, Result, Ok, Err, IfOk, refl, sym, ap, ◌∙◌, arith}
 use Rattle.std.specs.List.{prefix_len, slice_get}
 use Rattle.store_base.specs.declared.store_fault.Fault.{Fault}
 use Rattle.store_model.specs.Labels.{Lead}
 use Rattle.store_model.specs.Pages.{Cell, Page, page_room}
 use Rattle.node_pages.specs.PagesState.{PagesState, IsPageGet, most_pages}
-use Rattle.skip_levels.specs.Floors.{is_not_above}
 use Rattle.skip_levels.specs.Groups.{label_of}
-use Rattle.skip_levels.specs.declared.search.Neighbours.{Neighbours}
-use Rattle.skip_levels.specs.Searches.{AreNeighbours, IsGroupSearch}
+use Rattle.skip_levels.specs.Floors.{is_not_above, after_of}
+use Rattle.skip_levels.specs.Searches.{seen, IsSeen, IsGroupSearch}
 use Rattle.skip_levels.proofs.GroupSteps.{WalksTo, EndsWalk, begins, breaks, ends, goes_on, is_over}
 use Rattle.skip_levels.proofs.ValueLemmas.{same_count}
-use Rattle.skip_levels.proofs.Walks.{Walked, Ends, walk_start, walk_none, walk_stop, walk_on}
+use Rattle.skip_levels.proofs.Walks.{Walked, Ends, some_at, walk_start, walk_none, walk_stop, walk_on}
 
-module _ {T : Type 0} (of : Option Cell → T) (old : PagesState) (level : ℕ) (lead : Lead) (key : List ℕ) where
-  -- all cells of the pages that were read are not above the key, and of the last of them this is wanted
-  pub record IsPassed (index : ℕ) (last : T) (cells : List Cell) : Type 0 where
+module _ {T : Type 0} (floor after : Cell → T → T) (last_counts : (first second : Cell) (found : T) → floor second (floor first found) ≡ floor second found) (start : T) (old : PagesState) (level : ℕ) (lead : Lead) (key : List ℕ) where
+  -- all cells of the pages that were read are not above the key, and the last of them was seen
+  pub record IsPassed (index : ℕ) (found : T) (cells : List Cell) : Type 0 where
     pub cell : Option Cell
     pub walked : Walked (is_not_above key) level lead cells index cell
-    pub is : last ≡ of cell
+    pub is : found ≡ seen floor cell start
 
   abbrev pub Walks : PagesState → ℕ → T → Type 0
-  Walks now index last = WalksTo old level lead now index (IsPassed index last)
+  Walks now index found = WalksTo old level lead now index (IsPassed index found)
 
-  pub walks_start : (first : T) → first ≡ of None → Walks old 0 first
-  walks_start first none = begins old level lead (IsPassed 0 first) (λ cells. record { cell = None; walked = walk_start (is_not_above key) level lead cells; is = none })
+  pub walks_start : Walks old 0 start
+  walks_start = begins old level lead (IsPassed 0 start) (λ cells. record { cell = None; walked = walk_start (is_not_above key) level lead cells; is = refl })
 
   -- the search at its end
-  searched : (new : PagesState) (result : Result (Neighbours T) Fault) → EndsWalk old level lead new result (λ cells. IfOk result (AreNeighbours of key cells)) → IsGroupSearch of old new level lead key result
-  searched new result e = record {
+  searched : {S : Type 0} (new : PagesState) (found : T) (result : Result S Fault) → EndsWalk old level lead new result (λ cells. IfOk result (λ done. IsSeen floor after key start found cells)) → IsGroupSearch floor after old new level lead key start found result
+  searched new found result e = record {
     faults = e.faults;
     lookups_kept = e.lookups_kept;
     hidden = e.hidden;
-    observed = λ o. let t = e.observed o in record { observable = t.observable; unchanged = t.unchanged; floor = λ cells holds few. record { found = t.found cells holds few; lookups = t.lookups cells holds } };
+    observed = λ o. let t = e.observed o in record { observable = t.observable; unchanged = t.unchanged; found = t.found; lookups = t.lookups };
   }
 
-  neighbours : (near : Neighbours T) (cells : List Cell) (floor after : Option Cell) → near.floor ≡ of floor → near.after ≡ of after → Ends (is_not_above key) level lead cells floor after → AreNeighbours of key cells near
-  neighbours near cells floor after floor_is after_is e = record { floor = floor_is ∙ ap of e.floor_is; after = after_is ∙ ap of e.after_is }
+  neighbours : (cells : List Cell) (below above : Option Cell) (passed found : T) → passed ≡ seen floor below start → found ≡ seen after above passed → Ends (is_not_above key) level lead cells below above → IsSeen floor after key start found cells
+  neighbours cells below above passed found passed_is found_is e =
+      found_is ∙ ap (λ o. seen after o passed) e.after_is ∙ ap (seen after (after_of key cells)) (passed_is ∙ ap (λ o. seen floor o start) e.floor_is)
 
   -- the last of the first so many cells of a page, or else the one before
   record Picks (page : Page) (count : ℕ) (last : Option Cell) (found : T) : Type 0 where
     cell : Option Cell
     none : count ≡ 0 → cell ≡ last
     some : 0 < count → cell ≡ slice_get page.cells (count - 1)
-    is : found ≡ of cell
+    is : found ≡ seen floor cell start
 
-  picks : (page : Page) (count : ℕ) (last : Option Cell) (before found : T) → before ≡ of last → (count ≡ 0 → found ≡ before) → (0 < count → found ≡ of (slice_get page.cells (count - 1))) → Picks page count last found
-  picks page zero last before found is none some = record { cell = last; none = λ e. refl; some = λ h. absurd (omega arith); is = none refl ∙ is }
-  picks page (suc n) last before found is none some = record { cell = slice_get page.cells (suc n - 1); none = λ e. absurd (omega arith); some = λ h. refl; is = some (omega arith) }
+  picks : (page : Page) (count : ℕ) (last : Option Cell) (before found : T) → count ≤ length page.cells → before ≡ seen floor last start → (count ≡ 0 → found ≡ before) → (0 < count → found ≡ seen floor (slice_get page.cells (count - 1)) before) → Picks page count last found
+  picks page zero last before found within is none some = record { cell = last; none = λ e. refl; some = λ h. absurd (omega arith); is = none refl ∙ is }
+  picks page (suc n) last before found within is none some =
+      let at = some_at page.cells (suc n - 1) (omega arith) in
+      record {
+        cell = Some at.0;
+        none = λ e. absurd (omega arith);
+        some = λ h. sym at.1;
+        is = some (omega arith) ∙ ap (λ o. seen floor o before) at.1 ∙ ap (floor at.0) is ∙ counts last at.0;
+      }
+    where
+      counts : (o : Option Cell) (second : Cell) → floor second (seen floor o start) ≡ floor second start
+      counts None second = refl
+      counts (Some first) second = last_counts first second start
 
-  module _ (now next : PagesState) (index : ℕ) (last : T) (w : Walks now index last) where
-    pub search_fails : (fault : Fault) → IsPageGet now next (label_of level lead index) (Err fault) → IsGroupSearch of old next level lead key (Err fault)
-    search_fails fault get = searched next (Err fault) (breaks old level lead now next index (IsPassed index last) w (Err fault) fault (λ cells. Unit {0}) (λ cells. tt) (same_count (Option Page) (Neighbours T) old.faults fault) get)
+  module _ (now next : PagesState) (index : ℕ) (before : T) (w : Walks now index before) where
+    pub search_fails : {S : Type 0} (fault : Fault) → IsPageGet now next (label_of level lead index) (Err fault) → IsGroupSearch {S = S} floor after old next level lead key start before (Err fault)
+    search_fails {S} fault get = searched next before (Err fault) (breaks old level lead now next index (IsPassed index before) w (Err fault) fault (λ cells. Unit {0}) (λ cells. tt) (same_count (Option Page) S old.faults fault) get)
 
-    pub search_ends : (after : T) → after ≡ of None → index < 4294967296 → IsPageGet now next (label_of level lead index) (Ok None) → IsGroupSearch of old next level lead key (Ok (record { floor = last; after = after }))
-    search_ends after none below get =
-        let near : Neighbours T = record { floor = last; after = after } in
-        searched next (Ok near)
-        (ends old level lead now next index (IsPassed index last) w None near (λ cells. AreNeighbours of key cells near) below get
-        (λ cells passed here. neighbours near cells passed.cell None passed.is none (walk_none (is_not_above key) level lead cells index passed.cell passed.walked here)))
+    pub search_ends : {S : Type 0} (done : S) → index < 4294967296 → IsPageGet now next (label_of level lead index) (Ok None) → IsGroupSearch floor after old next level lead key start before (Ok done)
+    search_ends done below get =
+        searched next before (Ok done)
+        (ends old level lead now next index (IsPassed index before) w None done (IsSeen floor after key start before) below get
+        (λ cells passed here. neighbours cells passed.cell None before before passed.is refl (walk_none (is_not_above key) level lead cells index passed.cell passed.walked here)))
 
-    pub search_stops : (page : Page) (count : ℕ) (found after : T) → index < 4294967296 → IsPageGet now next (label_of level lead index) (Ok (Some page)) → count ≡ prefix_len (is_not_above key) page.cells → count ≤ length page.cells
-        → (count < length page.cells) ⊎ (length page.cells < page_room level) → (count ≡ 0 → found ≡ last) → (0 < count → found ≡ of (slice_get page.cells (count - 1))) → after ≡ of (slice_get page.cells count) → IsGroupSearch of old next level lead key (Ok (record { floor = found; after = after }))
-    search_stops page count found after below get counted within end none some is =
-        let near : Neighbours T = record { floor = found; after = after } in
-        searched next (Ok near)
-        (ends old level lead now next index (IsPassed index last) w (Some page) near (λ cells. AreNeighbours of key cells near) below get
-        (λ cells passed here.
-        let p = picks page count passed.cell last found passed.is none some in
-        neighbours near cells p.cell (slice_get page.cells count) p.is is (walk_stop (is_not_above key) level lead cells index passed.cell p.cell (slice_get page.cells count) page count passed.walked here counted within end p.none p.some refl)))
+    module _ (page : Page) (count : ℕ) (passing : T) (below : index < 4294967296) (get : IsPageGet now next (label_of level lead index) (Ok (Some page))) (counted : count ≡ prefix_len (is_not_above key) page.cells) (within : count ≤ length page.cells)
+        (none : count ≡ 0 → passing ≡ before) (some : 0 < count → passing ≡ seen floor (slice_get page.cells (count - 1)) before) where
+      pub search_stops : {S : Type 0} (done : S) (found : T) → (count < length page.cells) ⊎ (length page.cells < page_room level) → found ≡ seen after (slice_get page.cells count) passing → IsGroupSearch floor after old next level lead key start found (Ok done)
+      search_stops done found end is =
+          searched next found (Ok done)
+          (ends old level lead now next index (IsPassed index before) w (Some page) done (IsSeen floor after key start found) below get
+          (λ cells passed here.
+          let p = picks page count passed.cell before passing within passed.is none some in
+          neighbours cells p.cell (slice_get page.cells count) passing found p.is is
+          (walk_stop (is_not_above key) level lead cells index passed.cell p.cell (slice_get page.cells count) page count passed.walked here counted within end p.none p.some refl)))
 
-    pub search_goes_on : (page : Page) (count : ℕ) (found : T) → index < 4294967296 → IsPageGet now next (label_of level lead index) (Ok (Some page)) → count ≡ prefix_len (is_not_above key) page.cells → count ≤ length page.cells → length page.cells ≤ count → page_room level ≤ length page.cells
-        → (count ≡ 0 → found ≡ last) → (0 < count → found ≡ of (slice_get page.cells (count - 1))) → Walks next (index + 1) found
-    search_goes_on page count found below get counted within all full none some =
-        goes_on old level lead now next index (IsPassed index last) w page (IsPassed (index + 1) found) full below get
-        (λ cells passed here.
-        let p = picks page count passed.cell last found passed.is none some in
-        record { cell = p.cell; walked = walk_on (is_not_above key) level lead cells index passed.cell p.cell page count passed.walked here counted within all full p.none p.some; is = p.is })
+      pub search_goes_on : length page.cells ≤ count → page_room level ≤ length page.cells → Walks next (index + 1) passing
+      search_goes_on all full =
+          goes_on old level lead now next index (IsPassed index before) w page (IsPassed (index + 1) passing) full below get
+          (λ cells passed here.
+          let p = picks page count passed.cell before passing within passed.is none some in
+          record { cell = p.cell; walked = walk_on (is_not_above key) level lead cells index passed.cell p.cell page count passed.walked here counted within all full p.none p.some; is = p.is })
 
-  pub search_is_over : (now : PagesState) (index : ℕ) (last after : T) → after ≡ of None → Walks now index last → most_pages ≤ index → IsGroupSearch of old now level lead key (Ok (record { floor = last; after = after }))
-  search_is_over now index last after none w far =
-      let near : Neighbours T = record { floor = last; after = after } in
-      searched now (Ok near) (is_over old level lead now index (IsPassed index last) near (λ cells. AreNeighbours of key cells near) w far)
+  pub search_is_over : {S : Type 0} (done : S) (now : PagesState) (index : ℕ) (found : T) → Walks now index found → most_pages ≤ index → IsGroupSearch floor after old now level lead key start found (Ok done)
+  search_is_over done now index found w far = searched now found (Ok done) (is_over old level lead now index (IsPassed index found) done (IsSeen floor after key start found) w far)

@@ -31,6 +31,10 @@ run_from level lead first (suc index) (c ∷ cells) page is =
 run_of_page : (level : ℕ) (lead : Lead) (index : ℕ) (cells : List Cell) (page : Page) → slice_get (group_pages level lead cells) index ≡ Some page → length page.cells ≡ length (take (page_room level) (drop (page_room level * index) cells))
 run_of_page level lead index cells page is = ap length (run_from level lead 0 index cells page (ap (λ ps. slice_get ps index) (all_pages level lead cells) ∙ is))
 
+-- no page has more cells than there is room
+pub within_room : (level : ℕ) (lead : Lead) (index : ℕ) (cells : List Cell) (page : Page) → slice_get (group_pages level lead cells) index ≡ Some page → length page.cells ≤ page_room level
+within_room level lead index cells page is = omega (arith, run_of_page level lead index cells page is, length-take (page_room level) (drop (page_room level * index) cells))
+
 -- behind a full page there are so many cells
 pub full_page : (level : ℕ) (lead : Lead) (index : ℕ) (cells : List Cell) (page : Page) → slice_get (group_pages level lead cells) index ≡ Some page → page_room level ≤ length page.cells → page_room level * index ≤ length cells → page_room level * (index + 1) ≤ length cells
 full_page level lead index cells page is full before =

@@ -19,7 +19,7 @@ use Rattle.node_pages.specs.Cells.{CellList}
 use Rattle.node_pages.specs.Groups.{pages_from, page_of_run}
 use Rattle.node_pages.proofs.Runs.{all_pages, next_page, no_page}
 use Rattle.skip_levels.specs.Floors.{last_of, lead_from}
-use Rattle.skip_levels.specs.GroupCells.{AreCells, IsKept, AreKept, IsMerged, compares, side, merged}
+use Rattle.skip_levels.specs.GroupCells.{AreCells, IsKept, EndsAbove, AreKept, IsMerged, compares, side, merged}
 use Rattle.skip_levels.specs.GroupChanges.{renewed_pages}
 use Rattle.skip_levels.proofs.CellLists.{back_cells, last_at}
 use Rattle.skip_levels.proofs.Halving.{cell_at}
@@ -60,17 +60,20 @@ module _ (level : ℕ) (lead : Lead) where
       ∙ ap (λ ps. pages_from level lead first (cells_of (take (suc k) ps) ++ more)) (sym next)
 
   -- pages that are full, and those of the cells behind them, are the pages of all these cells
+  pub front_stays : (kept : ℕ) (olds : List Page) (group more : List Cell) → kept ≤ length olds → AllByRecursion HasNoRoom (take kept olds) → olds ≡ group_pages level lead group → take kept olds ++ pages_from level lead kept more ≡ group_pages level lead (cells_of (take kept olds) ++ more)
+  front_stays kept olds group more within full are =
+      let from : olds ≡ pages_from level lead 0 group = are ∙ sym (all_pages level lead group) in
+      let place : kept ≡ 0 + kept = omega arith in
+      ap₂ (λ ps n. take kept ps ++ pages_from level lead n more) from place
+      ∙ kept_front kept 0 group more (subst (λ ps. kept ≤ length ps) from within) (subst (λ ps. AllByRecursion HasNoRoom (take kept ps)) from full)
+      ∙ ap (λ ps. pages_from level lead 0 (cells_of (take kept ps) ++ more)) (sym from)
+      ∙ all_pages level lead (cells_of (take kept olds) ++ more)
+
   pub renewed_are : (key : List ℕ) (olds : List Page) (kept : ℕ) (list : CellList) (group : List Cell) → list.level ≡ level → kept ≤ length olds → AllByRecursion (IsKept level key) (take kept olds) → olds ≡ group_pages level lead group
       → renewed_pages kept lead olds list ≡ group_pages level lead (cells_of (take kept olds) ++ list.cells)
   renewed_are key olds kept list group same within all are =
-      let from : olds ≡ pages_from level lead 0 group = are ∙ sym (all_pages level lead group) in
-      let place : kept ≡ 0 + kept = omega arith in
-      let full = all_weaker (IsKept level key) HasNoRoom (λ page is. is.full) (take kept olds) all in
       ap (λ n. take kept olds ++ pages_from n lead kept list.cells) same
-      ∙ ap₂ (λ ps n. take kept ps ++ pages_from level lead n list.cells) from place
-      ∙ kept_front kept 0 group list.cells (subst (λ ps. kept ≤ length ps) from within) (subst (λ ps. AllByRecursion HasNoRoom (take kept ps)) from full)
-      ∙ ap (λ ps. pages_from level lead 0 (cells_of (take kept ps) ++ list.cells)) (sym from)
-      ∙ all_pages level lead (cells_of (take kept olds) ++ list.cells)
+      ∙ front_stays kept olds group list.cells within (all_weaker (IsKept level key) HasNoRoom (λ page is. is.full) (take kept olds) all) are
 
 -- pages that are the same list
 pub kept_of : {level : ℕ} {key : List ℕ} {all olds : List Page} {kept : ℕ} → all ≡ olds → AreKept level key all kept → AreKept level key olds kept
@@ -97,6 +100,15 @@ below_last key last (c ∷ d ∷ cells) rising is less =
     let here : length (c ∷ d ∷ cells) - 1 ≡ suc (length (d ∷ cells) - 1) = omega arith in
     let rest = below_last key last (d ∷ cells) (rising_tail cmp c (d ∷ cells) rising) (subst (λ n. IfSome (slice_get (c ∷ d ∷ cells) n) (λ (x : Cell). x.key ≡ last)) here is) less in
     (nat_list_cmp_total.trans c.key d.key key (rising_head cmp c (d ∷ cells) rising).0 rest.0, rest)
+
+-- cells that end with one that is not below a key
+pub ends_above : (key last : List ℕ) (cells : List Cell) → 1 ≤ length cells → IfSome (slice_get cells (length cells - 1)) (λ c. c.key ≡ last) → (key_cmp last key ≡ Less → ⊥) → EndsAbove key cells
+ends_above key last [] some is above = absurd (omega arith)
+ends_above key last (c ∷ []) some is above = record { before = []; last = c; parts = refl; above = λ less. above (ap (λ k. key_cmp k key) (sym is) ∙ less) }
+ends_above key last (c ∷ d ∷ cells) some is above =
+    let here : length (c ∷ d ∷ cells) - 1 ≡ suc (length (d ∷ cells) - 1) = omega arith in
+    let rest = ends_above key last (d ∷ cells) (omega arith) (subst (λ n. IfSome (slice_get (c ∷ d ∷ cells) n) (λ (x : Cell). x.key ≡ last)) here is) above in
+    record { before = c ∷ rest.before; last = rest.last; parts = ap (λ xs. c ∷ xs) rest.parts; above = rest.above }
 
 -- the cells of pages that stay
 pub kept_below : (level : ℕ) (key : List ℕ) (pages : List Page) → AllByRecursion (IsKept level key) pages → AllByRecursion (λ c. key_cmp c.key key ≡ Less) (cells_of pages)

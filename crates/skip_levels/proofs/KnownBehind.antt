@@ -1,5 +1,5 @@
 -- What is known of a group of level 0 behind a put, and behind a pair that was taken out.
-use Rattle.std.proofs.Common.{◌≡◌, inl, inr, ℕ, ◌<◌, List, [], ◌∷◌, ◌++◌, map, filter, Bool, true, false, not, cond, nat_lt, Some, Less, Equal, Greater, refl, sym, ap, ◌∙◌, arith, lt-ltb, ◌==◌}
+use Rattle.std.proofs.Common.{◌≡◌, inl, inr, ℕ, ◌<◌, List, [], ◌∷◌, ◌++◌, map, filter, Bool, true, false, not, cond, nat_lt, Option, None, Some, Less, Equal, Greater, refl, sym, ap, ◌∙◌, arith, lt-ltb, ◌==◌}
 use Rattle.std.specs.Ordering.{is_le, is_lt, is_eq}
 use Rattle.std.specs.FinMap.{find, put}
 use Rattle.std.specs.FinMap.Entries.{by_order, find-put}
@@ -18,9 +18,9 @@ use Rattle.store_model.proofs.ListsLemmas.{rising_from_is_sorted}
 use Rattle.node_pages.proofs.PlaceLemmas.{same_key, reversed}
 use Rattle.skip_levels.specs.declared.search.PathEnd.{PathEnd}
 use Rattle.skip_levels.specs.declared.put_place.PutPlace.{PutPlace}
-use Rattle.skip_levels.specs.Descent.{IsPlace, IsKnown}
+use Rattle.skip_levels.specs.Descent.{IsPlace, IsKnown, IsAt}
 use Rattle.skip_levels.specs.PairsState.{without}
-use Rattle.skip_levels.specs.PutPlaces.{IsPutPlace, behind}
+use Rattle.skip_levels.specs.PutPlaces.{IsPutPlace, behind, leads_own}
 use Rattle.skip_levels.specs.SearchPath.{last_lead, leader_behind, leader_ahead, not_above, below, above}
 use Rattle.skip_levels.proofs.KnownPlaces.{known_at}
 use Rattle.skip_levels.proofs.NextPairs.{pair_leads}
@@ -113,7 +113,7 @@ module _ (d : Draw) (s : List Pair) (key value : List ℕ) (valid : IsPairs s) (
   higher_side : above key made ≡ above key s
   higher_side = kept_put (λ k. not (is_le (key_cmp k key))) key value s (ap (λ o. not (is_le o)) (itself key))
 
-  module _ (place : PutPlace) (at : IsPutPlace d s key place) where
+  module _ (place : PutPlace) (at : IsPutPlace d s key place) (low : PathEnd) (here : IsPlace d s 0 key low) where
     -- where level 0 alone changes, what leads stays
     leader_stays : place.top ≡ 0 → leader_behind d 0 (not_above key made) ≡ leader_behind d 0 (not_above key s)
     leader_stays lowest = ap (leader_behind d 0) lower_side ∙ elim at.own [
@@ -132,29 +132,30 @@ module _ (d : Draw) (s : List Pair) (key value : List ℕ) (valid : IsPairs s) (
       | inr there ↦ let none = there.lowest in absurd (omega arith)
     ]
 
-    place_made : IsPlace d made 0 key (behind place key)
-    place_made = by_test (place.top == 0) refl
+    low_behind : (b : Bool) → (place.top == 0) ≡ b → IsKnown d made (cond b (Some low) (leads_own key (Some low)))
+    low_behind true e = known_at d made key low valid_behind (record { lead = here.lead ∙ sym (leader_stays (zero_from_test place.top e)); next = here.next ∙ ap (leader_ahead d 0) (sym higher_side) })
       where
         zero_from_test : (n : ℕ) → (n == 0) ≡ true → n ≡ 0
-        zero_from_test n e = grind (arith, nat_tests)
-
+        zero_from_test n f = grind (arith, nat_tests)
+    low_behind false e =
+        let own : PathEnd = record { lead = leads.Key key; next = low.next } in
+        known_at d made key own valid_behind (record { lead = sym (key_leads (some_from_test place.top e)); next = here.next ∙ ap (leader_ahead d 0) (sym higher_side) })
+      where
         some_from_test : (n : ℕ) → (n == 0) ≡ false → 0 < n
-        some_from_test n e = grind (arith, nat_tests)
+        some_from_test n f = grind (arith, nat_tests)
 
-        by_test : (b : Bool) → (place.top == 0) ≡ b → IsPlace d made 0 key (cond b place.low (record { lead = leads.Key key; next = place.low.next }))
-        by_test true e = record { lead = at.low.lead ∙ sym (leader_stays (zero_from_test place.top e)); next = at.low.next ∙ ap (leader_ahead d 0) (sym higher_side) }
-        by_test false e = record { lead = sym (key_leads (some_from_test place.top e)); next = at.low.next ∙ ap (leader_ahead d 0) (sym higher_side) }
-
-    -- so the place of the key is known
-    pub known_by_put : IsKnown d made (Some (behind place key))
-    known_by_put = known_at d made key (behind place key) valid_behind place_made
+  -- so the place of the key is known
+  pub known_by_put : (place : PutPlace) → IsPutPlace d s key place → (known : Option PathEnd) → IsAt d s key known → IsKnown d made (behind place.top key known)
+  known_by_put place at None here = absurd here
+  known_by_put place at (Some low) here = low_behind place at low here (place.top == 0) refl
 
 -- ---- behind a pair that was taken out
 
 module _ (d : Draw) (s : List Pair) (key value : List ℕ) (valid : IsPairs s) (valid_behind : IsPairs (without key s)) (has : find key_cmp key s ≡ Some value) where
   -- a key of level 0 leaves the group of its place
-  pub known_by_take : (low : PathEnd) → d.level key ≡ 0 → IsPlace d s 0 key low → IsKnown d (without key s) (Some low)
-  known_by_take low lowest at =
+  pub known_by_take : (known : Option PathEnd) → d.level key ≡ 0 → IsAt d s key known → IsKnown d (without key s) known
+  known_by_take None lowest at = absurd at
+  known_by_take (Some low) lowest at =
       let sides = has_pair key value s (rising_from_is_sorted key_cmp s valid.sorted) has in
       known_at d (without key s) key low valid_behind (record {
         lead = at.lead ∙ ap (leader_behind d 0) sides.floor ∙ leads_none d (below key s) key value lowest ∙ ap (leader_behind d 0) (sym (not_above_without key s));

@@ -1,5 +1,5 @@
 -- The calls that change one level: read, merged and written, a group after another.
-use Rattle.std.proofs.Common.{◌≡◌, ℕ, ◌+◌, ◌<◌, ◌≤◌, List, [], ◌++◌, length, Ok, Result, refl, sym, ap, subst, ◌∙◌, append_assoc, arith}
+use Rattle.std.proofs.Common.{◌≡◌, ℕ, ◌+◌, ◌<◌, ◌≤◌, List, [], ◌++◌, length, Ok, Err, Result, refl, sym, ap, subst, ◌∙◌, append_assoc, arith}
 use Rattle.std.proofs.Math.Path.{subst₂}
 use Rattle.std.specs.FinMap as maps
 use Rattle.store_base.specs.declared.label.Lead as declared
@@ -14,7 +14,8 @@ use Rattle.node_pages.proofs.Runs.{all_pages, no_page}
 use Rattle.skip_levels.specs.Groups.{HoldsGroup}
 use Rattle.skip_levels.specs.GroupCells.{AreCells, IsMerged, merged}
 use Rattle.skip_levels.specs.GroupChanges.{renewed_pages, IsChange, IsGroupRead, IsGroupChange}
-use Rattle.skip_levels.specs.CellChanges.{HasRoom, SetsCells, SplitsGroup, JoinsGroups}
+use Rattle.skip_levels.specs.CellChanges.{IsPagesCall, HasRoom, SetsCells, SplitsGroup, JoinsGroups}
+use Rattle.skip_levels.proofs.CallsBehind.{read_call, failed_call}
 use Rattle.skip_levels.proofs.GroupReads.{few_group_pages}
 use Rattle.skip_levels.proofs.KeptPages.{renewed_whole}
 
@@ -84,6 +85,34 @@ module _ (old mid : PagesState) (level : ℕ) (lead : Lead) (olds : List Page) (
         low_merge,
         high_merge,
       )
+
+-- ---- calls that fail
+
+pub group_not_split : (old mid new : PagesState) (level : ℕ) (lead : Lead) (key : List ℕ) (own : List Cell) (fault : Fault) (olds : Result (List Page) Fault) → IsGroupRead old mid level lead olds → new.lookups ≡ mid.lookups → IsPagesCall {T = declared.Lead} old new (Err fault)
+    → SplitsGroup old new level lead key own (Err fault)
+group_not_split old mid new level lead key own fault olds read same call = record {
+  call = call;
+  split = λ o cells front back h. tt;
+  lookups = λ o cells holds. omega (arith, same, (read.observed o).lookups cells holds);
+}
+
+pub first_not_read : (old mid : PagesState) (level : ℕ) (lead : Lead) (key : List ℕ) (fault : Fault) → IsGroupRead old mid level lead (Err fault) → JoinsGroups old mid level lead key (Err fault)
+first_not_read old mid level lead key fault read = record {
+  call = failed_call old mid fault (read_call old mid level lead (Err fault) read);
+  joined = λ o low high front back h. tt;
+  lookups = λ o low high low_holds high_holds. omega (arith, (read.observed o).lookups low low_holds);
+}
+
+pub groups_not_joined : (old mid read_all new : PagesState) (level : ℕ) (lead : Lead) (key : List ℕ) (lows : List Page) (fault : Fault) (highs : Result (List Page) Fault) → IsGroupRead old mid level lead (Ok lows) → IsGroupRead mid read_all level (Leader key) highs → new.lookups ≡ read_all.lookups
+    → IsPagesCall {T = declared.Lead} old new (Err fault) → JoinsGroups old new level lead key (Err fault)
+groups_not_joined old mid read_all new level lead key lows fault highs read read' same call = record {
+  call = call;
+  joined = λ o low high front back h. tt;
+  lookups = λ o low high low_holds high_holds.
+      let r = read.observed o in
+      let r' = read'.observed r.observable in
+      omega (arith, same, r.lookups low low_holds, r'.lookups high (subst (λ m. HoldsGroup m level (Leader key) high) (sym r.unchanged) high_holds));
+}
 
 -- ---- the cells of a key set
 

@@ -1,5 +1,6 @@
 pub mod Apart
 pub mod Around
+pub mod CallsBehind
 pub mod CellLists
 pub mod ChangeSteps
 pub mod DescentSteps
@@ -22,6 +23,9 @@ pub mod KeyRanges
 pub mod ListCalls
 pub mod Looks
 pub mod MapChanges
+pub mod NewCellsMade
+pub mod NewCellsReads
+pub mod NewCellsSteps
 pub mod NextLemmas
 pub mod NextPairs
 pub mod PageCounts
@@ -40,6 +44,8 @@ pub mod PlaceSplits
 pub mod PlaceSteps
 pub mod PlaceTakes
 pub mod PutSearches
+pub mod RunChanges
+pub mod SetCalls
 pub mod ValidLemmas
 pub mod ValueLemmas
 pub mod Walks

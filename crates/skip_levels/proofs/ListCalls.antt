@@ -1,5 +1,5 @@
 -- The calls of a list over pages: what holds of the list behind a change that succeeded.
-use Rattle.std.proofs.Common.{◌≡◌, ℕ, ◌+◌, ◌<◌, ◌≤◌, List, [], ◌∷◌, length, not, Bool, true, Some, Ok, Less, Equal, Greater, refl, sym, subst, arith}
+use Rattle.std.proofs.Common.{◌≡◌, ℕ, ◌+◌, ◌<◌, ◌≤◌, List, [], ◌∷◌, length, not, Bool, true, Option, Ok, Less, Equal, Greater, refl, sym, subst, arith}
 use Rattle.std.specs.Ordering.{eq_by_cmp}
 use Rattle.std.specs.FinMap.{put}
 use Rattle.std.specs.FinMap.Entries.{by_order}
@@ -9,13 +9,11 @@ use Rattle.store_model.specs.Draws.{Draw}
 use Rattle.store_model.specs.Pairs.{Pair, IsValue}
 use Rattle.store_model.proofs.ListsLemmasCuts.{length-filter-le}
 use Rattle.node_pages.specs.PagesState.{PagesState, IsObservable}
-use Rattle.skip_levels.specs.declared.changes.Taken.{Taken}
 use Rattle.skip_levels.specs.declared.search.PathEnd.{PathEnd}
-use Rattle.skip_levels.specs.Descent.{HoldsPairs, IsPlace, IsKnown}
-use Rattle.skip_levels.specs.PagePairs.{pairs_of_map, list_over}
+use Rattle.skip_levels.specs.Descent.{HoldsPairs, IsKnown}
+use Rattle.skip_levels.specs.PagePairs.{pairs_of_map, list_over, IsHeld}
 use Rattle.skip_levels.specs.PairsState.{most_pairs, without, IsPairPut, IsPairTake}
 use Rattle.skip_levels.specs.PairChanges.{PutsPairIn, TakesPairIn}
-use Rattle.skip_levels.proofs.KnownPlaces.{known_at}
 use Rattle.skip_levels.proofs.PagePairsLemmas.{holds_own, holds_its_pairs}
 use Rattle.skip_levels.proofs.ValidLemmas.{IsPairs-put, IsPairs-without}
 
@@ -34,7 +32,7 @@ module _ (d : Draw) (old new : PagesState) (key : List ℕ) (is_whole : Bool) (w
   abbrev s : List Pair
   s = pairs_of_map old.pages
 
-  module _ (value : List ℕ) (low : PathEnd) (is_key : IsKey key) (is_value : IsValue value) (room : IsObservable old → length s < most_pairs) (call : PutsPairIn d old new key value (Ok low)) where
+  module _ {T : Type 0} (unit : T) (value : List ℕ) (known : Option PathEnd) (is_key : IsKey key) (is_value : IsValue value) (room : IsHeld d is_whole old → length s < most_pairs) (call : PutsPairIn d old new key value known (Ok unit)) where
     put_holds : IsObservable old → HoldsPairs d (put key_cmp key value s) new.pages
     put_holds o =
         let h = held o in
@@ -42,24 +40,27 @@ module _ (d : Draw) (old new : PagesState) (key : List ℕ) (is_whole : Bool) (w
           lawful = h.lawful;
           height = h.height;
           pairs = IsPairs-put key value s is_key is_value h.pairs;
-          few = omega (arith, length-put-le key value s, room o);
+          few = omega (arith, length-put-le key value s, room (whole, (o, h)));
           map_is = call.put o;
         }
 
     pub whole_behind_put : IsObservable new → HoldsPairs d (pairs_of_map new.pages) new.pages
     whole_behind_put o = holds_its_pairs d (put key_cmp key value s) new.pages (put_holds (call.call.hidden o))
 
-    pub known_behind_put : IsObservable new → IsKnown d (pairs_of_map new.pages) (Some low)
-    known_behind_put n = let o = call.call.hidden n in subst (λ pairs. IsKnown d pairs (Some low)) (sym (holds_own d (put key_cmp key value s) new.pages (put_holds o))) (call.known o)
+    pub known_behind_put : IsObservable new → IsKnown d (pairs_of_map new.pages) known
+    known_behind_put n = let o = call.call.hidden n in subst (λ pairs. IsKnown d pairs known) (sym (holds_own d (put key_cmp key value s) new.pages (put_holds o))) (call.known o)
 
-    pub list_put : {T : Type 0} (unit : T) → IsPairPut (list_over is_whole old) (list_over true new) key value (Ok unit)
-    list_put unit = record {
+    pub list_put : IsPairPut (list_over d is_whole old) (list_over d true new) key value (Ok unit)
+    list_put = record {
       faults = call.call.faults;
-      hidden = λ o. (whole, call.call.hidden o.1);
-      observed = λ o. record { observable = (refl, call.call.observable o.1); changed = holds_own d (put key_cmp key value s) new.pages (put_holds o.1) };
+      hidden = λ n. let o = call.call.hidden n.1.0 in (whole, (o, held o));
+      observed = λ seen.
+          let o = seen.1.0 in
+          let n = call.call.observable o in
+          record { observable = (refl, (n, whole_behind_put n)); changed = holds_own d (put key_cmp key value s) new.pages (put_holds o) };
     }
 
-  module _ (taken : Taken) (call : TakesPairIn d old new key (Ok taken)) where
+  module _ (value : Option (List ℕ)) (known : Option PathEnd) (call : TakesPairIn d old new key known (Ok value)) where
     take_holds : IsObservable old → HoldsPairs d (without key s) new.pages
     take_holds o =
         let h = held o in
@@ -74,20 +75,23 @@ module _ (d : Draw) (old new : PagesState) (key : List ℕ) (is_whole : Bool) (w
     pub whole_behind_take : IsObservable new → HoldsPairs d (pairs_of_map new.pages) new.pages
     whole_behind_take o = holds_its_pairs d (without key s) new.pages (take_holds (call.call.hidden o))
 
-    pub known_behind_take : IsObservable new → IsKnown d (pairs_of_map new.pages) taken.known
-    known_behind_take n = let o = call.call.hidden n in subst (λ pairs. IsKnown d pairs taken.known) (sym (holds_own d (without key s) new.pages (take_holds o))) (call.known o)
+    pub known_behind_take : IsObservable new → IsKnown d (pairs_of_map new.pages) known
+    known_behind_take n = let o = call.call.hidden n in subst (λ pairs. IsKnown d pairs known) (sym (holds_own d (without key s) new.pages (take_holds o))) (call.known o)
 
-    pub list_taken : IsPairTake (list_over is_whole old) (list_over true new) key (Ok taken.value)
+    pub list_taken : IsPairTake (list_over d is_whole old) (list_over d true new) key (Ok value)
     list_taken = record {
       faults = call.call.faults;
-      hidden = λ o. (whole, call.call.hidden o.1);
-      observed = λ o. record { observable = (refl, call.call.observable o.1); found = call.found o.1; changed = holds_own d (without key s) new.pages (take_holds o.1) };
+      hidden = λ n. let o = call.call.hidden n.1.0 in (whole, (o, held o));
+      observed = λ seen.
+          let o = seen.1.0 in
+          let n = call.call.observable o in
+          record { observable = (refl, (n, whole_behind_take n)); found = call.found o; changed = holds_own d (without key s) new.pages (take_holds o) };
     }
 
--- a search leaves the list as it was, and tells the place of its key
+-- a search leaves the list as it was, and what is known of it right
 module _ (d : Draw) (old new : PagesState) (same : new.pages ≡ old.pages) (held : HoldsPairs d (pairs_of_map old.pages) old.pages) where
   pub whole_still : HoldsPairs d (pairs_of_map new.pages) new.pages
   whole_still = subst (λ m. HoldsPairs d (pairs_of_map m) m) (sym same) held
 
-  pub known_by_search : (key : List ℕ) (low : PathEnd) → IsPlace d (pairs_of_map old.pages) 0 key low → IsKnown d (pairs_of_map new.pages) (Some low)
-  known_by_search key low at = subst (λ m. IsKnown d (pairs_of_map m) (Some low)) (sym same) (known_at d (pairs_of_map old.pages) key low held.pairs at)
+  pub known_still : (known : Option PathEnd) → IsKnown d (pairs_of_map old.pages) known → IsKnown d (pairs_of_map new.pages) known
+  known_still known right = subst (λ m. IsKnown d (pairs_of_map m) known) (sym same) right

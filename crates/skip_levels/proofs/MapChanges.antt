@@ -142,7 +142,7 @@ nothing_behind (suc i) (p ∷ ps) e = nothing_behind i ps e
 nothing_further : (i : ℕ) (ps : List Page) → slice_get ps i ≡ None → drop (i + 1) ps ≡ []
 nothing_further i ps e = sym (drop-drop 1 i ps) ∙ ap (drop 1) (nothing_behind i ps e)
 
-label_at : (level : ℕ) (lead : Lead) (n i : ℕ) (ps : List Page) (page : Page) → AreNumbered level lead n ps → slice_get ps i ≡ Some page → page.label ≡ label_of level lead (n + i)
+pub label_at : (level : ℕ) (lead : Lead) (n i : ℕ) (ps : List Page) (page : Page) → AreNumbered level lead n ps → slice_get ps i ≡ Some page → page.label ≡ label_of level lead (n + i)
 label_at level lead n i [] page h e = absurd (cc)
 label_at level lead n zero (p ∷ ps) page h e =
     let same : p ≡ page = cc in

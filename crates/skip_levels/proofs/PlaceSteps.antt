@@ -25,7 +25,7 @@ use Rattle.skip_levels.proofs.Parted.{pages_without, pages_below}
 use Rattle.skip_levels.proofs.PathLemmas.{few_in_group}
 use Rattle.skip_levels.proofs.PlaceChanges.{ChangesLevel, part, mid, here, there, around, put_on_its_level}
 use Rattle.skip_levels.proofs.PlaceGroups.{group_of_place}
-use Rattle.skip_levels.proofs.PlaceMerges.{AreAround, low_side, high_side, merged_are, side_all, around_key, rising_with_one, are_cells}
+use Rattle.skip_levels.proofs.PlaceMerges.{AreAround, low_side, high_side, merged_are, side_all, around_key, rising_place, rising_with_one, are_cells}
 use Rattle.skip_levels.proofs.PlaceSplits as splits
 
 -- the map holds a group whose pages stand between others
@@ -85,9 +85,9 @@ next_of_part d level low high y cells is lower at =
 
 -- one group of a level changed to the cells that are wanted
 pub sets_group : (m : PageMap) (d : Draw) (level : ℕ) (lead : Lead) (s t : List Pair) (key : List ℕ) (own cells news : List Cell) (low : List Pair) → ChangesLevel d level lead s t (group_pages level lead cells) (group_pages level lead news)
-    → merged key cells own cells ≡ news → AreCells level news → length cells ≤ 8388608 → AreFew d s t → level < d.height → m ≡ map_of_pages (pages_between d s t (level + 1))
+    → merged key cells own cells ≡ news → AreCells level cells → AreCells level news → length cells ≤ 8388608 → AreFew d s t → level < d.height → m ≡ map_of_pages (pages_between d s t (level + 1))
     → ((lower : ℕ) → level ≡ suc lower → leader_behind d lower low ≡ lead_from (last_of (side Less key cells)) lead) → SetsAt m d level lead s t key own low
-sets_group m d level lead s t key own cells news low c made valid few f within is next =
+sets_group m d level lead s t key own cells news low c made rising valid few f within is next =
     let pages = is ∙ ap map_of_pages c.before in
     let news_are : group_pages level lead news ≡ group_pages level lead (merged key cells own cells) = ap (group_pages level lead) (sym made) in
     let holds = holds_olds m level lead cells c.front c.back (group_pages level lead news) c.change pages in
@@ -97,6 +97,7 @@ sets_group m d level lead s t key own cells news low c made valid few f within i
       back = c.back;
       setting = record {
         change = subst (IsChange level lead c.front c.back (group_pages level lead cells)) news_are c.change;
+        rising = rising;
         valid = subst (AreCells level) (sym made) valid;
         holds = holds;
         few = omega arith;
@@ -144,7 +145,7 @@ module _ (m : PageMap) (d : Draw) (level : ℕ) (low high : List Pair) (y : Pair
         let cells = p ++ q in
         let sides = low_side y.0 p [] q none_around in
         let made : merged y.0 cells own cells ≡ p ++ (own ++ q) = merged_are y.0 cells own cells p own q sides own_side (high_side y.0 p [] q none_around) in
-        sets_group m d level lead (low ++ high) (low ++ y ∷ high) y.0 own cells (p ++ (own ++ q)) low c made (are_cells d level lead (p ++ (own ++ q)) c.change.new_pages.valid (rising_with_one d level low high y (omega arith) more))
+        sets_group m d level lead (low ++ high) (low ++ y ∷ high) y.0 own cells (p ++ (own ++ q)) low c made (are_cells d level lead cells c.change.old_pages.valid (rising_place d level low high y less)) (are_cells d level lead (p ++ (own ++ q)) c.change.new_pages.valid (rising_with_one d level low high y (omega arith) more))
         (few_without f) f within is (next_of_part d level low high y (side Less y.0 cells) sides)
 
   module _ (f : AreFew d (low ++ high) (low ++ y ∷ high)) (lower : level < d.level y.0) where

@@ -86,7 +86,7 @@ module _ (m : PageMap) (d : Draw) (level : ℕ) (low high : List Pair) (y : Pair
       let cells = p ++ (own ++ q) in
       let below = low_side y.0 p own q b in
       let made : merged y.0 cells [] cells ≡ p ++ q = merged_are y.0 cells [] cells p [] q below refl (high_side y.0 p own q b) in
-      sets_group m d level lead (low ++ y ∷ high) (low ++ high) y.0 [] cells (p ++ q) low c made (are_cells d level lead (p ++ q) c.change.new_pages.valid (rising_place d level low high y less))
+      sets_group m d level lead (low ++ y ∷ high) (low ++ high) y.0 [] cells (p ++ q) low c made (are_cells d level lead cells c.change.old_pages.valid (rising_with_one d level low high y (omega arith) more)) (are_cells d level lead (p ++ q) c.change.new_pages.valid (rising_place d level low high y less))
       few_with f within is (next_of_part d level low high y (side Less y.0 cells) below)
 
   -- on a lower level two groups are joined
@@ -203,13 +203,13 @@ module _ (m : PageMap) (d : Draw) (low high : List Pair) (key old new : List ℕ
       omega (arith, f.old_few, few, length-append ls (o ∷ hs), length-append ls hs, length-append low ((key, old) ∷ high), length-append low high)
 
   -- the change of a group in which the value stands behind these cells
-  sets_over : (lead : Lead) (fs : List Cell) → AreAround key fs (o ∷ []) hs → AreAround key fs (n ∷ []) hs → length (fs ++ (o ∷ hs)) ≤ 8388608 → AreCells 0 (fs ++ (n ∷ hs))
+  sets_over : (lead : Lead) (fs : List Cell) → AreAround key fs (o ∷ []) hs → AreAround key fs (n ∷ []) hs → length (fs ++ (o ∷ hs)) ≤ 8388608 → AreCells 0 (fs ++ (o ∷ hs)) → AreCells 0 (fs ++ (n ∷ hs))
       → ChangesLevel d 0 lead s t (group_pages 0 lead (fs ++ (o ∷ hs))) (group_pages 0 lead (fs ++ (n ∷ hs))) → (under : List Pair) → SetsAt m d 0 lead s t key (n ∷ []) under
-  sets_over lead fs around_old around_new few valid c under =
+  sets_over lead fs around_old around_new few rising valid c under =
       let cells = fs ++ (o ∷ hs) in
       let made : merged key cells (n ∷ []) cells ≡ fs ++ (n ∷ hs) =
       merged_are key cells (n ∷ []) cells fs (n ∷ []) hs (low_side key fs (o ∷ []) hs around_old) (side_all Equal key (n ∷ []) around_new.same) (high_side key fs (o ∷ []) hs around_old) in
-      sets_group m d 0 lead s t key (n ∷ []) cells (fs ++ (n ∷ hs)) under c made valid few f within is (λ lower at. absurd (omega arith))
+      sets_group m d 0 lead s t key (n ∷ []) cells (fs ++ (n ∷ hs)) under c made rising valid few f within is (λ lower at. absurd (omega arith))
 
   -- the key stands on level 0 alone
   over_own : d.level key ≡ 0 → (under : List Pair) → SetsAt m d 0 (leader_behind d 0 low) s t key (n ∷ []) under
@@ -217,6 +217,7 @@ module _ (m : PageMap) (d : Draw) (low high : List Pair) (key old new : List ℕ
       let c = group_changed d 0 low high (key, old) s t (group_pages 0 (leader_behind d 0 low) (ls ++ (o ∷ hs))) (group_pages 0 (leader_behind d 0 low) (ls ++ (n ∷ hs))) more more' less f.narrow within (more_numbered d 0 low high (key, old) less more f.narrow within own)
       (more_numbered d 0 low high (key, new) less more' f.narrow within own) (pages_on_its_level d 0 low high (key, old) own) (pages_on_its_level d 0 low high (key, new) own) in
       sets_over (leader_behind d 0 low) ls (around_key d 0 low high (key, old) more) (around_key d 0 low high (key, new) more') over_few
+      (are_cells d 0 (leader_behind d 0 low) (ls ++ (o ∷ hs)) c.change.old_pages.valid (rising_with_one d 0 low high (key, old) (omega arith) more))
       (are_cells d 0 (leader_behind d 0 low) (ls ++ (n ∷ hs)) c.change.new_pages.valid (rising_with_one d 0 low high (key, new) (omega arith) more')) c under
 
   -- it leads a group there
@@ -246,6 +247,7 @@ module _ (m : PageMap) (d : Draw) (low high : List Pair) (key old new : List ℕ
       let count = length-append ls (o ∷ hs) in
       let few = over_few in
       sets_over (Leader key) [] (record { below = tt; same = first.same; above = first.above }) (record { below = tt; same = second.same; above = second.above }) (omega arith)
+      (are_cells d 0 (Leader key) (o ∷ hs) change.old_pages.valid (rising_back cell_cmp ls (o ∷ hs) (rising_with_one d 0 low high (key, old) (omega arith) more)))
       (are_cells d 0 (Leader key) (n ∷ hs) change.new_pages.valid (rising_back cell_cmp ls (n ∷ hs) (rising_with_one d 0 low high (key, new) (omega arith) more')))
       (record {
         front = front;

@@ -1,30 +1,33 @@
 -- A search for the place at which a pair is put: a key above level 0 is there exactly where it leads its group of level 0.
-use Rattle.std.proofs.Common.{◌≡◌, ◌⊎◌, inl, inr, ℕ, zero, suc, ◌+◌, ◌<◌, ◌≤◌, List, [], ◌∷◌, map, filter, true, false, nat_lt, Option, Some, None, Ok, Err, Less, Equal, Greater, refl, sym, ap, subst, ◌∙◌, arith, lt-ltb}
+use Rattle.std.proofs.Common.{◌≡◌, ◌⊎◌, inl, inr, ℕ, zero, suc, ◌+◌, ◌<◌, ◌≤◌, List, [], ◌∷◌, map, filter, true, false, nat_lt, Bool, Option, Some, None, Result, Ok, Err, Ordering, Less, Equal, Greater, refl, sym, ap, subst, ◌∙◌, arith, lt-ltb}
 use Rattle.std.specs.Ordering.{is_lt, is_eq}
 use Rattle.std.specs.List.{AllByRecursion}
 use Rattle.std.specs.FinMap.{find}
 use Rattle.std.specs.Cmp.{tied_itself}
 use Rattle.std.specs.Cmp.Lexicographic.{nat_list_cmp_total}
 use Rattle.store_base.specs.declared.store_fault.Fault.{Fault}
+use Rattle.store_base.specs.declared.label.Lead as declared
 use Rattle.store_base.specs.Leads.{lead_of}
+use Rattle.store_base.specs.declared.label.Lead.TheVariants as leads
 use Rattle.store_model.specs.Paths.{key_cmp}
 use Rattle.store_model.specs.Draws.{Draw}
 use Rattle.store_model.specs.Labels.{Lead}
 use Rattle.store_model.specs.Labels.Lead.{Start, Leader}
 use Rattle.store_model.specs.Pairs.{Pair, IsPairs}
 use Rattle.store_model.proofs.ListsLemmas.{all_filter, all_map, rising_from_is_sorted}
-use Rattle.node_pages.specs.PagesState.{PagesState, IsObservable}
+use Rattle.node_pages.proofs.PlaceLemmas.{same_key}
+use Rattle.node_pages.specs.PagesState.{PagesState}
 use Rattle.skip_levels.specs.declared.search.PathEnd.{PathEnd}
 use Rattle.skip_levels.specs.declared.put_place.PutPlace.{PutPlace}
 use Rattle.skip_levels.specs.SearchPath.{last_lead, leader_behind, not_above, below, path_cost}
-use Rattle.skip_levels.specs.Descent.{HoldsPairs, IsKnown, IsSearched, IsDescent}
+use Rattle.skip_levels.specs.Descent.{HoldsPairs, IsKnown, IsSearched, FindsLead, IsPlaceSearch, lead_known}
 use Rattle.skip_levels.specs.PairChanges.{IsNew, IsThere}
-use Rattle.skip_levels.specs.PutPlaces.{IsPutSearch, is_leader}
+use Rattle.skip_levels.specs.PutPlaces.{IsPutPlace, IsPutSearch, is_leader}
 use Rattle.skip_levels.proofs.NextPairs.{pair_leads}
 use Rattle.skip_levels.proofs.PairSides.{lacks_pair, has_pair}
 use Rattle.skip_levels.proofs.PathCosts.{path_within}
 use Rattle.skip_levels.proofs.PathLemmas.{all_kept}
-use Rattle.skip_levels.proofs.ValueLemmas.{same_count}
+use Rattle.skip_levels.proofs.ValueLemmas.{same_count, leads_lowest}
 
 -- what holds of some keys holds of the last, which leads
 abbrev IsOfLead : (List ℕ → Type 0) → Lead → Type 0
@@ -83,57 +86,64 @@ module _ (d : Draw) (s : List Pair) (key : List ℕ) (valid : IsPairs s) where
       by_value None none = inl (record { lacks = none; own = refl })
       by_value (Some value) some = inr (record { value = value; has = some; lowest = lowest_of value some (d.level key) refl })
 
-module _ (d : Draw) (old new : PagesState) (known : Option PathEnd) (key : List ℕ) (height : ℕ) (high : height ≡ d.height) where
+-- a key that leads is the lead
+leader_is : (key : List ℕ) (l : Lead) → is_leader key l ≡ true → Leader key ≡ l
+leader_is key Start e = absurd (cc)
+leader_is key (Leader k) e = ap Leader (sym (same_key k key (equal (key_cmp k key) e)))
+  where
+    equal : (o : Ordering) → is_eq o ≡ true → o ≡ Equal
+    equal Less h = absurd (cc)
+    equal Equal h = refl
+    equal Greater h = absurd (cc)
+
+module _ (d : Draw) (old new : PagesState) (known : Option PathEnd) (key : List ℕ) (behind : Option PathEnd) (height : ℕ) (high : height ≡ d.height) (some : 1 ≤ height) where
   held : (s : List Pair) → HoldsPairs d s old.pages → IsKnown d s known → IsSearched d s old.pages height known
   held s holds right = record { holds = holds; high = high; right = right }
 
-  pub no_put_place : (bottom : ℕ) (fault : Fault) → bottom < height → IsDescent old new height known bottom key (Err fault) → IsPutSearch d old new known key (Err fault)
-  no_put_place bottom fault within descent = record {
-    faults = descent.faults ∙ same_count PathEnd PutPlace old.faults fault;
-    lookups_kept = descent.lookups_kept;
-    hidden = descent.hidden;
-    observed = λ o. let n = descent.observed o in record {
-      observable = n.observable;
-      unchanged = n.unchanged;
-      found = λ s holds right. tt;
-      lookups = λ s holds right. omega (arith, n.lookups d s (held s holds right), path_within d s key (suc bottom) height high (omega arith));
-    };
+  within_path : {top : ℕ} {result : Result declared.Lead Fault} → FindsLead old new height known top key behind result → (s : List Pair) → HoldsPairs d s old.pages → IsKnown d s known → new.lookups ≤ old.lookups + path_cost d s key
+  within_path n s holds right = omega (arith, n.lookups d s (held s holds right), path_within d s key 1 height high some)
+
+  pub no_put_place : (top : ℕ) (fault : Fault) → IsPlaceSearch old new height known top key behind (Err fault) → IsPutSearch d old new known key behind (Err fault)
+  no_put_place top fault search = record {
+    faults = search.faults ∙ same_count declared.Lead PutPlace old.faults fault;
+    lookups_kept = search.lookups_kept;
+    hidden = search.hidden;
+    observed = λ o. let n = search.observed o in record { observable = n.observable; unchanged = n.unchanged; found = λ s holds right. tt; place = λ s holds right. tt; lookups = within_path n };
   }
 
-  module _ (mid : PagesState) (top : ℕ) (own : top ≡ d.level key) (within : top < height) (upper low : PathEnd) (first : IsDescent old mid height known top key (Ok upper)) (second : IsDescent old new height known 0 key (Ok low)) where
-    low_cost_within : (o : IsObservable old) (s : List Pair) → HoldsPairs d s old.pages → IsKnown d s known → new.lookups ≤ old.lookups + path_cost d s key
-    low_cost_within o s holds right = omega (arith, (second.observed o).lookups d s (held s holds right), path_within d s key 1 height high (omega arith))
+  module _ (top : ℕ) (own : top ≡ d.level key) (lead : declared.Lead) (search : IsPlaceSearch old new height known top key behind (Ok lead)) where
+    -- what is told of the key by whether it leads its group
+    leads_as : {b : Bool} (n : FindsLead old new height known top key behind (Ok lead)) (s : List Pair) (h : IsSearched d s old.pages height known) → is_leader key (lead_known behind) ≡ b → is_leader key (leader_behind d 0 (not_above key s)) ≡ b
+    leads_as n s h tells = ap (is_leader key) (sym (leads_lowest d s key behind (n.place d s h))) ∙ tells
 
-    pub place_of_lead : is_leader key (lead_of low.lead) ≡ true → IsPutSearch d old new known key (Ok (record { top = 0; lead = low.lead; low = low }))
-    place_of_lead leads = record {
-      faults = second.faults;
-      lookups_kept = second.lookups_kept;
-      hidden = second.hidden;
-      observed = λ o. let n = second.observed o in record {
+    put_place : (place : PutPlace) → ((n : FindsLead old new height known top key behind (Ok lead)) (s : List Pair) (h : IsSearched d s old.pages height known) → IsPutPlace d s key place) → IsPutSearch d old new known key behind (Ok place)
+    put_place place found = record {
+      faults = search.faults;
+      lookups_kept = search.lookups_kept;
+      hidden = search.hidden;
+      observed = λ o. let n = search.observed o in record {
         observable = n.observable;
         unchanged = n.unchanged;
-        found = λ s holds right.
-            let f = held s holds right in
-            record { lead = n.lead d s f; low = record { lead = n.lead d s f; next = n.next d s f }; own = inr (there_where_lead d s key holds.pairs (ap (is_leader key) (sym (n.lead d s f)) ∙ leads)) };
-        lookups = low_cost_within o;
+        found = λ s holds right. found n s (held s holds right);
+        place = λ s holds right. n.place d s (held s holds right);
+        lookups = within_path n;
       };
     }
 
-    pub place_of_own : is_leader key (lead_of low.lead) ≡ false → IsPutSearch d old new known key (Ok (record { top = top; lead = upper.lead; low = low }))
-    place_of_own leads = record {
-      faults = second.faults;
-      lookups_kept = second.lookups_kept;
-      hidden = second.hidden;
-      observed = λ o. let n = second.observed o in record {
-        observable = n.observable;
-        unchanged = n.unchanged;
-        found = λ s holds right.
-            let f = held s holds right in
-            record {
-              lead = (first.observed o).lead d s f;
-              low = record { lead = n.lead d s f; next = n.next d s f };
-              own = subst (λ level. IsNew d s key level ⊎ IsThere s key level) (sym own) (new_or_lowest d s key holds.pairs (ap (is_leader key) (sym (n.lead d s f)) ∙ leads));
-            };
-        lookups = low_cost_within o;
-      };
-    }
+    -- on level 0 a key that is there and one that is new are put alike
+    pub place_of_lowest : (first : declared.Lead) → top ≡ 0 → lead_of first ≡ lead_of lead → IsPutSearch d old new known key behind (Ok (record { top = 0; lead = first }))
+    place_of_lowest first lowest is = put_place (record { top = 0; lead = first }) (λ n s h.
+        record { lead = is ∙ subst (λ k. lead_of lead ≡ leader_behind d k (not_above key s)) lowest (n.lead d s h); own = by_value s (find key_cmp key s) refl })
+      where
+        by_value : (s : List Pair) (o : Option (List ℕ)) → find key_cmp key s ≡ o → IsNew d s key 0 ⊎ IsThere s key 0
+        by_value s None none = inl (record { lacks = none; own = sym lowest ∙ own })
+        by_value s (Some value) some = inr (record { value = value; has = some; lowest = refl })
+
+    pub place_of_lead : is_leader key (lead_known behind) ≡ true → IsPutSearch d old new known key behind (Ok (record { top = 0; lead = leads.Key key }))
+    place_of_lead tells = put_place (record { top = 0; lead = leads.Key key }) (λ n s h.
+        let leads_it = leads_as n s h tells in
+        record { lead = leader_is key (leader_behind d 0 (not_above key s)) leads_it; own = inr (there_where_lead d s key h.holds.pairs leads_it) })
+
+    pub place_of_own : is_leader key (lead_known behind) ≡ false → IsPutSearch d old new known key behind (Ok (record { top = top; lead = lead }))
+    place_of_own tells = put_place (record { top = top; lead = lead }) (λ n s h.
+        record { lead = n.lead d s h; own = subst (λ level. IsNew d s key level ⊎ IsThere s key level) (sym own) (new_or_lowest d s key h.holds.pairs (leads_as n s h tells)) })

@@ -1,13 +1,12 @@
--- A search for the value of a key: a descent, and then the lowest group on the search path.
-use Rattle.std.proofs.Common.{◌≡◌, ℕ, zero, suc, ◌+◌, ◌-◌, ◌<◌, ◌≤◌, List, true, false, Option, Some, None, Result, Ok, Err, refl, sym, ap, subst, ◌∙◌, arith}
+-- A search for the value of a key: for its place on level 0, and then the lowest group on the search path.
+use Rattle.std.proofs.Common.{◌≡◌, ℕ, ◌+◌, ◌-◌, ◌≤◌, List, true, false, Option, Some, None, Ok, Err, refl, sym, ap, subst, ◌∙◌, arith}
 use Rattle.store_base.specs.declared.store_fault.Fault.{Fault}
 use Rattle.store_base.specs.declared.store_fault.Fault.TheVariants.{Disk, NoMemory}
-use Rattle.skip_levels.specs.declared.search.Neighbours.{Neighbours}
 use Rattle.skip_levels.specs.declared.search.PathEnd.{PathEnd}
 use Rattle.skip_levels.specs.declared.search.KeyPlace.{KeyPlace}
 use Rattle.store_base.specs.Faults.{disk_faults_after}
-use Rattle.store_base.specs.Leads.{lead_of}
-use Rattle.std.specs.FinMap.{find}
+use Rattle.store_base.specs.declared.label.Lead as declared
+use Rattle.store_model.specs.Labels.{Lead}
 use Rattle.std.specs.Option.{is_some}
 use Rattle.store_model.specs.Paths.{key_cmp}
 use Rattle.store_model.specs.Draws.{Draw}
@@ -15,14 +14,14 @@ use Rattle.store_model.specs.Pairs.{Pair}
 use Rattle.store_model.specs.Pages.{Cell}
 use Rattle.store_model.proofs.ListsLemmas.{rising_from_is_sorted}
 use Rattle.node_pages.specs.PagesState.{PagesState}
-use Rattle.skip_levels.specs.Floors.{value_at}
+use Rattle.skip_levels.specs.Floors.{floor_of, after_of, value_at}
 use Rattle.skip_levels.specs.Groups.{HoldsGroup}
-use Rattle.skip_levels.specs.SearchPath.{above, not_above, levels_cost, path_cost}
-use Rattle.skip_levels.specs.Searches.{FindsNeighbours, ReadsGroup, IsGroupSearch}
-use Rattle.skip_levels.specs.Descent.{IsSearched, FindsPathEnd, IsDescent, IsValueSearch, IsKeySearch}
+use Rattle.skip_levels.specs.SearchPath.{above, leader_behind, not_above, levels_cost, path_cost}
+use Rattle.skip_levels.specs.Searches.{seen, ReadsGroup, IsGroupSearch}
+use Rattle.skip_levels.specs.Descent.{IsSearched, IsAt, FindsLead, IsPlaceSearch, IsKeySearch, lead_known}
 use Rattle.skip_levels.proofs.PlaceGroups.{group_of_place}
 use Rattle.skip_levels.proofs.PathLemmas.{holds_path, few_on_path}
-use Rattle.skip_levels.proofs.PathCosts.{cost_within, path_within, cost_of_level, no_level}
+use Rattle.skip_levels.proofs.PathCosts.{path_within, cost_of_level}
 use Rattle.skip_levels.proofs.Found.{value_of_floor}
 
 pub same_count : (S T : Type 0) (count : ℕ) (f : Fault) → disk_faults_after {T = S} count (Err f) ≡ disk_faults_after {T = T} count (Err f)
@@ -38,89 +37,97 @@ pub none_from_test : {A : Type 0} (o : Option A) → is_some o ≡ false → o �
 none_from_test None e = refl
 none_from_test (Some a) e = absurd (cc)
 
-module _ (old mid : PagesState) (height : ℕ) (known : Option PathEnd) (key : List ℕ) where
-  -- the levels above the lowest cost no more than the whole path
-  pub whole_path : (d : Draw) (s : List Pair) → IsSearched d s old.pages height known → levels_cost d s key 1 (height - 1) ≤ path_cost d s key
-  whole_path d s held = by_height height held.high
-    where
-      by_height : (n : ℕ) → n ≡ d.height → levels_cost d s key 1 (n - 1) ≤ path_cost d s key
-      by_height zero is = let none : 0 - 1 ≡ 0 = omega arith in subst (λ k. levels_cost d s key 1 k ≤ path_cost d s key) (sym none) (no_level d s key (path_cost d s key))
-      by_height (suc n) is =
-          let all : suc n - 0 ≡ d.height = omega (arith, is) in
-          subst (λ k. levels_cost d s key 1 (suc n - 1) ≤ levels_cost d s key 0 k) all (cost_within d s key 0 1 (suc n) (omega arith) (omega arith))
+-- ---- the lowest group
 
-  module _ (new : PagesState) (end : PathEnd) (h : IsDescent old mid height known 0 key (Ok end)) where
-    -- what the search of the lowest group makes
-    pub lowest_searched : {T : Type 0} {of : Option Cell → T} {result : Result (Neighbours T) Fault} (n : FindsPathEnd old mid height known 0 key (Ok end)) → ReadsGroup of mid new 0 (lead_of end.lead) key result → 1 ≤ height
-        → (d : Draw) (s : List Pair) → IsSearched d s old.pages height known → FindsNeighbours of mid new 0 key (group_of_place d 0 (not_above key s) (above key s)) result
-    lowest_searched n g some d s held =
-        let group = group_of_place d 0 (not_above key s) (above key s) in
-        g.floor group (subst (λ m. HoldsGroup m 0 (lead_of end.lead) group) (sym n.unchanged)
-        (subst (λ l. HoldsGroup old.pages 0 l group) (sym (n.lead d s held)) (holds_path d s old 0 key held.holds (omega (arith, held.high))))) (few_on_path d s old 0 key held.holds)
+-- what is known leads it
+pub leads_lowest : (d : Draw) (s : List Pair) (key : List ℕ) (known : Option PathEnd) → IsAt d s key known → lead_known known ≡ leader_behind d 0 (not_above key s)
+leads_lowest d s key None at = absurd at
+leads_lowest d s key (Some place) at = at.lead
 
-    -- and what it all costs
-    pub path_searched : {T : Type 0} {of : Option Cell → T} {result : Result (Neighbours T) Fault} (n : FindsPathEnd old mid height known 0 key (Ok end)) → ReadsGroup of mid new 0 (lead_of end.lead) key result → 1 ≤ height
-        → (d : Draw) (s : List Pair) → IsSearched d s old.pages height known → new.lookups ≤ old.lookups + path_cost d s key
-    path_searched n g some d s held =
-        let whole : levels_cost d s key 0 (height - 0) ≡ path_cost d s key = let count : height - 0 ≡ d.height = omega (arith, held.high) in ap (levels_cost d s key 0) count in
-        omega (arith, (lowest_searched n g some d s held).lookups, n.lookups d s held, cost_of_level d s key 0 height held.holds.pairs some, whole)
+module _ (old mid new : PagesState) (height : ℕ) (known : Option PathEnd) (top : ℕ) (key : List ℕ) (behind : Option PathEnd) (lead : declared.Lead) (n : FindsLead old mid height known top key behind (Ok lead)) (some : 1 ≤ height)
+    (at : Lead) (leads : (d : Draw) (s : List Pair) → IsSearched d s old.pages height known → at ≡ leader_behind d 0 (not_above key s)) {IsFound : List Cell → Type 0} (g : ReadsGroup mid new 0 at IsFound) (d : Draw) (s : List Pair) (held : IsSearched d s old.pages height known) where
+  abbrev lowest : List Cell
+  lowest = group_of_place d 0 (not_above key s) (above key s)
 
-    pub no_floor : (fault : Fault) → 1 ≤ height → IsGroupSearch (value_at key) mid new 0 (lead_of end.lead) key (Err fault) → IsValueSearch old new height known key (Err fault)
-    no_floor fault some search = record {
-      faults = search.faults ∙ ap (λ n. disk_faults_after {T = Neighbours (Option (List ℕ))} n (Err fault)) h.faults ∙ same_count (Neighbours (Option (List ℕ))) (Option (List ℕ)) old.faults fault;
-      lookups_kept = omega (arith, h.lookups_kept, search.lookups_kept);
-      hidden = λ o. h.hidden (search.hidden o);
-      observed = λ o. let n = h.observed o in let g = search.observed n.observable in record { observable = g.observable; unchanged = g.unchanged ∙ n.unchanged; found = λ d s held. tt; lookups = path_searched n g some };
-    }
+  holds_lowest : HoldsGroup mid.pages 0 at lowest
+  holds_lowest = subst (λ m. HoldsGroup m 0 at lowest) (sym n.unchanged) (subst (λ l. HoldsGroup old.pages 0 l lowest) (sym (leads d s held)) (holds_path d s old 0 key held.holds (omega (arith, held.high))))
 
-    -- what the floor of that group tells
-    value_told : (near : Neighbours (Option (List ℕ))) → FindsPathEnd old mid height known 0 key (Ok end) → ReadsGroup (value_at key) mid new 0 (lead_of end.lead) key (Ok near) → 1 ≤ height
-        → (d : Draw) (s : List Pair) → IsSearched d s old.pages height known → near.floor ≡ find key_cmp key s
-    value_told near n g some d s held =
-        (lowest_searched n g some d s held).found.floor ∙ value_of_floor d key s (rising_from_is_sorted key_cmp s held.holds.pairs.sorted)
+  -- what the search of it finds
+  pub lowest_searched : IsFound lowest
+  lowest_searched = g.found lowest holds_lowest (few_on_path d s old 0 key held.holds)
 
-    pub value_found : (near : Neighbours (Option (List ℕ))) → 1 ≤ height → IsGroupSearch (value_at key) mid new 0 (lead_of end.lead) key (Ok near) → IsValueSearch old new height known key (Ok near.floor)
-    value_found near some search = record {
-      faults = search.faults ∙ h.faults;
-      lookups_kept = omega (arith, h.lookups_kept, search.lookups_kept);
-      hidden = λ o. h.hidden (search.hidden o);
-      observed = λ o. let n = h.observed o in let g = search.observed n.observable in record { observable = g.observable; unchanged = g.unchanged ∙ n.unchanged; found = value_told near n g some; lookups = path_searched n g some };
-    }
+  -- and what it all costs
+  pub path_searched : new.lookups ≤ old.lookups + path_cost d s key
+  path_searched =
+      let whole : levels_cost d s key 0 (height - 0) ≡ path_cost d s key = let count : height - 0 ≡ d.height = omega (arith, held.high) in ap (levels_cost d s key 0) count in
+      omega (arith, g.lookups lowest holds_lowest, n.lookups d s held, cost_of_level d s key 0 height held.holds.pairs some, whole)
 
--- ---- the place of a key
+-- ---- the value of a key
 
-module _ (old : PagesState) (height : ℕ) (known : Option PathEnd) (top : ℕ) (key : List ℕ) where
-  pub no_way_down : (mid : PagesState) (bottom : ℕ) (fault : Fault) → bottom < height → IsDescent old mid height known bottom key (Err fault) → IsKeySearch old mid height known top key (Err fault)
-  no_way_down mid bottom fault within h = record {
-    faults = h.faults ∙ same_count PathEnd KeyPlace old.faults fault;
+-- of the cells next to a key, the one that is not above it tells its value
+abbrev pub sees_value : List ℕ → Cell → Option (List ℕ) → Option (List ℕ)
+sees_value key cell value = value_at key (Some cell)
+
+abbrev pub sees_no_more : Cell → Option (List ℕ) → Option (List ℕ)
+sees_no_more cell value = value
+
+value_seen : (key : List ℕ) (floor after : Option Cell) → seen sees_no_more after (seen (sees_value key) floor None) ≡ value_at key floor
+value_seen key None None = refl
+value_seen key None (Some cell) = refl
+value_seen key (Some cell) None = refl
+value_seen key (Some cell) (Some other) = refl
+
+module _ (old mid : PagesState) (height : ℕ) (known : Option PathEnd) (top : ℕ) (key : List ℕ) (behind : Option PathEnd) (some : 1 ≤ height) where
+  pub no_lead : (fault : Fault) → IsPlaceSearch old mid height known top key behind (Err fault) → IsKeySearch old mid height known top key behind (Err fault)
+  no_lead fault h = record {
+    faults = h.faults ∙ same_count declared.Lead KeyPlace old.faults fault;
     lookups_kept = h.lookups_kept;
     hidden = h.hidden;
     observed = λ o. let n = h.observed o in record {
       observable = n.observable;
       unchanged = n.unchanged;
       found = λ d s held. tt;
-      lookups = λ d s held. omega (arith, n.lookups d s held, path_within d s key (suc bottom) height held.high (omega arith));
+      place = λ d s held. tt;
+      right = n.right;
+      lookups = λ d s held. omega (arith, n.lookups d s held, path_within d s key 1 height held.high some);
     };
   }
 
-  pub no_value_search : (new : PagesState) (fault : Fault) → IsValueSearch old new height known key (Err fault) → IsKeySearch old new height known top key (Err fault)
-  no_value_search new fault search = record {
-    faults = search.faults ∙ same_count (Option (List ℕ)) KeyPlace old.faults fault;
-    lookups_kept = search.lookups_kept;
-    hidden = search.hidden;
-    observed = λ o. let n = search.observed o in record { observable = n.observable; unchanged = n.unchanged; found = λ d s held. tt; lookups = n.lookups };
-  }
+  module _ (new : PagesState) (lead : declared.Lead) (h : IsPlaceSearch old mid height known top key behind (Ok lead)) (at : Lead) (is : at ≡ lead_known behind) (value : Option (List ℕ)) where
+    leads : FindsLead old mid height known top key behind (Ok lead) → (d : Draw) (s : List Pair) → IsSearched d s old.pages height known → at ≡ leader_behind d 0 (not_above key s)
+    leads n d s held = is ∙ leads_lowest d s key behind (n.place d s held)
 
-  pub place_found : (mid low new : PagesState) (upper end : PathEnd) (value : Option (List ℕ)) → IsDescent old mid height known top key (Ok upper) → IsDescent old low height known 0 key (Ok end) → IsValueSearch old new height known key (Ok value)
-      → IsKeySearch old new height known top key (Ok (record { lead = upper.lead; low = end; value = value }))
-  place_found mid low new upper end value first second search = record {
-    faults = search.faults;
-    lookups_kept = search.lookups_kept;
-    hidden = search.hidden;
-    observed = λ o. let n = search.observed o in record {
-      observable = n.observable;
-      unchanged = n.unchanged;
-      found = λ d s held. record { lead = (first.observed o).lead d s held; low = record { lead = (second.observed o).lead d s held; next = (second.observed o).next d s held }; value = n.found d s held };
-      lookups = n.lookups;
-    };
-  }
+    pub no_value : {S : Type 0} (fault : Fault) → IsGroupSearch {S = S} (sees_value key) sees_no_more mid new 0 at key None value (Err fault) → IsKeySearch old new height known top key behind (Err fault)
+    no_value {S} fault search = record {
+      faults = search.faults ∙ ap (λ n. disk_faults_after {T = S} n (Err fault)) h.faults ∙ same_count S KeyPlace old.faults fault;
+      lookups_kept = omega (arith, h.lookups_kept, search.lookups_kept);
+      hidden = λ o. h.hidden (search.hidden o);
+      observed = λ o. let n = h.observed o in let g = search.observed n.observable in record {
+        observable = g.observable;
+        unchanged = g.unchanged ∙ n.unchanged;
+        found = λ d s held. tt;
+        place = λ d s held. tt;
+        right = n.right;
+        lookups = path_searched old mid new height known top key behind lead n some at (leads n) g;
+      };
+    }
+
+    pub place_found : {S : Type 0} (done : S) → IsGroupSearch (sees_value key) sees_no_more mid new 0 at key None value (Ok done) → IsKeySearch old new height known top key behind (Ok (record { lead = lead; value = value }))
+    place_found done search = record {
+      faults = search.faults ∙ h.faults;
+      lookups_kept = omega (arith, h.lookups_kept, search.lookups_kept);
+      hidden = λ o. h.hidden (search.hidden o);
+      observed = λ o. let n = h.observed o in let g = search.observed n.observable in record {
+        observable = g.observable;
+        unchanged = g.unchanged ∙ n.unchanged;
+        found = λ d s held.
+            let group = group_of_place d 0 (not_above key s) (above key s) in
+            record {
+              lead = n.lead d s held;
+              value = lowest_searched old mid new height known top key behind lead n some at (leads n) g d s held ∙ value_seen key (floor_of key group) (after_of key group) ∙ value_of_floor d key s (rising_from_is_sorted key_cmp s held.holds.pairs.sorted);
+            };
+        place = n.place;
+        right = n.right;
+        lookups = path_searched old mid new height known top key behind lead n some at (leads n) g;
+      };
+    }

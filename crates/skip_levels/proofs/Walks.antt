@@ -91,7 +91,7 @@ slice_get-drop [] (suc i) = refl
 slice_get-drop (x ∷ xs) zero = refl
 slice_get-drop (x ∷ xs) (suc i) = slice_get-drop xs i
 
-some_at : {X : Type 0} (xs : List X) (i : ℕ) → i < length xs → (x : X) × (slice_get xs i ≡ Some x)
+pub some_at : {X : Type 0} (xs : List X) (i : ℕ) → i < length xs → (x : X) × (slice_get xs i ≡ Some x)
 some_at [] i below = absurd (omega arith)
 some_at (x ∷ xs) zero below = (x, refl)
 some_at (x ∷ xs) (suc i) below = some_at xs i (omega arith)

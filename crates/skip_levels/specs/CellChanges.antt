@@ -44,6 +44,7 @@ pub record IsLeft (m : PageMap) (pages : List Page) (low : List Cell) (lead : Le
 -- cells of a group that the map holds between other pages, and those that they are to become
 pub record IsSetting (m : PageMap) (level : ℕ) (lead : Lead) (cells news : List Cell) (front back : List Page) : Type 0 where
   pub change : IsChange level lead front back (group_pages level lead cells) (group_pages level lead news)
+  pub rising : AreCells level cells
   pub valid : AreCells level news
   pub holds : HoldsGroup m level lead cells
   pub few : length cells < most_pages

@@ -1,8 +1,9 @@
 -- What a descent from level to level on the search path of a key does.
-use Rattle.std.specs.Prelude.{◌≡◌, ℕ, suc, ◌+◌, ◌-◌, ◌<◌, ◌≤◌, List, length, Bool, true, Option, Some, None, Result, IfOk}
+use Rattle.std.specs.Prelude.{◌≡◌, ℕ, suc, ◌+◌, ◌-◌, ◌<◌, ◌≤◌, List, length, Bool, true, Option, Some, None, Result, Ok, Err, IfOk}
 use Rattle.std.specs.FinMap.{find}
 use Rattle.store_base.specs.declared.store_fault.Fault.{Fault}
 use Rattle.store_base.specs.declared.label.Lead as declared
+use Rattle.store_base.specs.declared.label.Lead.TheVariants as leads
 use Rattle.skip_levels.specs.declared.search.PathEnd.{PathEnd}
 use Rattle.skip_levels.specs.declared.search.KeyPlace.{KeyPlace}
 use Rattle.store_base.specs.Faults.{disk_faults_after}
@@ -57,13 +58,22 @@ pub record IsSearched (d : Draw) (s : List Pair) (m : PageMap) (height : ℕ) (k
   pub high : height ≡ d.height
   pub right : IsKnown d s known
 
--- the lead is that of a level's group on the search path of the key, whatever list is searched
-abbrev pub LeadsPath : PagesState → ℕ → Option PathEnd → ℕ → List ℕ → declared.Lead → Type 0
-LeadsPath pages height known level key lead = (d : Draw) (s : List Pair) → IsSearched d s pages.pages height known → lead_of lead ≡ leader_behind d level (not_above key s)
+-- what leads the group of level 0 that is known, and what leads the next one
+abbrev pub lead_in : Option PathEnd → declared.Lead
+lead_in None = leads.Start
+lead_in (Some place) = place.lead
 
--- the key is the first above that leads a group of a level, whatever list is searched
-abbrev pub LeadsAhead : PagesState → ℕ → Option PathEnd → ℕ → List ℕ → Option (List ℕ) → Type 0
-LeadsAhead pages height known level key next = (d : Draw) (s : List Pair) → IsSearched d s pages.pages height known → next ≡ leader_ahead d level (above key s)
+abbrev pub lead_known : Option PathEnd → Lead
+lead_known known = lead_of (lead_in known)
+
+abbrev pub next_known : Option PathEnd → Option (List ℕ)
+next_known None = None
+next_known (Some place) = place.next
+
+-- the place of a key on level 0 is what is known
+abbrev pub IsAt : Draw → List Pair → List ℕ → Option PathEnd → Type 0
+IsAt d s key None = ⊥
+IsAt d s key (Some place) = IsPlace d s 0 key place
 
 -- the map is that of the pages of a list, and this is the place of the key at a level of it
 pub record IsWayFrom (d : Draw) (s : List Pair) (m : PageMap) (top : ℕ) (key : List ℕ) (from : PathEnd) : Type 0 where
@@ -85,51 +95,53 @@ pub record IsWayDown (old new : PagesState) (top : ℕ) (from : PathEnd) (bottom
   pub hidden : IsObservable new → IsObservable old
   pub observed : IsObservable old → GoesDown old new top from bottom key result
 
--- what the descent leaves of observable pages
-pub record FindsPathEnd (old new : PagesState) (height : ℕ) (known : Option PathEnd) (bottom : ℕ) (key : List ℕ) (result : Result PathEnd Fault) : Type 0 where
+-- a way that did not fail ends at a place
+abbrev pub ends_at : {T : Type 0} → Result T Fault → PathEnd → Result PathEnd Fault
+ends_at (Ok done) end = Ok end
+ends_at (Err fault) end = Err fault
+
+-- a search that did not fail leaves what is known: it leads the group of level 0, and this is the place of a key there with its value
+abbrev pub leads_in : {T : Type 0} → Option PathEnd → Result T Fault → Result declared.Lead Fault
+leads_in behind (Ok done) = Ok (lead_in behind)
+leads_in behind (Err fault) = Err fault
+
+abbrev pub placed : Option PathEnd → Result (Option (List ℕ)) Fault → Result KeyPlace Fault
+placed behind (Ok value) = Ok (record { lead = lead_in behind; value = value })
+placed behind (Err fault) = Err fault
+
+-- what a search for the group of a level and for the place of the key on level 0 leaves of observable pages, and what is then known
+pub record FindsLead (old new : PagesState) (height : ℕ) (known : Option PathEnd) (top : ℕ) (key : List ℕ) (behind : Option PathEnd) (result : Result declared.Lead Fault) : Type 0 where
   pub observable : IsObservable new
   pub unchanged : new.pages ≡ old.pages
-  pub lead : IfOk result (λ end. LeadsPath old height known bottom key end.lead)
-  pub next : IfOk result (λ end. LeadsAhead old height known bottom key end.next)
-  pub lookups : (d : Draw) (s : List Pair) → IsSearched d s old.pages height known → new.lookups ≤ old.lookups + levels_cost d s key (suc bottom) (height - suc bottom)
+  pub lead : (d : Draw) (s : List Pair) → IsSearched d s old.pages height known → IfOk result (λ lead. lead_of lead ≡ leader_behind d top (not_above key s))
+  pub place : (d : Draw) (s : List Pair) → IsSearched d s old.pages height known → IfOk result (λ lead. IsAt d s key behind)
+  pub right : (d : Draw) (s : List Pair) → IsSearched d s old.pages height known → IsKnown d s behind
+  pub lookups : (d : Draw) (s : List Pair) → IsSearched d s old.pages height known → new.lookups ≤ old.lookups + levels_cost d s key 1 (height - 1)
 
--- a descent to a level on the search path of the key
-pub record IsDescent (old new : PagesState) (height : ℕ) (known : Option PathEnd) (bottom : ℕ) (key : List ℕ) (result : Result PathEnd Fault) : Type 0 where
+-- a search for what leads the group of a level, and for the place on level 0, on the search path of the key; at level 0 the answer leads the group that is then known
+pub record IsPlaceSearch (old new : PagesState) (height : ℕ) (known : Option PathEnd) (top : ℕ) (key : List ℕ) (behind : Option PathEnd) (result : Result declared.Lead Fault) : Type 0 where
   pub faults : new.faults ≡ disk_faults_after old.faults result
   pub lookups_kept : old.lookups ≤ new.lookups
   pub hidden : IsObservable new → IsObservable old
-  pub observed : IsObservable old → FindsPathEnd old new height known bottom key result
+  pub observed : IsObservable old → FindsLead old new height known top key behind result
 
--- what a search for the value of a key leaves of observable pages
-pub record FindsValue (old new : PagesState) (height : ℕ) (known : Option PathEnd) (key : List ℕ) (result : Result (Option (List ℕ)) Fault) : Type 0 where
-  pub observable : IsObservable new
-  pub unchanged : new.pages ≡ old.pages
-  pub found : (d : Draw) (s : List Pair) → IsSearched d s old.pages height known → IfOk result (λ value. value ≡ find key_cmp key s)
-  pub lookups : (d : Draw) (s : List Pair) → IsSearched d s old.pages height known → new.lookups ≤ old.lookups + path_cost d s key
-
--- a search for the value of a key, in pages of lists of this height
-pub record IsValueSearch (old new : PagesState) (height : ℕ) (known : Option PathEnd) (key : List ℕ) (result : Result (Option (List ℕ)) Fault) : Type 0 where
-  pub faults : new.faults ≡ disk_faults_after old.faults result
-  pub lookups_kept : old.lookups ≤ new.lookups
-  pub hidden : IsObservable new → IsObservable old
-  pub observed : IsObservable old → FindsValue old new height known key result
-
--- the groups of two levels on the search path of a key, and its value
+-- the group of a level on the search path of a key, and its value
 pub record IsKeyPlace (d : Draw) (s : List Pair) (top : ℕ) (key : List ℕ) (place : KeyPlace) : Type 0 where
   pub lead : lead_of place.lead ≡ leader_behind d top (not_above key s)
-  pub low : IsPlace d s 0 key place.low
   pub value : place.value ≡ find key_cmp key s
 
--- what a search for the place of a key leaves of observable pages
-pub record FindsKeyPlace (old new : PagesState) (height : ℕ) (known : Option PathEnd) (top : ℕ) (key : List ℕ) (result : Result KeyPlace Fault) : Type 0 where
+-- what a search for the place of a key leaves of observable pages, and what is then known
+pub record FindsKeyPlace (old new : PagesState) (height : ℕ) (known : Option PathEnd) (top : ℕ) (key : List ℕ) (behind : Option PathEnd) (result : Result KeyPlace Fault) : Type 0 where
   pub observable : IsObservable new
   pub unchanged : new.pages ≡ old.pages
   pub found : (d : Draw) (s : List Pair) → IsSearched d s old.pages height known → IfOk result (IsKeyPlace d s top key)
+  pub place : (d : Draw) (s : List Pair) → IsSearched d s old.pages height known → IfOk result (λ found. IsAt d s key behind)
+  pub right : (d : Draw) (s : List Pair) → IsSearched d s old.pages height known → IsKnown d s behind
   pub lookups : (d : Draw) (s : List Pair) → IsSearched d s old.pages height known → new.lookups ≤ old.lookups + path_cost d s key
 
 -- a search for the place of a key, in pages of lists of this height
-pub record IsKeySearch (old new : PagesState) (height : ℕ) (known : Option PathEnd) (top : ℕ) (key : List ℕ) (result : Result KeyPlace Fault) : Type 0 where
+pub record IsKeySearch (old new : PagesState) (height : ℕ) (known : Option PathEnd) (top : ℕ) (key : List ℕ) (behind : Option PathEnd) (result : Result KeyPlace Fault) : Type 0 where
   pub faults : new.faults ≡ disk_faults_after old.faults result
   pub lookups_kept : old.lookups ≤ new.lookups
   pub hidden : IsObservable new → IsObservable old
-  pub observed : IsObservable old → FindsKeyPlace old new height known top key result
+  pub observed : IsObservable old → FindsKeyPlace old new height known top key behind result

@@ -1,5 +1,5 @@
 -- The cells of one group, and what a change of one key makes of them.
-use Rattle.std.specs.Prelude.{◌≡◌, ℕ, ◌≤◌, List, ◌++◌, map, filter, length, take, drop, Bool, true, Option, Some, None, ◌==◌}
+use Rattle.std.specs.Prelude.{◌≡◌, ◌⊎◌, ℕ, ◌<◌, ◌≤◌, List, [], ◌∷◌, ◌++◌, map, filter, length, take, drop, Bool, true, Option, Some, None, ◌==◌}
 use Rattle.std.specs.List.{AllByRecursion}
 use Rattle.std.specs.List.Sorted.{IsStrictlySortedBy}
 use Rattle.std.specs.Option.{option_map}
@@ -66,3 +66,14 @@ pub record IsKept (level : ℕ) (key : List ℕ) (page : Page) : Type 0 where
 pub record AreKept (level : ℕ) (key : List ℕ) (pages : List Page) (count : ℕ) : Type 0 where
   pub within : count ≤ length pages
   pub each : AllByRecursion (IsKept level key) (take count pages)
+
+-- the last of the cells of a page is not below a key
+pub record EndsAbove (key : List ℕ) (cells : List Cell) : Type 0 where
+  pub before : List Cell
+  pub last : Cell
+  pub parts : cells ≡ before ++ last ∷ []
+  pub above : key_cmp last.key key ≡ Less → ⊥
+
+-- a page that a change of the key does not leave as it is: it has room, or ends with a cell that is not below the key
+abbrev pub IsFirst : ℕ → List ℕ → Page → Type 0
+IsFirst level key page = (length page.cells < page_room level) ⊎ EndsAbove key page.cells

@@ -1,5 +1,5 @@
 -- What reading and changing the pages of one group does to a map of pages.
-use Rattle.std.specs.Prelude.{◌≡◌, ℕ, ◌+◌, ◌-◌, ◌<◌, ◌≤◌, List, ◌++◌, take, drop, length, Result, IfOk, OnOk}
+use Rattle.std.specs.Prelude.{◌≡◌, ℕ, ◌+◌, ◌-◌, ◌<◌, ◌≤◌, List, ◌++◌, take, drop, length, slice_get, Some, Result, IfOk, OnOk}
 use Rattle.std.specs.List.{AllByRecursion}
 use Rattle.std.specs.FinMap as maps
 use Rattle.store_base.specs.declared.store_fault.Fault.{Fault}
@@ -76,3 +76,24 @@ pub record IsGroupRead (old new : PagesState) (level : ℕ) (lead : Lead) (resul
   pub lookups_kept : old.lookups ≤ new.lookups
   pub hidden : IsObservable new → IsObservable old
   pub observed : IsObservable old → ReadsGroupPages old new level lead result
+
+-- pages of a group of which so many, from the first one on, become those of a list of cells
+pub record IsRun (lead : Lead) (first count : ℕ) (list : CellList) (olds news : List Page) : Type 0 where
+  pub start : changed_pages first olds news ≡ olds
+  pub put : (i : ℕ) (page : Page) → slice_get (pages_from list.level lead first list.cells) i ≡ Some page → slice_get news (first + i) ≡ Some page
+  pub dropped : (i : ℕ) → length (pages_from list.level lead first list.cells) ≤ i → i < count → length news ≤ first + i
+  pub within : first + count ≤ length olds
+
+-- what changing the first so many of them makes of observable pages
+pub record ChangesRun {T : Type 0} (old new : PagesState) (lead : Lead) (first count : ℕ) (list : CellList) (past : ℕ) (result : Result T Fault) : Type 0 where
+  pub observable : IsObservable new
+  pub room : maps.len new.pages ≤ maps.len old.pages + past
+  pub changed : (olds news front back : List Page) → IsRun lead first count list olds news → IsChange list.level lead front back olds news → old.pages ≡ map_of_pages (front ++ (olds ++ back))
+      → OnOk result (new.pages ≡ map_of_pages (front ++ (changed_pages (first + past) olds news ++ back)))
+
+-- a change of the first so many of them, which asks for none
+pub record IsRunChange {T : Type 0} (old new : PagesState) (lead : Lead) (first count : ℕ) (list : CellList) (past : ℕ) (result : Result T Fault) : Type 0 where
+  pub faults : new.faults ≡ disk_faults_after old.faults result
+  pub lookups : new.lookups ≡ old.lookups
+  pub hidden : IsObservable new → IsObservable old
+  pub observed : IsObservable old → ChangesRun old new lead first count list past result

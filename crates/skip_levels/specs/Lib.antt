@@ -4,6 +4,8 @@ pub mod Floors
 pub mod GroupCells
 pub mod GroupChanges
 pub mod Groups
+pub mod ListState
+pub mod NewCells
 pub mod NextSearch
 pub mod PagePairs
 pub mod PairChanges

@@ -13,9 +13,8 @@ use Rattle.node_pages.specs.PagesState.{PagesState, IsObservable}
 use Rattle.skip_levels.specs.Groups.{HoldsGroup}
 use Rattle.skip_levels.specs.PairsState.{next_pair}
 use Rattle.skip_levels.specs.SearchPath.{path_cost}
-use Rattle.skip_levels.specs.Descent.{IsPlace, IsSearched}
+use Rattle.skip_levels.specs.Descent.{IsKnown, IsSearched}
 use Rattle.skip_levels.specs.declared.search.PathEnd.{PathEnd}
-use Rattle.skip_levels.specs.declared.next.NextPair.{NextPair}
 
 -- the pair of a cell of level 0
 abbrev pub pair_in : Option Cell → Option Pair
@@ -41,17 +40,17 @@ pub record IsFirstPair (old new : PagesState) (leader : List ℕ) (result : Resu
   pub hidden : IsObservable new → IsObservable old
   pub observed : IsObservable old → FindsFirstPair old new leader result
 
--- what a search for the next pair leaves of observable pages
-pub record FindsNext (old new : PagesState) (height : ℕ) (known : Option PathEnd) (key : List ℕ) (result : Result NextPair Fault) : Type 0 where
+-- what a search for the next pair leaves of observable pages, and what is then known
+pub record FindsNext (old new : PagesState) (height : ℕ) (known : Option PathEnd) (key : List ℕ) (behind : Option PathEnd) (result : Result (Option Pair) Fault) : Type 0 where
   pub observable : IsObservable new
   pub unchanged : new.pages ≡ old.pages
-  pub found : (d : Draw) (s : List Pair) → IsSearched d s old.pages height known → IfOk result (λ next. next.pair ≡ next_pair key s)
-  pub place : (d : Draw) (s : List Pair) → IsSearched d s old.pages height known → IfOk result (λ next. IsPlace d s 0 key next.low)
+  pub found : (d : Draw) (s : List Pair) → IsSearched d s old.pages height known → IfOk result (λ pair. pair ≡ next_pair key s)
+  pub right : (d : Draw) (s : List Pair) → IsSearched d s old.pages height known → IsKnown d s behind
   pub lookups : (d : Draw) (s : List Pair) → IsSearched d s old.pages height known → new.lookups ≤ old.lookups + path_cost d s key + 1
 
--- a search for the first pair whose key is not below the given one, and for the place of that key, in pages of lists of this height
-pub record IsNextSearch (old new : PagesState) (height : ℕ) (known : Option PathEnd) (key : List ℕ) (result : Result NextPair Fault) : Type 0 where
+-- a search for the first pair whose key is not below the given one, in pages of lists of this height
+pub record IsNextSearch (old new : PagesState) (height : ℕ) (known : Option PathEnd) (key : List ℕ) (behind : Option PathEnd) (result : Result (Option Pair) Fault) : Type 0 where
   pub faults : new.faults ≡ disk_faults_after old.faults result
   pub lookups_kept : old.lookups ≤ new.lookups
   pub hidden : IsObservable new → IsObservable old
-  pub observed : IsObservable old → FindsNext old new height known key result
+  pub observed : IsObservable old → FindsNext old new height known key behind result

@@ -1,5 +1,5 @@
 -- A pair put into the pages of a list or taken out of them, level after level from the highest one that it stands on.
-use Rattle.std.specs.Prelude.{◌≡◌, ◌⊎◌, ℕ, suc, ◌+◌, ◌<◌, ◌≤◌, List, length, Some, None, Result, IfOk, OnOk}
+use Rattle.std.specs.Prelude.{◌≡◌, ◌⊎◌, ℕ, suc, ◌+◌, ◌<◌, ◌≤◌, List, length, Option, Some, None, Result, IfOk, OnOk}
 use Rattle.std.specs.FinMap.{find, put}
 use Rattle.store_base.specs.declared.store_fault.Fault.{Fault}
 use Rattle.store_model.specs.Paths.{key_cmp}
@@ -12,7 +12,6 @@ use Rattle.node_pages.specs.PagesState.{PagesState, IsObservable}
 use Rattle.skip_levels.specs.CellChanges.{IsPagesCall}
 use Rattle.skip_levels.specs.Descent.{HoldsPairs, IsKnown}
 use Rattle.skip_levels.specs.declared.search.PathEnd.{PathEnd}
-use Rattle.skip_levels.specs.declared.changes.Taken.{Taken}
 use Rattle.skip_levels.specs.PagePairs.{pairs_of_map}
 use Rattle.skip_levels.specs.PairsState.{most_pairs, without}
 use Rattle.skip_levels.specs.SearchPath.{leader_behind, not_above, levels_cost, path_cost, path_cost_below, low_cost}
@@ -55,17 +54,17 @@ pub record TakesPairFrom {T : Type 0} (old new : PagesState) (top : ℕ) (lead :
   pub taken : IsObservable old → (d : Draw) (s : List Pair) → IsTaking d s old.pages top lead key → OnOk result (new.pages ≡ map_of_pages (pages_of_pairs d (without key s)))
   pub lookups : IsObservable old → (d : Draw) (s : List Pair) → IsTaking d s old.pages top lead key → new.lookups ≤ old.lookups + (levels_cost d s key 0 (suc top) + path_cost_below d s key)
 
--- a value put under a key of the list that the pages hold, with the place that the key then has as the answer
-pub record PutsPairIn (d : Draw) (old new : PagesState) (key value : List ℕ) (result : Result PathEnd Fault) : Type 0 where
+-- a value put under a key of the list that the pages hold, and what is then known
+pub record PutsPairIn {T : Type 0} (d : Draw) (old new : PagesState) (key value : List ℕ) (behind : Option PathEnd) (result : Result T Fault) : Type 0 where
   pub call : IsPagesCall old new result
-  pub known : IsObservable old → IfOk result (λ low. IsKnown d (put key_cmp key value (pairs_of_map old.pages)) (Some low))
+  pub known : IsObservable old → OnOk result (IsKnown d (put key_cmp key value (pairs_of_map old.pages)) behind)
   pub put : IsObservable old → OnOk result (new.pages ≡ map_of_pages (pages_of_pairs d (put key_cmp key value (pairs_of_map old.pages))))
   pub lookups : IsObservable old → new.lookups ≤ old.lookups + (path_cost d (pairs_of_map old.pages) key + low_cost d (pairs_of_map old.pages) key)
 
--- the pair of a key taken out of the list that the pages hold, with its value and what is then known as the answer
-pub record TakesPairIn (d : Draw) (old new : PagesState) (key : List ℕ) (result : Result Taken Fault) : Type 0 where
+-- the pair of a key taken out of the list that the pages hold, with its value as the answer, and what is then known
+pub record TakesPairIn (d : Draw) (old new : PagesState) (key : List ℕ) (behind : Option PathEnd) (result : Result (Option (List ℕ)) Fault) : Type 0 where
   pub call : IsPagesCall old new result
-  pub found : IsObservable old → IfOk result (λ taken. taken.value ≡ find key_cmp key (pairs_of_map old.pages))
+  pub found : IsObservable old → IfOk result (λ value. value ≡ find key_cmp key (pairs_of_map old.pages))
   pub taken : IsObservable old → OnOk result (new.pages ≡ map_of_pages (pages_of_pairs d (without key (pairs_of_map old.pages))))
-  pub known : IsObservable old → IfOk result (λ taken. IsKnown d (without key (pairs_of_map old.pages)) taken.known)
+  pub known : IsObservable old → OnOk result (IsKnown d (without key (pairs_of_map old.pages)) behind)
   pub lookups : IsObservable old → new.lookups ≤ old.lookups + (path_cost d (pairs_of_map old.pages) key + (low_cost d (pairs_of_map old.pages) key + path_cost_below d (pairs_of_map old.pages) key))

@@ -1,12 +1,12 @@
 //! The cells of one group, and how a change of one key leaves them.
 
-ghost use Rattle.std.specs.Prelude.{◌≡◌, ◌↔◌, ◌+◌, ◌-◌, ◌<◌, ◌≤◌, ◌++◌, [], ◌∷◌, length, take, drop, IsTrue, IfOk, OnOk};
+ghost use Rattle.std.specs.Prelude.{◌≡◌, ◌↔◌, ◌+◌, ◌-◌, ◌<◌, ◌≤◌, ◌++◌, [], ◌∷◌, length, take, drop, IsTrue, IfOk, OnOk, true, false};
 ghost use Rattle.std.specs.List.{flat_map};
 ghost use Rattle.std.specs.declared.cmp.Ordering.TheVariants.{Equal};
 ghost use Rattle.store_model.specs.Pages.{IsCell};
 ghost use Rattle.store_base.specs.Leads.{lead_of};
 ghost use Rattle.skip_levels.specs.Floors.{last_of, lead_from};
-ghost use Rattle.skip_levels.specs.GroupCells.{AreCells, IsRisingList, AreBetween, AreKept, IsMerged, last_key_of, is_behind, side, merged};
+ghost use Rattle.skip_levels.specs.GroupCells.{AreCells, IsRisingList, AreBetween, IsKept, IsFirst, AreKept, IsMerged, last_key_of, is_behind, side, merged};
 
 use crate::group::is_last;
 use crate::search::count_not_above;
@@ -94,7 +94,7 @@ fn push_rising(cells: &mut Cells, cell: &Cell) -> Result<(), NoMemory>
 }
 
 /// Adds the cells of the key, those left out that are not of the level or do not rise.
-fn append_own(cells: &mut Cells, own: &[Cell], key: &Key) -> Result<(), NoMemory>
+pub fn append_own(cells: &mut Cells, own: &[Cell], key: &Key) -> Result<(), NoMemory>
     requires { AreCells cells.old.level cells.old.cells }
     ensures valid { IsRisingList cells.old.level cells.new }
     ensures added { AreCells cells.old.level (cells.old.cells ++ side Equal key.now own.now) → OnOk result (cells.new.cells ≡ cells.old.cells ++ side Equal key.now own.now) }
@@ -159,7 +159,7 @@ fn range_of(page: &Page, key: &Key, order: Ordering) -> (u32, u32)
 }
 
 /// Adds the cells of the pages whose keys compare so with the key, those left out that are not of the level or do not rise.
-fn append_side(
+pub fn append_side(
     cells: &mut Cells,
     pages: &[Page],
     key: &Key,
@@ -178,14 +178,25 @@ fn append_side(
     Ok(())
 }
 
-/// How many of the first pages a change of the key leaves as they are: they are full, and their cells are below the key.
+/// Whether a change of the key leaves a page of the level as it is: it is full, and its cells are below the key.
+pub fn stays(level: u8, page: &Page, key: &Key) -> bool
+    ensures stays { result ≡ true → IsKept level key.now page.now }
+    ensures goes { result ≡ false → IsFirst level key.now page.now }
+{
+    if is_last(level, page) {
+        return false;
+    }
+    page.key(page.len() - 1).cmp(key).is_lt()
+}
+
+/// How many of the first pages a change of the key leaves as they are.
 fn count_kept(level: u8, pages: &[Page], key: &Key) -> u32
     requires { length pages.now < 4294967296 }
     ensures { AreKept level key.now pages.now result }
 {
     let mut kept = 0;
     for page in pages {
-        if is_last(level, page) || page.key(page.len() - 1).cmp(key).is_ge() {
+        if !stays(level, page, key) {
             return kept;
         }
         kept += 1;
@@ -203,8 +214,52 @@ fn lead_behind_pages(pages: &[Page], lead: &Lead) -> Lead
     }
 }
 
-/// The cells of pages that are below the key, its own, and those of other pages that are above it, with what leads the next
-/// lower group of the search path. Of cells that rise, as those of a group do, none is left out.
+/// Puts into an empty list the cells of pages that are below the key, its own, and those of other pages that are above it, and answers
+/// what leads the next lower group of the search path. Of cells that rise, as those of a group do, none is left out.
+pub fn merge_onto(
+    cells: &mut Cells,
+    lead: &Lead,
+    low: &[Page],
+    key: &Key,
+    own: &[Cell],
+    high: &[Page],
+) -> Result<Lead, NoMemory>
+    requires { cells.old.cells ≡ [] }
+    ensures valid { IsRisingList cells.old.level cells.new }
+    ensures merged { AreCells cells.old.level (merged key.now (flat_map (λ page. page.cells) low.now) own.now (flat_map (λ page. page.cells) high.now))
+        → IfOk result (λ next. IsMerged (lead_of lead.now) key.now (flat_map (λ page. page.cells) low.now) own.now (flat_map (λ page. page.cells) high.now) (next, cells.new.cells)) }
+    ensures few { length cells.new.cells ≤ length (flat_map (λ page. page.cells) low.now) + (length own.now + length (flat_map (λ page. page.cells) high.now)) }
+{
+    append_side(cells, low, key, Ordering::Less)?;
+    let next = lead_behind(cells, lead);
+    append_own(cells, own, key)?;
+    append_side(cells, high, key, Ordering::Greater)?;
+    Ok(next)
+}
+
+/// Merges as `merge_onto` does, where the low and the high cells are those of one page: the key is looked for once.
+pub fn merge_page(
+    cells: &mut Cells,
+    lead: &Lead,
+    page: &Page,
+    key: &Key,
+    own: &[Cell],
+) -> Result<Lead, NoMemory>
+    requires { cells.old.cells ≡ [] }
+    ensures valid { IsRisingList cells.old.level cells.new }
+    ensures merged { AreCells cells.old.level (merged key.now page.now.cells own.now page.now.cells)
+        → IfOk result (λ next. IsMerged (lead_of lead.now) key.now page.now.cells own.now page.now.cells (next, cells.new.cells)) }
+    ensures few { length cells.new.cells ≤ length page.now.cells + (length own.now + length page.now.cells) }
+{
+    let (at, past) = places_of(page, key);
+    append_rising(cells, page, 0, at)?;
+    let next = lead_behind(cells, lead);
+    append_own(cells, own, key)?;
+    append_rising(cells, page, past, page.len())?;
+    Ok(next)
+}
+
+/// Merges as `merge_onto` does, into a list of its own.
 pub fn merge_cells(
     alloc: Global,
     level: u8,
@@ -221,10 +276,7 @@ pub fn merge_cells(
 {
     let pages = low.len().max(high.len()).min(MOST_PAGES) as u32;
     let mut cells = Cells::with_room(alloc, level, pages * u32::from(room(level)) + 1)?;
-    append_side(&mut cells, low, key, Ordering::Less)?;
-    let next = lead_behind(&cells, lead);
-    append_own(&mut cells, own, key)?;
-    append_side(&mut cells, high, key, Ordering::Greater)?;
+    let next = merge_onto(&mut cells, lead, low, key, own, high)?;
     Ok((next, cells))
 }
 

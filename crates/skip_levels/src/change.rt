@@ -65,7 +65,7 @@ fn replace_page<P: Pages>(
     if i < old.len() && cells.is_page(lead, first, i - first, old.get(i)) {
         return Ok(());
     }
-    pages.put(cells.page(lead, first, i - first))
+    cells.put_page(pages, lead, first, i - first)
 }
 
 /// Changes the pages of a group: the first ones stay, up to page `first`, and behind them come those of these cells. Only

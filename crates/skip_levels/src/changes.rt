@@ -12,10 +12,11 @@ ghost use Rattle.skip_levels.specs.PagePairs.{pairs_of_map};
 ghost use Rattle.skip_levels.specs.PairChanges.{IsPutting, IsTaking, PutsPairFrom, TakesPairFrom, PutsPairIn, TakesPairIn};
 
 use crate::levels::{join_groups, set_cells, split_group};
-use crate::put_place::{place_behind, place_to_put};
-use crate::search::{KeyPlace, PathEnd, find_place};
+use crate::new_cells::NewCells;
+use crate::put_place::{PutPlace, know_behind, place_to_put};
+use crate::search::{KeyPlace, PathEnd, find_place, go_to, known_lead};
 use node_pages::{Cell, Pages};
-use seeded_draw::Draw;
+use seeded_draw::{Draw, Front};
 use std::alloc::Global;
 use store_base::{Fault, Key, Lead, NoMemory, Value};
 
@@ -30,12 +31,32 @@ fn cell_on(level: u8, key: &Key, value: &Value) -> Result<Cell, NoMemory>
     }
 }
 
+/// Puts the value under the key on level 0 alone, in the group that `lead` leads. After a fault a part of the pages is changed.
+fn put_lowest<P: Pages>(
+    pages: &mut P,
+    fresh: &mut NewCells,
+    lead: &Lead,
+    key: &Key,
+    value: Value,
+) -> Result<(), Fault>
+    requires { IsObservable (P.state pages.old) → (d : draws.Draw) × (s : List Pair) × IsPutting d s (P.state pages.old).pages 0 (lead_of lead.now) key.now }
+    ensures call { PutsPairFrom (P.state pages.old) (P.state pages.new) 0 (lead_of lead.now) key.now value result }
+    ensures follows { P.follows pages.old pages.new }
+{
+    let _ = key.as_bytes();
+    let _ = value.as_slice();
+    let own = [Cell::with_value(*key, value)];
+    set_cells(pages, fresh, 0, lead, key, &own)?;
+    Ok(())
+}
+
 /// Puts the value under the key, from the level `top` down, on which `lead` leads the group of its search path: of a new key that
 /// is its own level, and on each lower one the group is cut in two before the key. A key that is there keeps its levels, and its
 /// value stands on level 0 alone. After a fault a part of the pages is changed.
 pub fn put_from<P: Pages>(
     alloc: Global,
     pages: &mut P,
+    fresh: &mut NewCells,
     top: u8,
     lead: &Lead,
     key: &Key,
@@ -48,7 +69,7 @@ pub fn put_from<P: Pages>(
     let _ = key.as_bytes();
     let _ = value.as_slice();
     let own = [cell_on(top, key, value)?];
-    let mut next = set_cells(alloc, pages, top, lead, key, &own)?;
+    let mut next = set_cells(pages, fresh, top, lead, key, &own)?;
     let mut level = top;
     while level > 0 {
         level -= 1;
@@ -63,6 +84,7 @@ pub fn put_from<P: Pages>(
 pub fn take_from<P: Pages>(
     alloc: Global,
     pages: &mut P,
+    fresh: &mut NewCells,
     top: u8,
     lead: &Lead,
     key: &Key,
@@ -71,7 +93,7 @@ pub fn take_from<P: Pages>(
     ensures call { TakesPairFrom (P.state pages.old) (P.state pages.new) top (lead_of lead.now) key.now result }
     ensures follows { P.follows pages.old pages.new }
 {
-    let mut next = set_cells(alloc, pages, top, lead, key, &[])?;
+    let mut next = set_cells(pages, fresh, top, lead, key, &[])?;
     let mut level = top;
     while level > 0 {
         level -= 1;
@@ -80,62 +102,61 @@ pub fn take_from<P: Pages>(
     Ok(())
 }
 
-/// Puts the value under the key in the pages of a list, and answers the place on level 0 that the key then has. After a fault a
-/// part of the pages may be changed.
+/// Puts the value under the key in the pages of a list. The place on level 0 that the key then has is known. After a fault a part
+/// of the pages may be changed.
 pub fn put_pair<P: Pages, W: Draw>(
     alloc: Global,
     pages: &mut P,
+    fresh: &mut NewCells,
     draw: &W,
-    known: &Option<PathEnd>,
+    front: &mut Front,
+    known: &mut Option<PathEnd>,
     key: &Key,
-    value: &Value,
-) -> Result<PathEnd, Fault>
-    requires known { IsObservable (P.state pages.old) → IsKnown (W.drawn draw.now) (pairs_of_map (P.state pages.old).pages) known.now }
+    value: Value,
+) -> Result<(), Fault>
+    requires known { IsObservable (P.state pages.old) → IsKnown (W.drawn draw.now) (pairs_of_map (P.state pages.old).pages) known.old }
     requires whole { IsObservable (P.state pages.old) → HoldsPairs (W.drawn draw.now) (pairs_of_map (P.state pages.old).pages) (P.state pages.old).pages }
     requires room { IsObservable (P.state pages.old) → length (pairs_of_map (P.state pages.old).pages) < most_pairs }
-    ensures call { PutsPairIn (W.drawn draw.now) (P.state pages.old) (P.state pages.new) key.now value.now result }
+    ensures call { PutsPairIn (W.drawn draw.now) (P.state pages.old) (P.state pages.new) key.now value known.new result }
     ensures follows { P.follows pages.old pages.new }
 {
     let _ = key.as_bytes();
     let _ = value.as_slice();
-    let place = place_to_put(pages, draw, known, key)?;
-    put_from(alloc, pages, place.top, &place.lead, key, value)?;
-    Ok(place_behind(&place, key))
+    let own = draw.level_from(front, key);
+    if own == 0 {
+        go_to(pages, known, draw.height(), key)?;
+        return put_lowest(pages, fresh, &known_lead(known), key, value);
+    }
+    let PutPlace { top, lead } = place_to_put(pages, draw, known, own, key)?;
+    put_from(alloc, pages, fresh, top, &lead, key, &value)?;
+    know_behind(known, top, key);
+    Ok(())
 }
 
-/// What taking a pair out answers.
-#[derive(Drop)]
-pub struct Taken {
-    /// The value of the key; `None` exactly where the list lacked the key.
-    pub value: Option<Value>,
-    /// The place on level 0 that the key then has, where it is known.
-    pub known: Option<PathEnd>,
-}
-
-/// Takes the pair of a key out of the pages of a list, and answers its value. After a fault a part of the pages may be changed.
+/// Takes the pair of a key out of the pages of a list, and answers its value; `None` exactly where the list lacked the key. The
+/// place on level 0 that the key then has is known, unless the key led its group. After a fault a part of the pages may be changed.
 pub fn take_pair<P: Pages, W: Draw>(
     alloc: Global,
     pages: &mut P,
+    fresh: &mut NewCells,
     draw: &W,
-    known: &Option<PathEnd>,
+    front: &mut Front,
+    known: &mut Option<PathEnd>,
     key: &Key,
-) -> Result<Taken, Fault>
-    requires known { IsObservable (P.state pages.old) → IsKnown (W.drawn draw.now) (pairs_of_map (P.state pages.old).pages) known.now }
+) -> Result<Option<Value>, Fault>
+    requires known { IsObservable (P.state pages.old) → IsKnown (W.drawn draw.now) (pairs_of_map (P.state pages.old).pages) known.old }
     requires whole { IsObservable (P.state pages.old) → HoldsPairs (W.drawn draw.now) (pairs_of_map (P.state pages.old).pages) (P.state pages.old).pages }
-    ensures call { TakesPairIn (W.drawn draw.now) (P.state pages.old) (P.state pages.new) key.now result }
+    ensures call { TakesPairIn (W.drawn draw.now) (P.state pages.old) (P.state pages.new) key.now known.new result }
     ensures follows { P.follows pages.old pages.new }
 {
-    let top = draw.level(key);
-    let KeyPlace { lead, low, value } = find_place(pages, known, draw.height(), top, key)?;
+    let top = draw.level_from(front, key);
+    let KeyPlace { lead, value } = find_place(pages, known, draw.height(), top, key)?;
     let Some(value) = value else {
-        return Ok(Taken {
-            value: None,
-            known: Some(low),
-        });
+        return Ok(None);
     };
-    take_from(alloc, pages, top, &lead, key)?;
-    Ok(Taken {
-        value: Some(value),
-        known: if top == 0 { Some(low) } else { None },
-    })
+    take_from(alloc, pages, fresh, top, &lead, key)?;
+    if top > 0 {
+        *known = None;
+    }
+    Ok(Some(value))
 }

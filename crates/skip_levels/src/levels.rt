@@ -10,15 +10,17 @@ ghost use Rattle.skip_levels.specs.CellChanges.{HasRoom, SetsCells, SplitsGroup,
 
 use crate::cells::{Merged, merge_cells, merge_group};
 use crate::change::{read_group, replace_group};
+use crate::new_cells::NewCells;
+use crate::set_group::{change_run, read_new_cells};
 use node_pages::{Cell, Cells, Page, PageList, Pages};
 use std::alloc::Global;
 use store_base::{Fault, Key, Lead, NoMemory};
 
 /// Sets the key's cells, one or none, in the group that `lead` leads on the level, in the place of the cell that the key
-/// had there. The answer is what leads the group of the next lower level, strictly below the key.
+/// had there. `fresh` lends its memory. The answer is what leads the group of the next lower level, strictly below the key.
 pub fn set_cells<P: Pages>(
-    alloc: Global,
     pages: &mut P,
+    fresh: &mut NewCells,
     level: u8,
     lead: &Lead,
     key: &Key,
@@ -29,11 +31,10 @@ pub fn set_cells<P: Pages>(
     ensures call { SetsCells (P.state pages.old) (P.state pages.new) level (lead_of lead.now) key.now own.now result }
     ensures follows { P.follows pages.old pages.new }
 {
-    let old = read_group(alloc, pages, level, lead)?;
-    let all = old.as_slice();
-    let new = merge_group(alloc, level, lead, all, key, own, all)?;
-    replace_group(pages, lead, &old, new.kept, &new.cells)?;
-    Ok(new.next)
+    fresh.restart(level, lead);
+    read_new_cells(pages, lead, key, own, fresh)?;
+    change_run(pages, lead, fresh.kept, fresh.count, &fresh.cells)?;
+    Ok(fresh.next)
 }
 
 /// What a group becomes by its cells below the key; and apart from it the key's own cells and those of the group that are

@@ -7,10 +7,12 @@ mod changes;
 mod group;
 mod levels;
 mod map;
+mod new_cells;
 mod next;
 mod ordered;
 mod put_place;
 mod search;
+mod set_group;
 mod skip_list;
 mod wanted;
 

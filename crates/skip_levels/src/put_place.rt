@@ -1,10 +1,11 @@
 //! The place at which a pair is put into a list.
 
-ghost use Rattle.std.specs.Prelude.{◌≡◌};
+ghost use Rattle.std.specs.Prelude.{◌≡◌, IfOk};
 ghost use Rattle.store_base.specs.Leads.{lead_of};
+ghost use Rattle.skip_levels.specs.Descent.{lead_known};
 ghost use Rattle.skip_levels.specs.PutPlaces.{IsPutSearch, is_leader, behind};
 
-use crate::search::{PathEnd, go_down, path_end};
+use crate::search::{PathEnd, find_lead};
 use node_pages::Pages;
 use seeded_draw::Draw;
 use store_base::{Fault, Key, Lead};
@@ -16,60 +17,57 @@ pub struct PutPlace {
     pub top: u8,
     /// What leads the group of that level on the search path of the key.
     pub lead: Lead,
-    /// The place of the key on level 0.
-    pub low: PathEnd,
 }
 
-/// Whether the key is what leads a group.
-fn is_lead(lead: &Lead, key: &Key) -> bool
-    ensures { result ≡ is_leader key.now (lead_of lead.now) }
+/// Whether the key is what leads the group of level 0 that is known.
+fn leads_known(known: &Option<PathEnd>, key: &Key) -> bool
+    ensures { result ≡ is_leader key.now (lead_known known.now) }
 {
-    match lead {
-        Lead::Start => false,
-        Lead::Key(leader) => leader.cmp(key).is_eq(),
+    match known {
+        Some(
+            PathEnd {
+                lead: Lead::Key(leader),
+                ..
+            },
+        ) => leader.cmp(key).is_eq(),
+        _ => false,
     }
 }
 
-/// The place at which a value is put under the key in the pages of a list. The groups of one search path are read at most, and that
-/// of level 0 is not: a key above level 0 is there exactly where it leads its group, and of one on level 0 it makes no difference.
-/// After a fault the pages are as they were.
+/// The place at which a value is put under the key, whose own level this is, in the pages of a list. The groups of one search path
+/// are read at most, and that of level 0 is not: a key above level 0 is there exactly where it leads its group, and of one on level
+/// 0 it makes no difference. The place of the key on level 0 is then known. After a fault the pages are as they were.
 pub fn place_to_put<P: Pages, W: Draw>(
     pages: &mut P,
     draw: &W,
-    known: &Option<PathEnd>,
+    known: &mut Option<PathEnd>,
+    own: u8,
     key: &Key,
 ) -> Result<PutPlace, Fault>
-    ensures call { IsPutSearch (W.drawn draw.now) (P.state pages.old) (P.state pages.new) known.now key.now result }
+    requires { own ≡ (W.drawn draw.now).level key.now }
+    ensures call { IsPutSearch (W.drawn draw.now) (P.state pages.old) (P.state pages.new) known.old key.now known.new result }
     ensures follows { P.follows pages.old pages.new }
 {
-    let own = draw.level(key);
-    let upper = path_end(pages, known, draw.height(), own, key)?;
-    let low = go_down(pages, own, &upper, 0, key)?;
-    if is_lead(&low.lead, key) {
+    let lead = find_lead(pages, known, draw.height(), own, key)?;
+    if leads_known(known, key) {
         Ok(PutPlace {
             top: 0,
-            lead: low.lead,
-            low,
+            lead: Lead::Key(*key),
         })
     } else {
-        Ok(PutPlace {
-            top: own,
-            lead: upper.lead,
-            low,
-        })
+        Ok(PutPlace { top: own, lead })
     }
 }
 
-/// The place of the key on level 0 behind the put: a new key above level 0 leads a group of its own.
-pub fn place_behind(place: &PutPlace, key: &Key) -> PathEnd
-    ensures { result ≡ behind place.now key.now }
+/// Has the place of the key on level 0 known behind a put from the level `top` down: a new key above level 0 leads a group of its
+/// own.
+pub fn know_behind(known: &mut Option<PathEnd>, top: u8, key: &Key)
+    ensures { known.new ≡ behind top key.now known.old }
 {
-    if place.top == 0 {
-        place.low
-    } else {
-        PathEnd {
-            lead: Lead::Key(*key),
-            next: place.low.next,
-        }
+    if top == 0 {
+        return;
+    }
+    if let Some(place) = known {
+        place.lead = Lead::Key(*key);
     }
 }

@@ -1,11 +1,11 @@
-//! The search for a key in the pages of one group.
+//! The search for a key in the pages of one group, and on its search path from level to level.
 
 ghost use Rattle.std.specs.Prelude.{◌≡◌, ◌-◌, ◌<◌, ◌≤◌, length, slice_get, ◌↔◌, IsTrue};
 ghost use Rattle.std.specs.List.{prefix_len};
 ghost use Rattle.store_base.specs.Leads.{lead_of};
-ghost use Rattle.skip_levels.specs.Floors.{is_not_above, lead_at};
-ghost use Rattle.skip_levels.specs.Descent.{LiesIn, IsWayDown, IsDescent, IsKeySearch};
-ghost use Rattle.skip_levels.specs.Searches.{IsGroupSearch};
+ghost use Rattle.skip_levels.specs.Floors.{is_not_above};
+ghost use Rattle.skip_levels.specs.Descent.{LiesIn, IsWayDown, IsPlaceSearch, IsKeySearch, ends_at, lead_in, leads_in, placed};
+ghost use Rattle.skip_levels.specs.Searches.{seen, IsGroupSearch};
 
 use crate::group::{is_last, label_in_group};
 use crate::wanted::Wanted;
@@ -31,37 +31,72 @@ pub fn count_not_above(page: &Page, key: &Key) -> u32
     low
 }
 
-/// What is wanted of the last of the first so many cells of a page, and where these are none what is given.
-fn last_of_first<T: Wanted + Drop>(page: &Page, count: u32, key: &Key, last: T) -> T
-    requires { count ≤ length page.now.cells }
-    ensures none { count ≡ 0 → result ≡ last }
-    ensures some { 0 < count → result ≡ T.of key.now (slice_get page.now.cells (count - 1)) }
+/// How many cells of a page of the level have keys that are not above the given one: of one without room often all.
+fn count_in_group(level: u8, page: &Page, key: &Key) -> u32
+    ensures count { result ≡ prefix_len (is_not_above key.now) page.now.cells }
+    ensures within { result ≤ length page.now.cells }
 {
-    if count == 0 {
-        last
+    let all = page.len();
+    if is_last(level, page) {
+        return count_not_above(page, key);
+    }
+    if page
+        .key_bytes(all - 1)
+        .cmp(key.as_bytes().as_slice())
+        .is_le()
+    {
+        all
     } else {
-        T::of_cell(page, count - 1, key)
+        count_not_above(page, key)
     }
 }
 
-/// What is wanted of the cell of a page with this number, the first being 0, also where it has no more.
-fn cell_at<T: Wanted>(page: &Page, index: u32, key: &Key) -> T
-    ensures { result ≡ T.of key.now (slice_get page.now.cells index) }
+/// Sees the last of the first so many cells of a page, where there are some.
+fn see_last<T: Wanted>(page: &Page, count: u32, key: &Key, found: &mut T)
+    requires { count ≤ length page.now.cells }
+    ensures none { count ≡ 0 → found.new ≡ found.old }
+    ensures some { 0 < count → found.new ≡ seen (T.floor key.now) (slice_get page.now.cells (count - 1)) found.old }
+{
+    if count > 0 {
+        found.see_floor(page, count - 1, key);
+    }
+}
+
+/// Sees the cell of a page with this number, the first being 0, where it has so many.
+fn see_next<T: Wanted>(page: &Page, index: u32, key: &Key, found: &mut T)
+    ensures { found.new ≡ seen (T.after key.now) (slice_get page.now.cells index) found.old }
 {
     if index < page.len() {
-        T::of_cell(page, index, key)
-    } else {
-        T::of_none(key)
+        found.see_after(page, index, key);
     }
 }
 
-/// What is wanted of the cells next to a key in a group.
-#[derive(Drop)]
-pub struct Neighbours<T> {
-    /// Of the cell with the greatest key that is not above the key, if there is one.
-    pub floor: T,
-    /// Of the cell with the least key above the key, if there is one.
-    pub after: T,
+/// Sees the cells next to a key in the group that `lead` leads on the level: the one with the greatest key that is not above the
+/// key, and the one with the least key above it. Each page of the group is asked for once at most, and none behind a page with
+/// room. After a fault a part may be seen.
+pub fn search_group<P: Pages, T: Wanted>(
+    pages: &mut P,
+    level: u8,
+    lead: &Lead,
+    key: &Key,
+    found: &mut T,
+) -> Result<(), Fault>
+    ensures call { IsGroupSearch (T.floor key.now) (T.after key.now) (P.state pages.old) (P.state pages.new) level (lead_of lead.now) key.now found.old found.new result }
+    ensures follows { P.follows pages.old pages.new }
+{
+    for index in 0..u32::MAX {
+        let looked = pages.look(&label_in_group(level, lead, index))?;
+        let Some(page) = looked else {
+            return Ok(());
+        };
+        let count = count_in_group(level, page, key);
+        see_last(page, count, key, found);
+        if count < page.len() || is_last(level, page) {
+            see_next(page, count, key, found);
+            return Ok(());
+        }
+    }
+    Ok(())
 }
 
 /// Where a descent on the search path of a key ends.
@@ -73,74 +108,26 @@ pub struct PathEnd {
     pub next: Option<Key>,
 }
 
-/// What is wanted of the cells next to a key in the group that `lead` leads on the level. Each page of the group is asked for once
-/// at most, and none behind a page with room.
-pub fn neighbours_in_group<P: Pages, T: Wanted + Drop>(
-    pages: &mut P,
-    level: u8,
-    lead: &Lead,
-    key: &Key,
-) -> Result<Neighbours<T>, Fault>
-    ensures call { IsGroupSearch (T.of key.now) (P.state pages.old) (P.state pages.new) level (lead_of lead.now) key.now result }
-    ensures follows { P.follows pages.old pages.new }
-{
-    let mut last = T::of_none(key);
-    for index in 0..u32::MAX {
-        let found = pages.look(&label_in_group(level, lead, index))?;
-        let Some(page) = found else {
-            return Ok(Neighbours {
-                floor: last,
-                after: T::of_none(key),
-            });
-        };
-        let count = count_not_above(page, key);
-        last = last_of_first(page, count, key, last);
-        if count < page.len() || is_last(level, page) {
-            return Ok(Neighbours {
-                floor: last,
-                after: cell_at(page, count, key),
-            });
-        }
-    }
-    Ok(Neighbours {
-        floor: last,
-        after: T::of_none(key),
-    })
-}
-
-/// What leads the next group of a search path: the key found in this one, or else what leads this one.
-fn next_lead(found: Option<Key>, lead: Lead) -> Lead
-    ensures { lead_of result ≡ lead_at found (lead_of lead) }
-{
-    match found {
-        Some(key) => Lead::Key(key),
-        None => lead,
-    }
-}
-
-/// Goes down on the search path of a key from the level `top`, of which `from` tells the place, to the level `bottom`, by one
-/// group of each level above it.
-pub fn go_down<P: Pages>(
+/// Goes down on the search path of a key from the level `top`, of which `end` tells the place, to the level `bottom`, of which it
+/// tells the place then, by one group of each level above it. After a fault `end` tells nothing.
+fn descend<P: Pages>(
     pages: &mut P,
     top: u8,
-    from: &PathEnd,
     bottom: u8,
     key: &Key,
-) -> Result<PathEnd, Fault>
+    end: &mut PathEnd,
+) -> Result<(), Fault>
     requires { bottom ≤ top }
-    ensures call { IsWayDown (P.state pages.old) (P.state pages.new) top from.now bottom key.now result }
+    ensures call { IsWayDown (P.state pages.old) (P.state pages.new) top end.old bottom key.now (ends_at result end.new) }
     ensures follows { P.follows pages.old pages.new }
 {
-    let mut lead = from.lead;
-    let mut next = from.next;
     let mut level = top;
     while level > bottom {
-        let near: Neighbours<Option<Key>> = neighbours_in_group(pages, level, &lead, key)?;
-        lead = next_lead(near.floor, lead);
-        next = near.after.or(next);
+        let lead = end.lead;
+        search_group(pages, level, &lead, key, end)?;
         level -= 1;
     }
-    Ok(PathEnd { lead, next })
+    Ok(())
 }
 
 /// Whether a key lies in the group of level 0 of this place: from what leads it on, and below the next leader.
@@ -158,61 +145,113 @@ fn lies_in(place: &PathEnd, key: &Key) -> bool
     is_from && is_before
 }
 
-/// What leads the group of the level `bottom` on the search path of a key, and the next group of that level, found by one
-/// group of each level above, from the highest on. Where a group of level 0 is known in which the key lies, no page is asked for.
-pub fn path_end<P: Pages>(
+/// Has the place of a key on level 0 known, in pages of this height, found by one group of each level above. Where it is known
+/// before, no page is asked for. After a fault what was known still is.
+pub fn go_to<P: Pages>(
     pages: &mut P,
-    known: &Option<PathEnd>,
+    known: &mut Option<PathEnd>,
     height: u8,
-    bottom: u8,
     key: &Key,
-) -> Result<PathEnd, Fault>
-    requires { bottom < height }
-    ensures call { IsDescent (P.state pages.old) (P.state pages.new) height known.now bottom key.now result }
+) -> Result<(), Fault>
+    requires { 1 ≤ height }
+    ensures call { IsPlaceSearch (P.state pages.old) (P.state pages.new) height known.old 0 key.now known.new (leads_in known.new result) }
     ensures follows { P.follows pages.old pages.new }
 {
-    if let Some(place) = known {
-        if bottom == 0 && lies_in(place, key) {
-            return Ok(*place);
+    if let Some(place) = &*known {
+        if lies_in(place, key) {
+            return Ok(());
         }
     }
-    let start = PathEnd {
+    let mut end = PathEnd {
         lead: Lead::Start,
         next: None,
     };
-    go_down(pages, height - 1, &start, bottom, key)
+    descend(pages, height - 1, 0, key, &mut end)?;
+    *known = Some(end);
+    Ok(())
 }
 
-/// Where a key stands in a list, or would stand.
+/// What leads the group of the level `top` on the search path of a key, in pages of this height, found by one group of each level
+/// above. The place of the key on level 0 is then known; where it is before, and `top` is 0, no page is asked for. After a fault
+/// what was known still is.
+pub fn find_lead<P: Pages>(
+    pages: &mut P,
+    known: &mut Option<PathEnd>,
+    height: u8,
+    top: u8,
+    key: &Key,
+) -> Result<Lead, Fault>
+    requires { top < height }
+    ensures call { IsPlaceSearch (P.state pages.old) (P.state pages.new) height known.old top key.now known.new result }
+    ensures follows { P.follows pages.old pages.new }
+{
+    if top == 0 {
+        go_to(pages, known, height, key)?;
+        return Ok(known_lead(known));
+    }
+    let mut end = PathEnd {
+        lead: Lead::Start,
+        next: None,
+    };
+    descend(pages, height - 1, top, key, &mut end)?;
+    let lead = end.lead;
+    descend(pages, top, 0, key, &mut end)?;
+    *known = Some(end);
+    Ok(lead)
+}
+
+/// What leads the group of level 0 that is known, or the start where none is.
+pub fn known_lead(known: &Option<PathEnd>) -> Lead
+    ensures { result ≡ lead_in known.now }
+{
+    match known {
+        Some(place) => place.lead,
+        None => Lead::Start,
+    }
+}
+
+/// The value of a key in the pages of a list of this height, if the list has it. The groups of one search path are read, or that
+/// of level 0 alone where it is known. The place of the key on level 0 is then known. After a fault the pages are as they were,
+/// and what was known is still right.
+pub fn find_value<P: Pages>(
+    pages: &mut P,
+    known: &mut Option<PathEnd>,
+    height: u8,
+    key: &Key,
+) -> Result<Option<Value>, Fault>
+    requires { 1 ≤ height }
+    ensures call { IsKeySearch (P.state pages.old) (P.state pages.new) height known.old 0 key.now known.new (placed known.new result) }
+    ensures follows { P.follows pages.old pages.new }
+{
+    go_to(pages, known, height, key)?;
+    let mut value = None;
+    search_group(pages, 0, &known_lead(known), key, &mut value)?;
+    Ok(value)
+}
+
+/// What a search for a key finds.
 #[derive(Drop)]
 pub struct KeyPlace {
     /// What leads the group of the key's own level on its search path.
     pub lead: Lead,
-    /// Its place on level 0.
-    pub low: PathEnd,
     /// The value of the key, if the list has it.
     pub value: Option<Value>,
 }
 
-/// The place of a key, whose own level is `top`, in the pages of a list of this height. The groups of one search path are
-/// read, or that of level 0 alone where it is known. After a fault the pages are as they were.
+/// What leads the group of a key's own level, `top`, and its value, as `find_value` finds it.
 pub fn find_place<P: Pages>(
     pages: &mut P,
-    known: &Option<PathEnd>,
+    known: &mut Option<PathEnd>,
     height: u8,
     top: u8,
     key: &Key,
 ) -> Result<KeyPlace, Fault>
     requires { top < height }
-    ensures call { IsKeySearch (P.state pages.old) (P.state pages.new) height known.now top key.now result }
+    ensures call { IsKeySearch (P.state pages.old) (P.state pages.new) height known.old top key.now known.new result }
     ensures follows { P.follows pages.old pages.new }
 {
-    let upper = path_end(pages, known, height, top, key)?;
-    let end = go_down(pages, top, &upper, 0, key)?;
-    let near: Neighbours<Option<Value>> = neighbours_in_group(pages, 0, &end.lead, key)?;
-    Ok(KeyPlace {
-        lead: upper.lead,
-        low: end,
-        value: near.floor,
-    })
+    let lead = find_lead(pages, known, height, top, key)?;
+    let mut value = None;
+    search_group(pages, 0, &known_lead(known), key, &mut value)?;
+    Ok(KeyPlace { lead, value })
 }

@@ -4,15 +4,17 @@ ghost use Rattle.std.specs.Prelude.{◌≡◌};
 ghost use Rattle.store_model.specs.Pairs as model;
 ghost use Rattle.node_pages.specs.PagesState as pages_state;
 ghost use Rattle.skip_levels.specs.Descent.{HoldsPairs};
-ghost use Rattle.skip_levels.specs.PagePairs.{pairs_of_map, list_over, IsWhole, IsWhole-prop, KnowsPlace, KnowsPlace-prop};
+ghost use Rattle.skip_levels.specs.PagePairs.{pairs_of_map, list_over};
 
-use crate::changes::{Taken, put_pair, take_pair};
-use crate::next::{NextPair, find_next};
+use crate::changes::{put_pair, take_pair};
+use crate::new_cells::NewCells;
+use crate::next::find_next;
 use crate::ordered::OrderedPairs;
-use crate::search::{KeyPlace, PathEnd, find_place};
+use crate::search::{PathEnd, find_value};
 use node_pages::Pages;
-use seeded_draw::Draw;
+use seeded_draw::{Draw, Front};
 use std::alloc::Global;
+use std::marker::Model;
 use store_base::{Fault, Key, Value};
 
 /// A sorted list of pairs in pages. Each level of the list holds the keys that the draw puts on it or above, is cut into
@@ -26,16 +28,31 @@ use store_base::{Fault, Key, Value};
 #[derive(Drop)]
 pub struct SkipList<P: Pages, W: Draw> {
     alloc: Global,
-    pages: P,
+    /// Its pages, also after a fault. Where it is whole, whoever changes them shows that they are those of a list still, for which
+    /// what is known is right.
+    pub pages: P,
     draw: W,
+    front: Front,
     is_whole: bool,
     known: Option<PathEnd>,
-    pub ghost place: { KnowsPlace (W.drawn draw) (list_over is_whole (P.state pages)) known } by { KnowsPlace-prop (W.drawn draw) (list_over is_whole (P.state pages)) known },
-    pub ghost whole: { IsWhole (W.drawn draw) (list_over is_whole (P.state pages)) (P.state pages).pages } by { IsWhole-prop (W.drawn draw) (list_over is_whole (P.state pages)) (P.state pages).pages },
+    fresh: NewCells,
+}
+
+impl<P: Pages, W: Draw> Model for SkipList<P, W> {
+    ghost use Rattle.skip_levels.specs.ListState.{ListState, list_code};
+    ghost use Rattle.skip_levels.specs.PagePairs.{KeepsList};
+
+    ghost Value = { ListState P W };
+
+    ghost coded = { list_code P.code W.code };
+
+    ghost view = { λ s. record { pages = s.pages; draw = s.draw; is_whole = s.is_whole } };
+
+    ghost invariant = { λ s. KeepsList (W.drawn s.draw) s.is_whole (P.state s.pages) s.known };
 }
 
 impl<P: Pages, W: Draw + Drop> SkipList<P, W> {
-    ghost use Rattle.std.specs.Prelude.{List, true};
+    ghost use Rattle.std.specs.Prelude.{List, true, false};
 
     /// The list whose pages these are, under this draw: the pages of a list of at most 8,388,608 pairs, as no page is that of
     /// the empty list.
@@ -49,9 +66,31 @@ impl<P: Pages, W: Draw + Drop> SkipList<P, W> {
             alloc,
             pages,
             draw,
+            front: Front::new(),
             is_whole: true,
             known: None,
+            fresh: NewCells::new(alloc),
         }
+    }
+
+    /// Forgets what it knows. Until it is taken up again its pages may be changed at will, and it is as after a change that failed.
+    pub fn forget(&mut self)
+        ensures pages { self.new.pages ≡ self.old.pages }
+        ensures draw { self.new.draw ≡ self.old.draw }
+        ensures whole { self.new.is_whole ≡ false }
+    {
+        self.is_whole = false;
+    }
+
+    /// Takes its pages up as those of a list, as in `new`.
+    pub fn take_up(&mut self)
+        requires { pages_state.IsObservable (P.state self.old.pages) → (s : List model.Pair) × HoldsPairs (W.drawn self.old.draw) s (P.state self.old.pages).pages }
+        ensures pages { self.new.pages ≡ self.old.pages }
+        ensures draw { self.new.draw ≡ self.old.draw }
+        ensures whole { self.new.is_whole ≡ true }
+    {
+        self.is_whole = true;
+        self.known = None;
     }
 
     /// Its pages, also after a fault.
@@ -69,13 +108,13 @@ impl<P: Pages, W: Draw + Drop> OrderedPairs for SkipList<P, W> {
     ghost use Rattle.skip_levels.specs.PairsState.{IsObservable, IsPairGet, IsPairPut, IsPairTake, IsNextPair, most_pairs};
     ghost use Rattle.skip_levels.specs.SearchPath.{path_cost, path_cost_below, low_cost};
 
-    ghost state = { λ list. list_over list.is_whole (P.state list.pages) };
+    ghost state = { λ list. list_over (W.drawn list.draw) list.is_whole (P.state list.pages) };
 
     ghost follows = { λ old new. P.follows old.pages new.pages × (new.draw ≡ old.draw) };
 
-    ghost valid = { λ list seen. (list.whole seen).pairs };
+    ghost valid = { λ list seen. seen.1.1.pairs };
 
-    ghost few = { λ list seen. (list.whole seen).few };
+    ghost few = { λ list seen. seen.1.1.few };
 
     ghost follows_refl = { λ list. (P.follows_refl list.pages, refl) };
 
@@ -88,9 +127,7 @@ impl<P: Pages, W: Draw + Drop> OrderedPairs for SkipList<P, W> {
         ensures lookups { IsObservable (⟦<SkipList<P, W> as OrderedPairs>⟧.state self.old) → (P.state self.new.pages).lookups ≤ (P.state self.old.pages).lookups + path_cost (W.drawn self.old.draw) (pairs_of_map (P.state self.old.pages).pages) key.now }
     {
         let height = self.draw.height();
-        let KeyPlace { low, value, .. } = find_place(&mut self.pages, &self.known, height, 0, key)?;
-        self.known = Some(low);
-        Ok(value)
+        find_value(&mut self.pages, &mut self.known, height, key)
     }
 
     /// The groups of the search path are read to find the key, and those from its own level down once more to change them.
@@ -106,16 +143,16 @@ impl<P: Pages, W: Draw + Drop> OrderedPairs for SkipList<P, W> {
             return Err(Fault::NoMemory);
         }
         self.is_whole = false;
-        let known = self.known.take();
-        let low = put_pair(
+        put_pair(
             self.alloc,
             &mut self.pages,
+            &mut self.fresh,
             &self.draw,
-            &known,
+            &mut self.front,
+            &mut self.known,
             &key,
-            &value,
+            value,
         )?;
-        self.known = Some(low);
         self.is_whole = true;
         Ok(())
     }
@@ -130,15 +167,15 @@ impl<P: Pages, W: Draw + Drop> OrderedPairs for SkipList<P, W> {
             return Err(Fault::NoMemory);
         }
         self.is_whole = false;
-        let known = self.known.take();
-        let Taken { value, known } = take_pair(
+        let value = take_pair(
             self.alloc,
             &mut self.pages,
+            &mut self.fresh,
             &self.draw,
-            &known,
+            &mut self.front,
+            &mut self.known,
             key,
         )?;
-        self.known = known;
         self.is_whole = true;
         Ok(value)
     }
@@ -150,8 +187,6 @@ impl<P: Pages, W: Draw + Drop> OrderedPairs for SkipList<P, W> {
         ensures lookups { IsObservable (⟦<SkipList<P, W> as OrderedPairs>⟧.state self.old) → (P.state self.new.pages).lookups ≤ (P.state self.old.pages).lookups + path_cost (W.drawn self.old.draw) (pairs_of_map (P.state self.old.pages).pages) key.now + 1 }
     {
         let height = self.draw.height();
-        let NextPair { pair, low } = find_next(&mut self.pages, &self.known, height, key)?;
-        self.known = Some(low);
-        Ok(pair)
+        find_next(&mut self.pages, &mut self.known, height, key)
     }
 }

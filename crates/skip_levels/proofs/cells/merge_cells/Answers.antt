@@ -1,45 +1,18 @@
-use Rattle.std.proofs.Common.{◌++◌, length, Less, Equal, Greater, arith, sym, ap, subst, ◌∙◌}
+use Rattle.std.proofs.Common.{ap}
 use Rattle.std.specs.List.{flat_map}
-use Rattle.store_base.specs.Leads.{lead_of}
 use Rattle.store_model.specs.Pages.{Page}
 use Rattle.node_pages.specs.Cells.{CellList}
-use Rattle.skip_levels.specs.Floors.{last_of, lead_from}
-use Rattle.skip_levels.specs.GroupCells.{AreCells, side}
-use Rattle.skip_levels.proofs.CellLists.{no_cells, merged_cells}
-use Rattle.skip_levels.proofs.KeyRanges.{on_level, list_on, side_of}
+use Rattle.skip_levels.specs.GroupCells.{merged}
+use Rattle.skip_levels.proofs.KeyRanges.{list_on, on_level}
 use Rattle.skip_levels.proofs.cells.merge_cells.Goals as goal
 
-pub append_side-requires : goal.append_side-requires
-append_side-requires c = subst (λ (list : CellList). AreCells list.level list.cells) (sym c.in_ok-cells.ensures) (no_cells c.args.level)
-
-pub append_own-requires : goal.append_own-requires
-append_own-requires c = let valid = c.in_ok-append_side.ensures.valid in (list_on c.in_ok-cells.cells.level c.append_side.new.cells.level c.append_side.new.cells (sym valid.level_is) valid).cells
-
-pub append_side-requires-2 : goal.append_side-requires-2
-append_side-requires-2 c = let valid = c.in_ok-append_own.ensures.valid in (list_on c.append_side.new.cells.level c.append_own.new.cells.level c.append_own.new.cells (sym valid.level_is) valid).cells
+pub merge_onto-requires : goal.merge_onto-requires
+merge_onto-requires c = ap (λ (list : CellList). list.cells) c.in_ok-cells.ensures
 
 pub returns-clause-valid : goal.returns-clause-valid
-returns-clause-valid c =
-    let on_start = ap (λ (list : CellList). list.level) c.in_ok-cells.ensures in
-    let on_second = c.in_ok-append_own.ensures.valid.level_is ∙ c.in_ok-append_side.ensures.valid.level_is ∙ on_start in
-    list_on c.append_own.new.cells.level c.args.level c.append_side-2.new.cells on_second c.in_ok-append_side-2.ensures.valid
+returns-clause-valid c = list_on c.in_ok-cells.cells.level c.args.level c.merge_onto.new.cells (ap (λ (list : CellList). list.level) c.in_ok-cells.ensures) c.in_ok-next.ensures.valid
 
 pub returns-clause-merged : goal.returns-clause-merged
-returns-clause-merged c valid =
-    let level = c.args.level in
-    let start = c.in_ok-cells.cells in
-    let first = c.append_side.new.cells in
-    let second = c.append_own.new.cells in
-    let third = c.append_side-2.new.cells in
-    let on_start = ap (λ (list : CellList). list.level) c.in_ok-cells.ensures in
-    let on_first = c.in_ok-append_side.ensures.valid.level_is ∙ on_start in
-    let on_second = c.in_ok-append_own.ensures.valid.level_is ∙ on_first in
-    let key = c.args.key.now in
-    let made = merged_cells level key start.cells c.args.own.now (flat_map (λ (page : Page). page.cells) c.args.low.now) (flat_map (λ (page : Page). page.cells) c.args.high.now) first.cells second.cells third.cells (ap (λ (list : CellList). list.cells) c.in_ok-cells.ensures) valid
-    (on_level start.level level (start.cells ++ side_of Less key c.args.low.now) on_start c.in_ok-append_side.ensures.added)
-    (on_level first.level level (first.cells ++ side Equal key c.args.own.now) on_first c.in_ok-append_own.ensures.added)
-    (on_level second.level level (second.cells ++ side_of Greater key c.args.high.now) on_second c.in_ok-append_side-2.ensures.added) in
-    record { next = c.lead_behind-next.ensures ∙ ap (λ xs. lead_from (last_of xs) (lead_of c.args.lead.now)) made.0; cells = made.1 }
-
-pub returns-clause-few : goal.returns-clause-few
-returns-clause-few c = omega (arith, ap (λ (list : CellList). length list.cells) c.in_ok-cells.ensures, c.in_ok-append_side.ensures.few, c.in_ok-append_own.ensures.few, c.in_ok-append_side-2.ensures.few)
+returns-clause-merged c =
+    let all = merged c.args.key.now (flat_map (λ (page : Page). page.cells) c.args.low.now) c.args.own.now (flat_map (λ (page : Page). page.cells) c.args.high.now) in
+    on_level c.in_ok-cells.cells.level c.args.level all (ap (λ (list : CellList). list.level) c.in_ok-cells.ensures) c.in_ok-next.ensures.merged

@@ -36,3 +36,19 @@ pub returns-in_err-push_copy-clause-call : goal.returns-in_err-push_copy-clause-
 returns-in_err-push_copy-clause-call g c =
     let p = err_from_is_err_and c.from_residual-in_err-push_copy.result c.from_residual-in_err-push_copy.ensures.1 in
     rw (p.1, p.2) (reading_lacks_memory (g.P.Pages.state c.args.pages.now) c.args.level (lead_of c.args.lead.now) (g.P.Pages.state c.loop-index.pages) (g.P.Pages.state c.look.follows.lender-at-none) c.loop-index.index c.loop-index.group c.loop-index.invariant.read (Some c.in-Some.page.now) (looked_some c.label_in_group.ensures c.look.follows.holds-at-none.0 c.in_ok-found.was c.in-Some.is))
+
+-- what each call keeps of the state below
+pub returns-in_err-found-clause-follows : goal.returns-in_err-found-clause-follows
+returns-in_err-found-clause-follows g c = g.met.P.Pages.follows_trans c.args.pages.now c.loop-index.pages c.look.follows.lender-at-none c.loop-index.invariant.follows c.look.follows.holds-at-none.1
+
+pub returns-in_default-clause-follows : goal.returns-in_default-clause-follows
+returns-in_default-clause-follows g c = g.met.P.Pages.follows_trans c.args.pages.now c.loop-index.pages c.look.follows.lender-at-none c.loop-index.invariant.follows c.look.follows.holds-at-none.1
+
+pub returns-then-is_last-clause-follows : goal.returns-then-is_last-clause-follows
+returns-then-is_last-clause-follows g c = g.met.P.Pages.follows_trans c.args.pages.now c.loop-index.pages c.look.follows.lender-at-none c.loop-index.invariant.follows c.look.follows.holds-at-none.1
+
+pub returns-in_err-push_copy-clause-follows : goal.returns-in_err-push_copy-clause-follows
+returns-in_err-push_copy-clause-follows g c = g.met.P.Pages.follows_trans c.args.pages.now c.loop-index.pages c.look.follows.lender-at-none c.loop-index.invariant.follows c.look.follows.holds-at-none.1
+
+pub returns-clause-follows : goal.returns-clause-follows
+returns-clause-follows g c = c.loop-index.invariant.follows

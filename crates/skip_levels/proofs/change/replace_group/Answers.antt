@@ -44,3 +44,10 @@ returns-clause-call g c =
     (nothing_renewed c.args.first lead c.args.old.now c.args.cells.now c.requires.kept)
     (omega (arith, c.loop-i-test.false, c.len.ensures, c.max-i-end.ensures, c.page_count.ensures, long))
     (omega (arith, c.loop-i.auto.i-end, c.len.ensures, c.max-i-end.ensures, c.page_count.ensures, long, c.requires.kept)) c.loop-i.invariant.call
+
+-- what each call keeps of the state below
+pub returns-in_err-replace_page-clause-follows : goal.returns-in_err-replace_page-clause-follows
+returns-in_err-replace_page-clause-follows g c = g.met.P.Pages.follows_trans c.args.pages.now c.loop-i.pages c.replace_page.new.pages c.loop-i.invariant.follows c.in_err-replace_page.ensures.follows
+
+pub returns-clause-follows : goal.returns-clause-follows
+returns-clause-follows g c = c.loop-i.invariant.follows

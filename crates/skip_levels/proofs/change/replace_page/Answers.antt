@@ -1,4 +1,8 @@
-use Rattle.std.proofs.Common.{arith}
+use Rattle.std.proofs.Common.{◌+◌, ◌-◌, ◌*◌, ◌<◌, length, take, drop, arith}
+use Rattle.store_model.specs.Lists.{runs}
+use Rattle.store_model.specs.Pages.{page_room}
+use Rattle.node_pages.specs.Groups.{page_of_run}
+use Rattle.node_pages.proofs.Runs.{page_at, run_within}
 use Rattle.store_base.specs.Leads.{lead_of}
 use Rattle.skip_levels.specs.GroupChanges.{renewed_pages}
 use Rattle.skip_levels.proofs.GroupChangeLemmas.{changes_by_put, changes_by_drop, changes_by_none, length-renewed, renewed_at}
@@ -23,5 +27,10 @@ returns-then-is_page-clause-call g c =
 pub returns-clause-call : goal.returns-clause-call
 returns-clause-call g c =
     let lead = lead_of c.args.lead.now in
-    changes_by_put (g.P.Pages.state c.args.pages.now) c.args.old.now (renewed_pages c.args.first lead c.args.old.now c.args.cells.now) c.args.i (omega arith) (g.P.Pages.state c.put.new.self) c.page.result c.put.result
-    (renewed_at c.args.first lead c.args.old.now c.args.cells.now c.requires.kept c.args.i c.page.result c.requires.behind c.page.ensures) c.put.ensures.call
+    let list = c.args.cells.now in
+    let run = c.args.i - c.args.first in
+    let room = page_room list.level in
+    let page = page_of_run list.level lead (c.args.first + run) (take room (drop (room * run) list.cells)) in
+    let within : run < length (runs room list.cells) = omega (arith, c.page_count.ensures) in
+    changes_by_put (g.P.Pages.state c.args.pages.now) c.args.old.now (renewed_pages c.args.first lead c.args.old.now list) c.args.i (omega arith) (g.P.Pages.state c.put_page.new.pages) page c.put_page.result
+    (renewed_at c.args.first lead c.args.old.now list c.requires.kept c.args.i page c.requires.behind (page_at list.level lead c.args.first run list.cells (run_within list.level run list.cells within))) c.put_page.ensures.call

@@ -64,3 +64,19 @@ loop-level-preserved g c =
 pub returns-clause-call : goal.returns-clause-call
 returns-clause-call g c =
     put_ends (g.P.Pages.state c.args.pages.now) c.args.top (lead_of c.args.lead.now) c.args.key.now c.args.value.now (g.P.Pages.state c.loop-level.pages) c.loop-level.level c.loop-level.next c.loop-level.invariant.down (omega arith)
+
+-- what each call keeps of the state below
+pub returns-in_err-cell_on-clause-follows : goal.returns-in_err-cell_on-clause-follows
+returns-in_err-cell_on-clause-follows g c = g.met.P.Pages.follows_refl c.args.pages.now
+
+pub returns-in_err-next-clause-follows : goal.returns-in_err-next-clause-follows
+returns-in_err-next-clause-follows g c = c.in_err-next.ensures.follows
+
+pub returns-in_err-own-clause-follows : goal.returns-in_err-own-clause-follows
+returns-in_err-own-clause-follows g c = c.loop-level.invariant.follows
+
+pub returns-in_err-next-2-clause-follows : goal.returns-in_err-next-2-clause-follows
+returns-in_err-next-2-clause-follows g c = g.met.P.Pages.follows_trans c.args.pages.now c.loop-level.pages c.split_group.new.pages c.loop-level.invariant.follows c.in_err-next-2.ensures.follows
+
+pub returns-clause-follows : goal.returns-clause-follows
+returns-clause-follows g c = c.loop-level.invariant.follows

@@ -1,0 +1,16 @@
+use Rattle.std.proofs.Common.{refl, sym, ap, subst}
+use Rattle.store_base.specs.Leads.{lead_of}
+use Rattle.node_pages.specs.Cells.{CellList}
+use Rattle.skip_levels.specs.GroupCells.{AreCells}
+use Rattle.skip_levels.proofs.CellLists.{no_cells}
+use Rattle.skip_levels.proofs.NewCellsSteps.{set_none}
+use Rattle.skip_levels.proofs.new_cells.NewCells.restart.Goals as goal
+
+pub returns-clause-valid : goal.returns-clause-valid
+returns-clause-valid c = record {
+  level_is = ap (λ (list : CellList). list.level) c.restart.ensures;
+  cells = subst (λ (list : CellList). AreCells c.args.level list.cells) (sym c.restart.ensures) (no_cells c.args.level);
+}
+
+pub returns-clause-set : goal.returns-clause-set
+returns-clause-set c key own = set_none c.args.level (lead_of c.args.lead.now) key own c.args.lead.now c.restart.new.self refl (ap (λ (list : CellList). list.cells) c.restart.ensures)
