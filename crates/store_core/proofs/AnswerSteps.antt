@@ -53,14 +53,12 @@ carried_reply c old new (Ok (Err refusal)) is = record { faults = is.faults; obs
 carried_reply c old new (Err fault) is = record { faults = is.faults; observable = is.observable; answered = λ seen t p holds. tt }
 
 module _ {D : Type 0} (state : D → DiskState) (t : Tree) (c : Command) (p : Parameters) (old mid : StagedState D AnyDraw) (fit : IsFitting t p) (at : AreAt state t p old) (runs : old.is_spent ≡ false) (command : IsCommand c) where
-  -- it is acknowledged, and settled
-  pub acked : (new : StagedState D AnyDraw) (result : Result Reply ApplyFault) → AnswersAt state c t p old mid (Ok replies.Ok) → ((u next : Tree) (q : Parameters) → IsStagedFor state u next q mid → EndsStep state u (counted_step u next q) q mid new result)
-      → EndsStep state t (step t c p) p old new result
-  acked new result answers settles =
-      let next = (uncounted_step t c p).tree in
+  -- it is acknowledged, and the pages of the next tree are staged
+  pub acked_staged : AnswersAt state c t p old mid (Ok replies.Ok) → IsStagedFor state t (uncounted_step t c p).tree p mid
+  acked_staged answers =
       let follows = answers.follows in
       let before = λ (observable : IsObservable (state mid.disk)). sym follows.disk.observable ∙ observable in
-      let staged : IsStagedFor state t next p mid = record {
+      record {
         fitting = fit;
         tree = uncounted_tree t c p fit.tree command;
         params = follows.disk.params ∙ at.params;
@@ -69,9 +67,15 @@ module _ {D : Type 0} (state : D → DiskState) (t : Tree) (c : Command) (p : Pa
         stands = λ observable. stands_reading (state old.disk) (state mid.disk) t p (follows.disk.reads (before observable)) (at.held (before observable) runs).stands;
         table_is = λ observable. follows.table (before observable) ∙ (at.held (before observable) runs).table_is;
         holds = λ observable. (answers.answered (before observable)).holds;
-      } in
+      }
+
+  -- and they are settled
+  pub acked : (new : StagedState D AnyDraw) (result : Result Reply ApplyFault) → AnswersAt state c t p old mid (Ok replies.Ok) → ((u next : Tree) (q : Parameters) → IsStagedFor state u next q mid → EndsStep state u (counted_step u next q) q mid new result)
+      → EndsStep state t (step t c p) p old new result
+  acked new result answers settles =
+      let next = (uncounted_step t c p).tree in
       told_as state t (counted_step t next p) (step t c p) p old new result (λ observable. sym (acked_step t c p fit.tree fit.fits (sym (answers.answered observable).reply_is)))
-      (behind_reads state t (counted_step t next p) p old mid new result fit at runs follows answers.faults (settles t next p staged))
+      (behind_reads state t (counted_step t next p) p old mid new result fit at runs answers.follows answers.faults (settles t next p (acked_staged answers)))
 
   taken_back : Follows state old mid → Follows state old (record mid { map = mid.table })
   taken_back follows = record { disk = follows.disk; draw = follows.draw; runs = follows.runs; table = follows.table }

@@ -2,6 +2,7 @@ pub mod AnswerSteps
 pub mod CostLemmas
 pub mod DifferLemmas
 pub mod DiskLemmas
+pub mod ListSteps
 pub mod OpeningLemmas
 pub mod StagedSteps
 pub mod StepLemmas

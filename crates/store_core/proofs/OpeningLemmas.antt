@@ -6,6 +6,7 @@ use Rattle.store_base.specs.declared.store_fault.Fault.TheVariants as causes
 use Rattle.store_base.specs.Counts.{raised, faults_after}
 use Rattle.store_model.specs.Parameters.{Parameters}
 use Rattle.store_model.specs.Trees.{Tree}
+use Rattle.store_model.specs.Draws.{draw_of}
 use Rattle.store_model.specs.Images.{Represents, recovered}
 use Rattle.store_model.proofs.TreesLemmasLayouts.{images_tell}
 use Rattle.disk_model.specs.DiskState.{DiskState, IsObservable, IsDurable, IsSound}
@@ -19,18 +20,24 @@ use Rattle.gate_journal.specs.Recovery.{Recovers, RecoversAs, redo_writes, redo_
 use Rattle.gate_journal.proofs.Layouts.{recovers-represents}
 use Rattle.gate_journal.proofs.Phases.{recovered_empty}
 use Rattle.gate_journal.proofs.Reading.{IsDurable-reads}
+use Rattle.seeded_draw.specs.declared.any.AnyDraw.{AnyDraw}
+use Rattle.seeded_draw.specs.AnyDrawn.{any_draw}
 use Rattle.image_check.specs.declared.contents.Contents.{Contents}
 use Rattle.image_check.specs.declared.contents.Finding.{Finding}
 use Rattle.image_check.specs.declared.contents.Finding.TheVariants as findings
 use Rattle.image_check.specs.ImageCalls.{ReadsDisk, HasImage, FindsImage}
 use Rattle.image_check.specs.Verdicts.{IsImageWith, HasParameters, IsNoImage, IsDamaged}
+use Rattle.page_store.specs.PageImages.{pages_in_table}
+use Rattle.page_store.specs.StagedState.{StagedState}
 use Rattle.store_core.specs.declared.fault.AttachFault.TheVariants as attach
 use Rattle.store_core.specs.Opening.{contents_in, IsSynced, ChecksSynced, IsOpenAt}
+use Rattle.store_core.specs.StagedTree.{AreAt}
 use Rattle.store_core.specs.Standing.{IsFitting, Stands}
 use Rattle.store_core.specs.StoreState.{StoreState}
 use Rattle.store_core.specs.StoreCalls.{IsOpened, IsAttached, KeepsImage, IsRefused}
 use Rattle.store_core.proofs.CostLemmas.{counts_opening}
 use Rattle.store_core.proofs.DiskLemmas.{keeps_then, keeps_calls}
+use Rattle.store_core.proofs.TreePages.{table_pages}
 
 -- ---- a sync, and reads
 
@@ -249,6 +256,19 @@ module _ (old mid new : DiskState) (contents : Contents) (checks : ChecksSynced 
 -- its tree fits
 pub fitting_open : (disk : DiskState) (contents : Contents) (t : Tree) → IsOpenAt disk contents t → IsFitting t contents.params
 fitting_open disk contents t at = let are = at.contents_are in record { in_range = are.in_range; tree = are.tree; fits = are.fits }
+
+-- and its pages are staged
+pub open_pages : {D : Type 0} (state : D → DiskState) (disk : D) (contents : Contents) (t : Tree) (staged : StagedState D AnyDraw) (draw : AnyDraw) → IsOpenAt (state disk) contents t → any_draw draw ≡ draw_of contents.params → staged.params ≡ contents.params → staged.draw ≡ draw → staged.disk ≡ disk
+    → staged.table ≡ pages_in_table contents.params.slots (state disk).bytes → staged.map ≡ staged.table → AreAt state t contents.params staged
+open_pages {D} state disk contents t staged draw at drawn params_is draw_is disk_is table_is map_is = record {
+  params = params_is;
+  draw = ap any_draw draw_is ∙ drawn;
+  size_is = ap (λ (d : D). (state d).size) disk_is ∙ at.size_is;
+  held = λ observable runs.
+      let stands = at.stands (sym (ap (λ (d : D). (state d).is_observable) disk_is) ∙ observable) in
+      let table = table_is ∙ table_pages t contents.params (state disk).bytes (fitting_open (state disk) contents t at) stands.layout_is in
+      record { stands = subst (λ (d : D). Stands (state d) t contents.params) (sym disk_is) stands; table_is = table; map_is = map_is ∙ table };
+}
 
 pub attached : {D : Type 0} (state : D → DiskState) (old : DiskState) (disk : D) (store : StoreState D) (t : Tree) (p : Parameters) → store ≡ record { params = p; tree = t; disk = disk; is_stopped = false }
     → KeepsDisk old (state disk) → (state disk).faults ≡ old.faults → HasParameters old p → IsFitting t p → (IsObservable old → IsOpened t p old (state disk)) → IsAttached state old store

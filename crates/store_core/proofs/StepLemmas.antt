@@ -133,6 +133,14 @@ answered_step t c p reply is other = by_option (refusal_of t c) refl
         counted t c p so ∙ ap (λ (b : Bool). by_test t c p (b && nat_lt p.slots (page_count (next_tree t c) p))) still.0
         ∙ (λ i. record { reply = sym same i; tree = still.1 i })
 
+-- and the tree stays where the pages are not counted
+pub uncounted_still : (t : Tree) (c : Command) (p : Parameters) → ((uncounted_step t c p).reply ≡ Acknowledged → ⊥) → (uncounted_step t c p).tree ≡ t
+uncounted_still t c p other = by_option (refusal_of t c) refl
+  where
+    by_option : (o : Option Refusal) → refusal_of t c ≡ o → (uncounted_by t c p o).tree ≡ t
+    by_option (Some refusal) so = refl
+    by_option None so = (still_command t c p (λ e. other (ap (λ (o : Option Refusal). (uncounted_by t c p o).reply) so ∙ e))).1
+
 -- ---- a command that only looks
 
 look_reply : (t : Tree) (c : Command) (p : Parameters) → is_look c ≡ true → reply_of t c p ≡ Acknowledged → ⊥
@@ -149,5 +157,9 @@ look_reply t Space p looks is = cc
 look_reply t Digest p looks is = cc
 
 -- it is not acknowledged
-pub look_step : (t : Tree) (c : Command) (p : Parameters) → is_look c ≡ true → (uncounted_step t c p).reply ≡ Acknowledged → ⊥
+look_step : (t : Tree) (c : Command) (p : Parameters) → is_look c ≡ true → (uncounted_step t c p).reply ≡ Acknowledged → ⊥
 look_step t c p looks acked = look_reply t c p looks (acked_reply t c p acked)
+
+-- its reply is another
+pub look_other : (t : Tree) (c : Command) (p : Parameters) → is_look c ≡ true → (reply : Reply) → reply ≡ (uncounted_step t c p).reply → reply ≡ Acknowledged → ⊥
+look_other t c p looks reply is acked = look_step t c p looks (sym is ∙ acked)

@@ -1,16 +1,17 @@
 -- Staged pages that are those of a tree.
-use Rattle.std.specs.Prelude.{◌≡◌, false}
+use Rattle.std.specs.Prelude.{◌≡◌, true, false, List}
 use Rattle.store_model.specs.Parameters.{Parameters, image_len}
 use Rattle.store_model.specs.Trees.{Tree, IsTree}
 use Rattle.store_model.specs.Draws.{draw_of}
-use Rattle.store_model.specs.Pairs.{pairs}
+use Rattle.store_model.specs.Pairs.{Pair, pairs}
 use Rattle.store_model.specs.Pages.{pages}
 use Rattle.store_model.specs.PageMaps.{map_of_pages}
 use Rattle.disk_model.specs.DiskState.{DiskState, IsObservable}
 use Rattle.seeded_draw.specs.declared.any.AnyDraw.{AnyDraw}
 use Rattle.seeded_draw.specs.AnyDrawn.{any_draw}
 use Rattle.skip_levels.specs.Descent.{HoldsPairs}
-use Rattle.page_store.specs.StagedState.{StagedState}
+use Rattle.skip_levels.specs.ListState.{ListState}
+use Rattle.page_store.specs.StagedState.{StagedState, IsTold}
 use Rattle.store_core.specs.Standing.{IsFitting, Stands}
 
 -- The disk stands at the tree, the pages in its table are the tree's, and nothing else is staged.
@@ -36,3 +37,24 @@ pub record IsStagedFor {D : Type 0} (state : D → DiskState) (t next : Tree) (p
   pub stands : IsObservable (state s.disk) → Stands (state s.disk) t p
   pub table_is : IsObservable (state s.disk) → s.table ≡ map_of_pages (pages t p)
   pub holds : IsObservable (state s.disk) → HoldsPairs (draw_of p) (pairs next p) s.map
+
+-- a list over staged pages
+abbrev pub TreeList : Type 0 → Type 0
+TreeList D = ListState (StagedState D AnyDraw) AnyDraw
+
+-- The pages of a list are those of a tree, which fits, and it is under the draw of the parameters; where its disk tells its bytes, it
+-- is whole.
+pub record IsListAt {D : Type 0} (state : D → DiskState) (t : Tree) (p : Parameters) (list : TreeList D) : Type 0 where
+  pub fitting : IsFitting t p
+  pub pages : AreAt state t p list.pages
+  pub draw : any_draw list.draw ≡ draw_of p
+  pub whole : IsObservable (state list.pages.disk) → list.is_whole ≡ true
+
+-- a list goes on under its draw, and is whole again
+pub record GoesOn {D : Type 0} (state : D → DiskState) (old new : TreeList D) : Type 0 where
+  pub draw : new.draw ≡ old.draw
+  pub whole : IsObservable (state new.pages.disk) → new.is_whole ≡ true
+
+-- with what is staged taken back, the pages hold a list under the draw
+abbrev pub HoldsTable : {D : Type 0} → (D → DiskState) → TreeList D → Type 0
+HoldsTable state list = IsTold state (record list.pages { map = list.pages.table }) → (s : List Pair) × HoldsPairs (any_draw list.draw) s list.pages.table

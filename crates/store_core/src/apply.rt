@@ -37,16 +37,16 @@ impl<D: Disk> Store<D> {
             return Err(ApplyFault::Stopped);
         }
         reveal(command);
-        let Some(staged) = self.staged.take() else {
-            unreachable!()
-        };
-        let (staged, result) = carry_out(self.alloc, staged, self.known.params(), command, reply);
+        let result = carry_out(
+            self.alloc,
+            &mut self.pairs,
+            self.known.params(),
+            command,
+            reply,
+        );
         if result.is_ok() {
-            self.known.settle(staged.disk());
-        }
-        match self.staged.replace(staged) {
-            None => {}
-            Some(_other) => unreachable!(),
+            let pairs = &self.pairs;
+            self.known.settle(pairs.pages.disk());
         }
         result
     }

@@ -13,6 +13,7 @@ use gate_journal::Journal;
 use image_check::{Contents, Finding, find_image};
 use page_store::{SlotCache, Staged};
 use seeded_draw::AnyDraw;
+use skip_levels::SkipList;
 use std::alloc::Global;
 use store_base::Fault;
 
@@ -80,10 +81,11 @@ impl<D: Disk> Store<D> {
         } = contents;
         let known = KnownTree::new(params, &pairs, &disk);
         let draw = AnyDraw::new(&params);
+        let pages = Staged::new(alloc, disk, &params, draw, layout.used(), cache);
         Store {
             alloc,
             known,
-            staged: Some(Staged::new(alloc, disk, &params, draw, layout.used(), cache)),
+            pairs: SkipList::new(alloc, pages, draw),
         }
     }
 }

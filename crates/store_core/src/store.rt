@@ -6,7 +6,7 @@ ghost use Rattle.disk_model.specs.DiskState.{IsObservable};
 ghost use Rattle.store_core.specs.Standing.{IsFitting, Stands};
 
 use crate::known::KnownTree;
-use crate::staged::TreePages;
+use crate::staged::TreeList;
 use disk_model::Disk;
 use std::alloc::Global;
 use std::marker::Model;
@@ -18,19 +18,19 @@ use store_base::Params;
 pub struct Store<D: Disk> {
     pub(crate) alloc: Global,
     pub(crate) known: KnownTree<D>,
-    /// The pages over the disk, nothing staged. They are there but within a command, which moves them out and back.
-    pub(crate) staged: Option<TreePages<D>>,
+    /// The list over the pages on the disk, nothing staged.
+    pub(crate) pairs: TreeList<D>,
 }
 
 impl<D: Disk> Model for Store<D> {
     ghost use Rattle.store_core.specs.StoreState.{StoreState};
-    ghost use Rattle.store_core.specs.StoreFields.{disk_of, is_stopped_in, AreServed};
+    ghost use Rattle.store_core.specs.StoreFields.{HoldsKnown};
 
     ghost Value = { StoreState D };
 
-    ghost view = { λ s. record { params = s.known.params; tree = s.known.tree; disk = disk_of s.known s.staged; is_stopped = is_stopped_in s.staged } };
+    ghost view = { λ s. record { params = s.known.params; tree = s.known.tree; disk = s.pairs.pages.disk; is_stopped = s.pairs.pages.is_spent } };
 
-    ghost invariant = { λ s. AreServed D.state s.known s.staged };
+    ghost invariant = { λ s. HoldsKnown D.state s.known s.pairs };
 }
 
 impl<D: Disk> Store<D> {
@@ -40,10 +40,7 @@ impl<D: Disk> Store<D> {
         ensures value { result ≡ self.now.is_stopped }
         ensures stands { IsObservable (D.state self.now.disk) → self.now.is_stopped ≡ false → Stands (D.state self.now.disk) self.now.tree self.now.params }
     {
-        match &self.staged {
-            Some(staged) => staged.is_spent(),
-            None => true,
-        }
+        self.pairs.pages.is_spent()
     }
 
     /// What the image was made with.
@@ -58,20 +55,14 @@ impl<D: Disk> Store<D> {
     pub fn used(&self) -> u32
         ensures { IsObservable (D.state self.now.disk) → self.now.is_stopped ≡ false → result ≡ page_count self.now.tree self.now.params }
     {
-        match &self.staged {
-            Some(staged) => staged.used(),
-            None => 0,
-        }
+        self.pairs.pages.used()
     }
 
     /// The disk.
     pub fn disk(&self) -> &D
         ensures { result.now ≡ self.now.disk }
     {
-        let Some(staged) = &self.staged else {
-            unreachable!()
-        };
-        staged.disk()
+        self.pairs.pages.disk()
     }
 
     /// Gives the disk back.
@@ -81,9 +72,8 @@ impl<D: Disk> Store<D> {
         let Store {
             alloc: _,
             known: _,
-            staged,
+            pairs,
         } = self;
-        let Some(staged) = staged else { unreachable!() };
-        staged.into_disk()
+        pairs.into_pages().into_disk()
     }
 }

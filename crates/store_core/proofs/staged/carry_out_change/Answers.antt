@@ -1,33 +1,102 @@
-use Rattle.std.proofs.Common.{Result, Ok, ap, subst, ◌∙◌}
+use Rattle.std.proofs.Common.{Result, Ok, Err, refl, sym, ap, subst, ◌∙◌}
+use Rattle.store_model.specs.declared.refusal.Refusal.{Refusal}
 use Rattle.store_base.specs.declared.store_fault.Fault.{Fault}
-use Rattle.script_lines.specs.declared.reply.Reply.{Reply}
+use Rattle.seeded_draw.specs.declared.any.AnyDraw.{AnyDraw}
+use Rattle.seeded_draw.specs.AnyDrawn.{any_draw}
 use Rattle.script_lines.specs.declared.reply.Reply.TheVariants as replies
 use Rattle.script_lines.specs.Parsing.{command_of}
-use Rattle.store_core.specs.Answers.{AnswersAt, change_reply}
-use Rattle.store_core.proofs.AnswerSteps.{acked, answered_at, failed_at}
+use Rattle.skip_levels.specs.PagePairs.{KeepsList}
+use Rattle.tree_pairs.specs.TreeCalls.{uncounted_step}
+use Rattle.page_store.specs.StagedState.{StagedState, pages_state}
+use Rattle.store_core.specs.Answers.{change_reply}
+use Rattle.store_core.specs.StagedTree.{TreeList}
+use Rattle.store_core.proofs.AnswerSteps.{acked, acked_staged, answered_at, failed_at}
+use Rattle.store_core.proofs.ListSteps.{AnswersList, changed_list, keeps_stays, back_stays, room_at, answers_at, whole_behind, same_behind, table_behind}
+use Rattle.store_core.proofs.staged.carry_out_change.Given.{Over}
 use Rattle.store_core.proofs.staged.carry_out_change.Goals as goal
 
-pub returns-in-Ok-answer : goal.returns-in-Ok-answer
-returns-in-Ok-answer g c = record {
-  call = λ t fit at.
-      let state = g.D.Disk.state in
-      let p = c.args.params.now in
-      let command = command_of c.args.command.now in
-      let mid = c.change_at-staged.result.0 in
-      let answers = subst (λ (r : Result Reply Fault). AnswersAt state command t p c.args.staged mid r) (ap change_reply (c.in-Ok.is ∙ ap Ok c.in-Ok-answer.is)) (c.change_at-staged.ensures.call t fit at) in
-      acked state t command p c.args.staged mid fit at c.requires.runs c.requires.command c.settle.result.0 (change_reply c.settle.result.1) answers c.settle.ensures.call;
-}
+pub change-requires-clause-room : goal.change-requires-clause-room
+change-requires-clause-room g c = let some = c.requires.list in room_at g.D.Disk.state some.0 some.1.0 c.args.pairs.now some.1.1 c.requires.runs
 
-pub returns-in-Err-answer : goal.returns-in-Err-answer
-returns-in-Err-answer g c = record {
-  call = λ t fit at.
-      answered_at g.D.Disk.state t (command_of c.args.command.now) c.args.params.now c.args.staged c.change_at-staged.result.0 fit at c.requires.runs c.requires.command (replies.No c.in-Err-answer.refusal) c.discard-in-Err-answer.new.self (change_reply c.change_at-staged.result.1)
-      (ap change_reply (c.in-Ok.is ∙ ap Ok c.in-Err-answer.is)) c.discard-in-Err-answer.ensures (λ is other. cc) (c.change_at-staged.ensures.call t fit at);
-}
+-- ---- acknowledged
 
-pub returns-in-Err : goal.returns-in-Err
-returns-in-Err g c = record {
-  call = λ t fit at.
-      failed_at g.D.Disk.state t (command_of c.args.command.now) c.args.params.now c.args.staged c.change_at-staged.result.0 fit at c.requires.runs c.requires.command c.in-Err.fault c.into.result c.discard.new.self (change_reply c.change_at-staged.result.1)
-      (ap change_reply c.in-Err.is) c.discard.ensures c.into.ensures (c.change_at-staged.ensures.call t fit at);
-}
+acknowledged : (g : Over) (c : goal.After-settle-arg-1 g) → AnswersList g.D.Disk.state (command_of c.args.command.now) c.args.pairs.now c.change.new.pairs (Ok replies.Ok)
+acknowledged g c =
+    changed_list g.D.Disk.state (command_of c.args.command.now) c.args.pairs.now c.change.new.pairs (Ok c.in-Ok-Ok.field-0) (Ok replies.Ok) (ap (λ (x : Result (Unit {0}) Refusal). change_reply {F = Fault} (Ok x)) c.in-Ok-Ok.field-0-is) c.in-Ok-Ok.ensures.follows
+    c.in-Ok-Ok.ensures.call
+
+pub settle-requires-clause-whole : goal.settle-requires-clause-whole
+settle-requires-clause-whole g c =
+    let some = c.requires.list in
+    whole_behind g.D.Disk.state some.0 some.1.0 c.args.pairs.now some.1.1 c.requires.runs (command_of c.args.command.now) c.change.new.pairs replies.Ok (acknowledged g c)
+
+pub settle-requires-clause-staged : goal.settle-requires-clause-staged
+settle-requires-clause-staged g c =
+    let state = g.D.Disk.state in
+    let some = c.requires.list in
+    let old = c.args.pairs.now in
+    let mid = c.change.new.pairs in
+    let command = command_of c.args.command.now in
+    let answers = answers_at state some.0 some.1.0 old some.1.1 c.requires.runs command mid (Ok replies.Ok) (acknowledged g c) in
+    (some.0, ((uncounted_step some.0 command some.1.0).tree, (some.1.0, (acked_staged state some.0 command some.1.0 old.pages mid.pages some.1.1.fitting some.1.1.pages c.requires.runs c.requires.command answers, ap any_draw c.in-Ok-Ok.ensures.follows.1 ∙ some.1.1.draw))))
+
+pub returns-in-Ok-Ok-clause-call : goal.returns-in-Ok-Ok-clause-call
+returns-in-Ok-Ok-clause-call g c t p list =
+    let state = g.D.Disk.state in
+    let old = c.args.pairs.now in
+    let mid = c.change.new.pairs in
+    let command = command_of c.args.command.now in
+    let is = changed_list state command old mid (Ok c.in-Ok-Ok.field-0) (Ok replies.Ok) (ap (λ (x : Result (Unit {0}) Refusal). change_reply {F = Fault} (Ok x)) c.in-Ok-Ok.field-0-is) c.in-Ok-Ok.ensures.follows c.in-Ok-Ok.ensures.call in
+    acked state t command p old.pages mid.pages list.fitting list.pages c.requires.runs c.requires.command c.settle.new.pairs.pages (change_reply c.settle.result) (answers_at state t p old list c.requires.runs command mid (Ok replies.Ok) is) c.settle.ensures.call
+
+-- ---- refused
+
+-- the list as it is opened, behind a refusal
+refused : (g : Over) (c : goal.After-discard g) → AnswersList g.D.Disk.state (command_of c.args.command.now) c.args.pairs.now (record { pages = c.pairs.inside.pages; draw = c.pairs.inside.draw; is_whole = c.pairs.inside.is_whole }) (Ok (replies.No c.in-Ok-Err.refusal))
+refused g c =
+    subst (λ (v : TreeList g.row.D.Denot). AnswersList g.D.Disk.state (command_of c.args.command.now) c.args.pairs.now v (Ok (replies.No c.in-Ok-Err.refusal))) (sym c.pairs.view_is)
+    (changed_list g.D.Disk.state (command_of c.args.command.now) c.args.pairs.now c.change.new.pairs (Ok c.in-Ok-Err.field-0) (Ok (replies.No c.in-Ok-Err.refusal)) (ap (λ (x : Result (Unit {0}) Refusal). change_reply {F = Fault} (Ok x)) c.in-Ok-Err.field-0-is)
+    c.in-Ok-Err.ensures.follows c.in-Ok-Err.ensures.call)
+
+pub invariant_of-pairs : goal.invariant_of-pairs
+invariant_of-pairs g c =
+    let state = g.D.Disk.state in
+    let s = c.pairs.inside in
+    let some = c.requires.list in
+    let same = same_behind state some.0 some.1.0 c.args.pairs.now some.1.1 c.requires.runs (command_of c.args.command.now) _ (replies.No c.in-Ok-Err.refusal) (λ is other. cc) (refused g c) in
+    subst (λ (x : StagedState g.row.D.Denot AnyDraw). KeepsList (any_draw s.draw) s.is_whole (pages_state state x) s.known) (sym c.discard.ensures)
+    (keeps_stays state (any_draw s.draw) s.is_whole s.known s.pages _ (back_stays state s.pages same) c.pairs.invariant)
+
+pub returns-in-Ok-Err-clause-call : goal.returns-in-Ok-Err-clause-call
+returns-in-Ok-Err-clause-call g c t p list =
+    let state = g.D.Disk.state in
+    let command = command_of c.args.command.now in
+    let reply = replies.No c.in-Ok-Err.refusal in
+    answered_at state t command p c.args.pairs.now.pages c.pairs.inside.pages list.fitting list.pages c.requires.runs c.requires.command reply c.discard.new.self (Ok reply) refl c.discard.ensures (λ is other. cc)
+    (answers_at state t p c.args.pairs.now list c.requires.runs command _ (Ok reply) (refused g c))
+
+pub returns-in-Ok-Err-clause-list : goal.returns-in-Ok-Err-clause-list
+returns-in-Ok-Err-clause-list g c =
+    let state = g.D.Disk.state in
+    let some = c.requires.list in
+    let is = refused g c in
+    record {
+      draw = is.follows.1;
+      whole = λ observable. whole_behind state some.0 some.1.0 c.args.pairs.now some.1.1 c.requires.runs (command_of c.args.command.now) _ (replies.No c.in-Ok-Err.refusal) is
+          (ap (λ (x : StagedState g.row.D.Denot AnyDraw). (state x.disk).is_observable) (sym c.discard.ensures) ∙ observable);
+    }
+
+-- ---- failed
+
+pub give_up-requires : goal.give_up-requires
+give_up-requires g c =
+    let some = c.requires.list in
+    table_behind g.D.Disk.state some.0 some.1.0 c.args.pairs.now some.1.1 c.requires.runs (command_of c.args.command.now) c.change.new.pairs c.in-Err.ensures.follows
+
+pub returns-in-Err-clause-call : goal.returns-in-Err-clause-call
+returns-in-Err-clause-call g c t p list =
+    let state = g.D.Disk.state in
+    let command = command_of c.args.command.now in
+    let is = changed_list state command c.args.pairs.now c.change.new.pairs (Err c.in-Err.fault) (Err c.in-Err.fault) refl c.in-Err.ensures.follows c.in-Err.ensures.call in
+    failed_at state t command p c.args.pairs.now.pages c.change.new.pairs.pages list.fitting list.pages c.requires.runs c.requires.command c.in-Err.fault c.into.result c.give_up.new.pairs.pages (Err c.in-Err.fault) refl c.give_up.ensures.pages
+    c.into.ensures (answers_at state t p c.args.pairs.now list c.requires.runs command c.change.new.pairs (Err c.in-Err.fault) is)

@@ -1,21 +1,57 @@
-use Rattle.std.proofs.Common.{sym, ap, ◌∙◌}
-use Rattle.script_lines.specs.InPlace.{in_place}
+use Rattle.std.proofs.Common.{Ok, Err, refl, sym, ap, subst, ◌∙◌}
+use Rattle.seeded_draw.specs.declared.any.AnyDraw.{AnyDraw}
+use Rattle.seeded_draw.specs.AnyDrawn.{any_draw}
 use Rattle.script_lines.specs.Parsing.{command_of}
+use Rattle.script_lines.specs.Replies.{reply_of}
+use Rattle.skip_levels.specs.PagePairs.{KeepsList}
+use Rattle.page_store.specs.StagedState.{StagedState, pages_state}
+use Rattle.store_core.specs.StagedTree.{TreeList}
 use Rattle.store_core.proofs.AnswerSteps.{answered_at, failed_at}
-use Rattle.store_core.proofs.StepLemmas.{look_step}
+use Rattle.store_core.proofs.ListSteps.{AnswersList, keeps_stays, back_stays, answers_at, whole_behind, same_behind, table_behind}
+use Rattle.store_core.proofs.StepLemmas.{look_other}
+use Rattle.store_core.proofs.staged.carry_out_look.Given.{Over}
 use Rattle.store_core.proofs.staged.carry_out_look.Goals as goal
 
-pub returns-in-Ok : goal.returns-in-Ok
-returns-in-Ok g c = record {
-  call = λ t fit at.
-      let command = command_of c.args.command.now in
-      answered_at g.D.Disk.state t command c.args.params.now c.args.staged c.answer_at-staged.result.0 fit at c.requires.runs c.requires.command c.answer_at-staged.new.reply c.discard.new.self (in_place c.answer_at-staged.new.reply c.answer_at-staged.result.1) (ap (in_place c.answer_at-staged.new.reply) c.in-Ok.is) c.discard.ensures
-      (λ is acked. look_step t command c.args.params.now c.requires.looks (sym is ∙ acked)) (c.answer_at-staged.ensures.call t fit at);
-}
+-- the list as it is opened, behind an answer
+answered : (g : Over) (c : goal.After-discard g) → AnswersList g.D.Disk.state (command_of c.args.command.now) c.args.pairs.now (record { pages = c.pairs.inside.pages; draw = c.pairs.inside.draw; is_whole = c.pairs.inside.is_whole }) (Ok c.answer.new.reply)
+answered g c =
+    subst (λ (v : TreeList g.row.D.Denot). AnswersList g.D.Disk.state (command_of c.args.command.now) c.args.pairs.now v (Ok c.answer.new.reply)) (sym c.pairs.view_is)
+    (record { follows = c.in-Ok.ensures.follows; call = c.in-Ok.ensures.call })
 
-pub returns-in-Err : goal.returns-in-Err
-returns-in-Err g c = record {
-  call = λ t fit at.
-      failed_at g.D.Disk.state t (command_of c.args.command.now) c.args.params.now c.args.staged c.answer_at-staged.result.0 fit at c.requires.runs c.requires.command c.in-Err.fault c.into.result c.discard.new.self (in_place c.answer_at-staged.new.reply c.answer_at-staged.result.1) (ap (in_place c.answer_at-staged.new.reply) c.in-Err.is) c.discard.ensures
-      c.into.ensures (c.answer_at-staged.ensures.call t fit at);
-}
+pub invariant_of-pairs : goal.invariant_of-pairs
+invariant_of-pairs g c =
+    let state = g.D.Disk.state in
+    let s = c.pairs.inside in
+    let some = c.requires.list in
+    let command = command_of c.args.command.now in
+    let same = same_behind state some.0 some.1.0 c.args.pairs.now some.1.1 c.requires.runs command _ c.answer.new.reply (look_other some.0 command some.1.0 c.requires.looks (reply_of c.answer.new.reply)) (answered g c) in
+    subst (λ (x : StagedState g.row.D.Denot AnyDraw). KeepsList (any_draw s.draw) s.is_whole (pages_state state x) s.known) (sym c.discard.ensures)
+    (keeps_stays state (any_draw s.draw) s.is_whole s.known s.pages _ (back_stays state s.pages same) c.pairs.invariant)
+
+pub give_up-requires : goal.give_up-requires
+give_up-requires g c =
+    let some = c.requires.list in
+    table_behind g.D.Disk.state some.0 some.1.0 c.args.pairs.now some.1.1 c.requires.runs (command_of c.args.command.now) c.answer.new.pairs c.in-Err.ensures.follows
+
+pub returns-in-Ok-clause-call : goal.returns-in-Ok-clause-call
+returns-in-Ok-clause-call g c t p list =
+    let state = g.D.Disk.state in
+    let command = command_of c.args.command.now in
+    answered_at state t command p c.args.pairs.now.pages c.pairs.inside.pages list.fitting list.pages c.requires.runs c.requires.command c.answer.new.reply c.discard.new.self (Ok c.answer.new.reply) refl c.discard.ensures
+    (look_other t command p c.requires.looks (reply_of c.answer.new.reply)) (answers_at state t p c.args.pairs.now list c.requires.runs command _ (Ok c.answer.new.reply) (answered g c))
+
+pub returns-in-Ok-clause-list : goal.returns-in-Ok-clause-list
+returns-in-Ok-clause-list g c =
+    let state = g.D.Disk.state in
+    let some = c.requires.list in
+    let is = answered g c in
+    record {
+      draw = is.follows.1;
+      whole = λ observable. whole_behind state some.0 some.1.0 c.args.pairs.now some.1.1 c.requires.runs (command_of c.args.command.now) _ c.answer.new.reply is
+          (ap (λ (x : StagedState g.row.D.Denot AnyDraw). (state x.disk).is_observable) (sym c.discard.ensures) ∙ observable);
+    }
+
+pub returns-in-Err-clause-call : goal.returns-in-Err-clause-call
+returns-in-Err-clause-call g c t p list =
+    failed_at g.D.Disk.state t (command_of c.args.command.now) p c.args.pairs.now.pages c.answer.new.pairs.pages list.fitting list.pages c.requires.runs c.requires.command c.in-Err.fault c.into.result c.give_up.new.pairs.pages (Err c.in-Err.fault) refl c.give_up.ensures.pages
+    c.into.ensures (answers_at g.D.Disk.state t p c.args.pairs.now list c.requires.runs (command_of c.args.command.now) c.answer.new.pairs (Err c.in-Err.fault) (record { follows = c.in-Err.ensures.follows; call = c.in-Err.ensures.call }))

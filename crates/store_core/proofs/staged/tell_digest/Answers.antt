@@ -26,6 +26,8 @@ returns-in_err-digest g c = record {
         step = step;
         none_staged = same_staged state t p old new at c.requires.runs c.digest.ensures.follows c.digest.ensures.map;
       });
+  map = c.digest.ensures.map;
+  follows = c.digest.ensures.follows;
 }
 
 pub returns : goal.returns
@@ -42,4 +44,6 @@ returns g c = record {
             ap ImageDigest (c.in_ok-digest.ensures.digest observable ∙ ap sha256 (at.held observable c.requires.runs).stands.layout_is) ∙ sym (ap (λ (s : Step). s.reply) (digest_step t p)));
         none_staged = same_staged state t p old new at c.requires.runs c.digest.ensures.follows c.digest.ensures.map;
       };
+  map = c.digest.ensures.map;
+  follows = c.digest.ensures.follows;
 }
