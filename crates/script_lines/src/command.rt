@@ -1,6 +1,6 @@
 //! The commands that a script's lines spell.
 
-ghost use Rattle.std.specs.Prelude.{◌≡◌, ◌≤◌, ◌∷◌, [], length};
+ghost use Rattle.std.specs.Prelude.{◌≡◌, ◌≤◌, ◌*◌, ◌∷◌, [], length};
 ghost use Rattle.store_model.specs.Grammar.{parse, command_of_fields, checked_command};
 ghost use Rattle.store_model.specs.Commands.Command.{Write};
 ghost use Rattle.script_lines.specs.InPlace.{in_place};
@@ -10,6 +10,9 @@ use crate::fields::{Fields, parse_number, read_bytes, read_path, split_fields};
 use crate::lines::MAX_LINE;
 use path_keys::Path;
 use store_base::{Bytes, Refusal};
+
+/// How many bytes of a `write` are few: to clear the room of as many as there may be takes longer than to decode them.
+const FEW_BYTES: usize = 256;
 
 /// What a line of a script asks for.
 #[derive(Debug, Drop)]
@@ -176,7 +179,6 @@ fn read_read(path: &[u8], at: Option<u32>, len: &[u8], command: &mut Command) ->
 }
 
 /// Reads the command that writes bytes from an offset on.
-#[tactic(auto, unfolding(store_model::specs::Grammar::has_short_paths))]
 fn read_write(
     path: &[u8],
     at: Option<u32>,
@@ -186,8 +188,41 @@ fn read_write(
     requires { length content.now ≤ MAX_LINE }
     ensures { reading_of (in_place command.new result) ≡ checked_command (write_of path.now at content.now) }
 {
-    let mut room = [0; Bytes::MAX_LEN];
-    let (Some(at), Some(bytes)) = (at, read_bytes(content, &mut room)) else {
+    if content.len() > 2 * FEW_BYTES {
+        return read_long_write(path, at, content, command);
+    }
+    read_write_in(&mut [0; FEW_BYTES], path, at, content, command)
+}
+
+/// Reads the command that writes many bytes from an offset on.
+// Joined to `read_write`, its room would be cleared where few bytes are written too.
+#[inline(never)]
+fn read_long_write(
+    path: &[u8],
+    at: Option<u32>,
+    content: &[u8],
+    command: &mut Command,
+) -> Result<(), Refusal>
+    requires { length content.now ≤ MAX_LINE }
+    ensures { reading_of (in_place command.new result) ≡ checked_command (write_of path.now at content.now) }
+{
+    read_write_in(&mut [0; Bytes::MAX_LEN], path, at, content, command)
+}
+
+/// Reads the command that writes bytes from an offset on, which are decoded in the room that is lent.
+#[tactic(auto, unfolding(store_model::specs::Grammar::has_short_paths))]
+fn read_write_in(
+    room: &mut [u8],
+    path: &[u8],
+    at: Option<u32>,
+    content: &[u8],
+    command: &mut Command,
+) -> Result<(), Refusal>
+    requires fits { length content.now ≤ 2 * length room.old }
+    requires room { length room.old ≤ Bytes.MAX_LEN }
+    ensures { reading_of (in_place command.new result) ≡ checked_command (write_of path.now at content.now) }
+{
+    let (Some(at), Some(bytes)) = (at, read_bytes(content, room)) else {
         return Err(Refusal::Syntax);
     };
     put_write(read_path(path)?, at, bytes, command);

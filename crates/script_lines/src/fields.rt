@@ -1,15 +1,14 @@
 //! The fields of a line, and what a field says: a path, a number, bytes.
 
-ghost use Rattle.std.specs.Prelude.{◌≡◌, ◌≤◌, ◌/◌, ◌∷◌, [], true, length, nat_le, if◌then◌else◌, None, Some, IfSome, MatchOption};
+ghost use Rattle.std.specs.Prelude.{◌≡◌, ◌≤◌, ◌*◌, ◌/◌, ◌∷◌, [], true, length, nat_le, if◌then◌else◌, None, Some, IfSome, MatchOption};
 ghost use Rattle.std.specs.List.{list_all};
 ghost use Rattle.store_model.specs.Grammar.{number_of, content_of, ok_value, is_numeral, is_digit, digits_value, number_limit};
 ghost use Rattle.hex.specs.Hex.{decode_of};
 ghost use Rattle.script_lines.specs.Parsing.{parts_of, AreFields, FitFields, ReadsPath};
 
 use crate::find::find_byte;
-use crate::lines::MAX_LINE;
 use path_keys::{Path, PathFault};
-use store_base::{Bytes, Refusal};
+use store_base::Refusal;
 
 /// The fields of a line, which exactly one space parts: the word, and up to three more.
 #[derive(Clone, Copy)]
@@ -117,11 +116,12 @@ fn digits_value(digits: &[u8]) -> Option<u32>
     Some(value)
 }
 
-/// The bytes that a field spells, in the room that is lent: `-` for none, or pairs of hexadecimal digits of either case.
-pub fn read_bytes<'a>(text: &[u8], room: &'a mut [u8; Bytes::MAX_LEN]) -> Option<&'a [u8]>
-    requires { length text.now ≤ MAX_LINE }
+/// The bytes that a field spells, in the room that is lent, a byte for two of the field: `-` for none, or pairs of hexadecimal
+/// digits of either case.
+pub fn read_bytes<'a>(text: &[u8], room: &'a mut [u8]) -> Option<&'a [u8]>
+    requires { length text.now ≤ 2 * length room.old }
     ensures value { MatchOption result (content_of text.now ≡ None) (λ bytes. content_of text.now ≡ Some bytes.now) }
-    ensures fits { IfSome result (λ bytes. length bytes.now ≤ Bytes.MAX_LEN) }
+    ensures fits { IfSome result (λ bytes. length bytes.now ≤ length room.old) }
 {
     if text == b"-".as_slice() {
         return Some(&[]);

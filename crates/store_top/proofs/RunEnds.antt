@@ -316,6 +316,11 @@ attached_is_ready disk_of old store attached = record {
 module _ {D R W : Type 0} (disk_of : D → DiskState) (source_of : R → SourceState) (sink_of : W → SinkState) (sound : (disk : D) → disks.IsObservable (disk_of disk) → IsSound (disk_of disk))
     (disk : D) (store store_new : StoreState D) (reader reader_new : LineState R) (sink sink_new : W) (status : Status) (done : ℕ)
     (attached : IsAttached disk_of (disk_of disk) store) (answered : AnswersLines disk_of source_of sink_of status done store store_new reader reader_new sink sink_new) where
+  -- What it leaves of the disk, the source and the sink.
+  pub run_outside : KeepsOutside status (disk_of disk) (disk_of store_new.disk) (source_of reader.source) (source_of reader_new.source) (sink_of sink) (sink_of sink_new)
+  run_outside =
+      outside_behind status (disk_of disk) (disk_of store.disk) (disk_of store_new.disk) (source_of reader.source) (source_of reader_new.source) (sink_of sink) (sink_of sink_new) attached.kept attached.faults answered.outside
+
   module _ (o : disks.IsObservable (disk_of disk)) (os : sources.IsObservable (source_of reader.source)) where
     -- what is promised over the tree of the store
     runs_from : RunsFrom disk_of source_of sink_of store.tree store.params (outside_of disk reader.source sink) (record { status = status; done = done; disk = store_new.disk; source = reader_new.source; sink = sink_new })
@@ -327,7 +332,6 @@ module _ {D R W : Type 0} (disk_of : D → DiskState) (source_of : R → SourceS
         let opened = attached.observed o in
         let observable = attached.kept.observable ∙ o in
         let changes = answered.changes os observable in
-        let outside = outside_behind status old mid new (source_of reader.source) (source_of reader_new.source) (sink_of sink) (sink_of sink_new) attached.kept attached.faults answered.outside in
         record {
           replies = answered.replies os observable;
           image = image_answered status done trees old new store.params changes.stands changes.fault;
@@ -337,7 +341,7 @@ module _ {D R W : Type 0} (disk_of : D → DiskState) (source_of : R → SourceS
               let opening = opened.unwritten empty in
               record { bytes = reads.bytes ∙ opening.bytes; writes = reads.write_count ∙ opening.writes };
           complete = λ within disk_whole source_whole sink_whole.
-              all_answered status done store.tree store.params old new (source_of reader.source) (source_of reader_new.source) (sink_of sink) (sink_of sink_new) answered.ends outside (answered.limit os) (answered.replies os observable) within disk_whole source_whole sink_whole;
+              all_answered status done store.tree store.params old new (source_of reader.source) (source_of reader_new.source) (sink_of sink) (sink_of sink_new) answered.ends run_outside (answered.limit os) (answered.replies os observable) within disk_whole source_whole sink_whole;
         }
 
   -- The run answered lines.

@@ -3,10 +3,10 @@ use Rattle.script_lines.specs.LineState.{LineState}
 use Rattle.store_core.specs.declared.fault.AttachFault.TheVariants as faults
 use Rattle.store_top.specs.declared.status.Status.{Status}
 use Rattle.store_top.specs.declared.status.Status.TheVariants as statuses
-use Rattle.store_top.specs.Outside.{outside_of}
+use Rattle.store_top.specs.Outside.{KeepsOutside, outside_of}
 use Rattle.store_top.specs.RunCall.{IsRun}
 use Rattle.store_top.specs.Runs.{AnswersLines}
-use Rattle.store_top.proofs.RunEnds.{nothing_opened, run_unopened, run_answered, new_reader_is_unread}
+use Rattle.store_top.proofs.RunEnds.{nothing_opened, run_unopened, run_answered, run_outside, new_reader_is_unread}
 use Rattle.store_top.proofs.ScriptTurns.{script_begins, script_answered}
 use Rattle.store_top.proofs.run.run.Goals as goal
 
@@ -37,3 +37,17 @@ returns-clause-run g c =
     subst (λ disk. IsRun g.D.Disk.state g.R.Source.state g.W.Sink.state (outside_of c.args.disk c.args.source c.args.sink) (record { status = c.status_of.result; done = c.answer_all-ended.new.done; disk = disk; source = c.into_source-2.result; sink = c.answer_all-ended.new.work.sink })) (sym c.into_disk.ensures)
     (subst (λ source. IsRun g.D.Disk.state g.R.Source.state g.W.Sink.state (outside_of c.args.disk c.args.source c.args.sink) (record { status = c.status_of.result; done = c.answer_all-ended.new.done; disk = c.answer_all-ended.new.store.disk; source = source; sink = c.answer_all-ended.new.work.sink })) (sym c.into_source-2.ensures)
     (subst (λ source. IsRun g.D.Disk.state g.R.Source.state g.W.Sink.state (outside_of c.args.disk source c.args.sink) (record { status = c.status_of.result; done = c.answer_all-ended.new.done; disk = c.answer_all-ended.new.store.disk; source = c.answer_all-ended.new.work.reader.source; sink = c.answer_all-ended.new.work.sink })) old_source run))
+
+-- a search for what is not so takes long, and a planted bug has it made
+pub returns-clause-outside : goal.returns-clause-outside
+returns-clause-outside g c =
+    let disk_of = g.D.Disk.state in
+    let source_of = g.R.Source.state in
+    let sink_of = g.W.Sink.state in
+    let old_source = ap (λ (r : LineState g.row.R.Denot). r.source) c.in-Ok.ensures.ok in
+    let outside = run_outside disk_of source_of sink_of g.met.D.Disk.sound c.args.disk c.in-Ok-attach.store c.answer_all-ended.new.store c.in-Ok.reader c.answer_all-ended.new.work.reader c.args.sink c.answer_all-ended.new.work.sink
+    c.status_of.result c.answer_all-ended.new.done c.in-Ok-attach.ensures.call.attached (subst (λ (status : Status). AnswersLines disk_of source_of sink_of status c.answer_all-ended.new.done c.in-Ok-attach.store c.answer_all-ended.new.store c.in-Ok.reader c.answer_all-ended.new.work.reader c.args.sink c.answer_all-ended.new.work.sink) (sym c.status_of.ensures)
+    (script_answered disk_of source_of sink_of c.answer_all-ended.result c.answer_all-ended.new.done c.in-Ok-attach.store c.answer_all-ended.new.store (record { reader = c.in-Ok.reader; sink = c.args.sink }) c.answer_all-ended.new.work c.answer_all-ended.ensures)) in
+    subst (λ disk. KeepsOutside c.status_of.result (disk_of c.args.disk) (disk_of disk) (source_of c.args.source) (source_of c.into_source-2.result) (sink_of c.args.sink) (sink_of c.answer_all-ended.new.work.sink)) (sym c.into_disk.ensures)
+    (subst (λ source. KeepsOutside c.status_of.result (disk_of c.args.disk) (disk_of c.answer_all-ended.new.store.disk) (source_of c.args.source) (source_of source) (sink_of c.args.sink) (sink_of c.answer_all-ended.new.work.sink)) (sym c.into_source-2.ensures)
+    (subst (λ source. KeepsOutside c.status_of.result (disk_of c.args.disk) (disk_of c.answer_all-ended.new.store.disk) (source_of source) (source_of c.answer_all-ended.new.work.reader.source) (sink_of c.args.sink) (sink_of c.answer_all-ended.new.work.sink)) old_source outside))

@@ -60,3 +60,31 @@ returns-in-Ok-2-clause-fills g c =
           (held_kept (take size (drop inside.start inside.buffer.items)) mid into _ size part _ no_offset (ap (take size) c.as_mut_slice-buffer.ensures.value ∙ c.move_to_front.ensures.moved) room.fits (with_items_is c.move_to_front.new.buffer _ room.same_length));
       moved = λ observable. (get_or into 0 0, (c.in-Ok.ensures.observed observable).moved ∙ ap (λ (piece : List ℕ). piece ++ (g.R.Source.state c.take.new.self).left) (one_byte into c.in-Ok.count one (omega (arith, within, one))));
     })
+
+-- what is made of the source is what the take made of it
+pub returns-in-Ok-clause-source : goal.returns-in-Ok-clause-source
+returns-in-Ok-clause-source g c = rw (← c.self.view_is) (record { observable = c.in-Ok.ensures.observable; faults = c.in-Ok.ensures.faults })
+
+pub returns-in-Ok-2-clause-source : goal.returns-in-Ok-2-clause-source
+returns-in-Ok-2-clause-source g c = rw (← c.self.view_is) (record { observable = c.in-Ok.ensures.observable; faults = c.in-Ok.ensures.faults })
+
+pub returns-in-Err-clause-source : goal.returns-in-Err-clause-source
+returns-in-Err-clause-source g c = rw (← c.self.view_is) (record { observable = c.in-Err.ensures.observable; faults = c.in-Err.ensures.faults })
+
+pub returns-in-Err-clause-fills : goal.returns-in-Err-clause-fills
+returns-in-Err-clause-fills g c =
+    let inside = c.self.inside in
+    let size : ℕ = inside.end - inside.start in
+    let part : ℕ = (size + c.wanted_count-wanted.result) - size in
+    let mid = c.as_mut_slice-buffer.result.now in
+    let into = c.take.new.into in
+    let size_is = length-held inside.buffer.items inside.start inside.end (omega (arith, inside.buffer.ok.0)) in
+    let room =
+    has_room mid into size c.wanted_count-wanted.result (inside.limit - inside.taken) c.move_to_front.new.buffer.len (omega (arith, size_is, ap length (same_held c.self.view_is), c.requires.fits)) (omega (arith, c.move_to_front.new.buffer.ok.0, c.move_to_front.ensures.size))
+    (omega (arith, c.move_to_front.new.buffer.ok.0, ap length c.as_mut_slice-buffer.ensures.value)) c.wanted_count-wanted.ensures c.take.auto.into in
+    let no_offset : size - 0 ≡ size = omega arith in
+    rw (← c.self.view_is) (record {
+      same = with_held (record { source = c.take.new.self; held = []; taken = inside.taken; limit = inside.limit; is_ended = inside.is_ended; is_live = false; text = [] })
+          (held_kept (take size (drop inside.start inside.buffer.items)) mid into _ size part _ no_offset (ap (take size) c.as_mut_slice-buffer.ensures.value ∙ c.move_to_front.ensures.moved) room.fits (with_items_is c.move_to_front.new.buffer _ room.same_length));
+      kept = λ observable. (c.in-Err.ensures.observed observable).kept;
+    })
