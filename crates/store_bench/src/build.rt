@@ -5,8 +5,8 @@ ghost use Rattle.std.specs.List.Sorted.{IsStrictlySortedBy};
 ghost use Rattle.store_model.specs.Paths.{key_cmp};
 ghost use Rattle.layout_scratch.specs.Sorting.{HasDistinctKeys};
 
-use crate::name_of;
-use layer_bench::{Ratio, no_memory};
+use crate::ratio::Ratio;
+use crate::{name_of, no_memory};
 use layout_scratch::{Layout, build};
 use node_pages::PairList;
 use std::alloc::Global;

@@ -3,7 +3,7 @@
 ghost use Rattle.std.specs.Prelude.{◌≡◌, length};
 
 use crate::build::{lay_out, make_pairs, params_of};
-use layer_bench::no_memory;
+use crate::no_memory;
 use layout_scratch::Layout;
 use std::io;
 use store_base::{BLOCK, DrawKind, Params, table_at, write_header};

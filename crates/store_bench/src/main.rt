@@ -12,13 +12,23 @@
 #![tactic(auto)]
 
 mod build;
+mod files;
 mod image;
+mod lists;
+mod paths;
+mod ratio;
+mod stopwatch;
 mod table;
+mod unseen_pairs;
 
-use layer_bench::{files, lists};
 use std::process::ExitCode;
 use std::{env, io};
-use store_base::DrawKind;
+use store_base::{DrawKind, NoMemory};
+
+/// Want of memory as an error of the program.
+fn no_memory(_: NoMemory) -> io::Error {
+    io::ErrorKind::OutOfMemory.into()
+}
 
 /// The word for a draw.
 fn name_of(kind: DrawKind) -> &'static str {

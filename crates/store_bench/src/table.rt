@@ -5,8 +5,8 @@ ghost use Rattle.seeded_draw.specs.AnyDrawn.{any_draw};
 ghost use Rattle.ordered_table.specs.MemSlots.{mem_state};
 
 use crate::build::params_of;
-use crate::name_of;
-use layer_bench::{Ratio, no_memory};
+use crate::ratio::Ratio;
+use crate::{name_of, no_memory};
 use node_pages::{Cell, Page};
 use ordered_table::{MemSlots, Steps, find, insert, next_slot};
 use seeded_draw::{AnyDraw, Draw};

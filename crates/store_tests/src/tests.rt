@@ -2,6 +2,7 @@
 
 mod crashes;
 mod generations;
+mod help;
 mod images;
 mod outside;
 mod reads;

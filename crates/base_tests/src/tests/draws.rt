@@ -4,49 +4,55 @@ use crate::samples::{key, led, start_label};
 use path_keys::Path;
 use seeded_draw::{AnyDraw, Draw, RulerDraw, level_of_digest, start_of_digest};
 use std::process::Abort;
-use store_base::{DrawKind, Label, Params};
+use store_base::{DrawKind, Key, Label, Params};
 
 fn starts_at<D: Draw>(rt: &impl Abort, draw: &D, label: &Label, start: u32) {
     assert_eq!(rt; draw.start(label), start);
 }
 
+/// Numbers of slots, the first two bytes of the key that leads a label on level 0, and where the label starts under `ruler`.
+static LED: [(u32, [u8; 2], u32); 7] = [
+    (4, *b"UU", 3),
+    (4, *b"Ua", 3),
+    (2, *b"Ua", 1),
+    (8, *b"U\0", 6),
+    (8, *b"UD", 2),
+    (8, *b"UE", 3),
+    (8, *b"Ud", 2),
+];
+
+/// Numbers of slots, the level and the index of a label that the start leads, and where that starts under `ruler`.
+static STARTS: [(u32, u8, u32, u32); 3] = [(4, 1, 0, 1), (2, 1, 1, 0), (4, 0, 1, 1)];
+
+/// Looks whether the label starts there under `ruler`, with so many slots.
+fn ruler_starts_at(rt: &impl Abort, slots: u32, label: &Label, start: u32) {
+    let params = Params::new(slots, 2, DrawKind::Ruler, [0; 32]).expect(rt, "parameters");
+    starts_at(rt, &RulerDraw::new(&params), label, start);
+}
+
 #[test]
 fn ruler_starts(rt: HostRuntime) {
-    for (slots, label, start) in [
-        (4, led(key(b"UU")), 3),
-        (4, led(key(b"Ua")), 3),
-        (2, led(key(b"Ua")), 1),
-        (4, start_label(1, 0), 1),
-        (2, start_label(1, 1), 0),
-        (4, start_label(0, 1), 1),
-        (8, led(key(b"U")), 6),
-        (8, led(key(b"UD")), 2),
-        (8, led(key(b"UE")), 3),
-        (8, led(key(b"Ud")), 2),
-    ] {
-        let params = Params::new(slots, 2, DrawKind::Ruler, [0; 32]).expect(&rt, "parameters");
-        starts_at(&rt, &RulerDraw::new(&params), &label, start);
+    for (slots, front, start) in &LED {
+        ruler_starts_at(&rt, *slots, &led(key(front)), *start);
     }
+    for (slots, level, index, start) in &STARTS {
+        ruler_starts_at(&rt, *slots, &start_label(*level, *index), *start);
+    }
+}
+
+/// The level of a key under `ruler`, of so many levels.
+fn ruler_level(rt: &impl Abort, height: u8, key: &Key) -> u8 {
+    let params = Params::new(4, height, DrawKind::Ruler, [0; 32]).expect(rt, "parameters");
+    RulerDraw::new(&params).level(key)
 }
 
 #[test]
 fn ruler_levels(rt: HostRuntime) {
-    let low = RulerDraw::new(&Params::new(4, 2, DrawKind::Ruler, [0; 32]).expect(
-        &rt,
-        "parameters",
-    ));
-    let high = RulerDraw::new(&Params::new(4, 8, DrawKind::Ruler, [0; 32]).expect(
-        &rt,
-        "parameters",
-    ));
+    assert!(rt; ruler_level(&rt, 2, &key(b"UU")) == 1);
+    assert!(rt; ruler_level(&rt, 8, &key(b"UU")) == 2);
     let block = Path::parse(b"/UU").expect(&rt, "a path").key(1);
-    let levels = [
-        low.level(&key(b"UU")),
-        high.level(&key(b"UU")),
-        high.level(&block),
-        high.level(&key(b"ab")),
-    ];
-    assert_eq!(rt; levels, [1, 2, 0, 0]);
+    assert!(rt; ruler_level(&rt, 8, &block) == 0);
+    assert!(rt; ruler_level(&rt, 8, &key(b"ab")) == 0);
 }
 
 #[test]
@@ -76,29 +82,25 @@ fn digests(rt: HostRuntime) {
     assert_eq!(rt; levels, [0, 3, 1, 0, 7]);
 }
 
+/// A draw of so many slots and levels, with a seed of zeros.
+fn draw_of(rt: &impl Abort, slots: u32, height: u8, kind: DrawKind) -> AnyDraw {
+    AnyDraw::new(&Params::new(slots, height, kind, [0; 32]).expect(rt, "parameters"))
+}
+
 #[test]
 fn sha256_with_a_seed_of_zeros(rt: HostRuntime) {
-    let small = AnyDraw::new(&Params::new(4, 8, DrawKind::Sha256, [0; 32]).expect(
-        &rt,
-        "parameters",
-    ));
-    let large = AnyDraw::new(&Params::new(16384, 2, DrawKind::Sha256, [0; 32]).expect(
-        &rt,
-        "parameters",
-    ));
-    let ruler = AnyDraw::new(&Params::new(4, 2, DrawKind::Ruler, [7; 32]).expect(
-        &rt,
-        "parameters",
-    ));
-    for (draw, label, start) in [
-        (&small, start_label(1, 0), 1),
-        (&large, start_label(1, 0), 14921),
-        (&small, led(key(b"UU")), 3),
-        (&large, led(key(b"UU")), 10487),
-        (&ruler, led(key(b"UU")), 3),
-    ] {
-        starts_at(&rt, draw, &label, start);
-    }
-    let levels = [small.level(&key(b"a")), large.level(&key(b"f"))];
-    assert_eq!(rt; levels, [0, 1]);
+    let small = draw_of(&rt, 4, 8, DrawKind::Sha256);
+    let large = draw_of(&rt, 16384, 2, DrawKind::Sha256);
+    starts_at(&rt, &small, &start_label(1, 0), 1);
+    starts_at(&rt, &large, &start_label(1, 0), 14921);
+    starts_at(&rt, &small, &led(key(b"UU")), 3);
+    starts_at(&rt, &large, &led(key(b"UU")), 10487);
+    assert!(rt; small.level(&key(b"a")) == 0 && large.level(&key(b"f")) == 1);
+}
+
+// Under `ruler` a draw knows no seed.
+#[test]
+fn any_draw_is_the_one_of_its_kind(rt: HostRuntime) {
+    let params = Params::new(4, 2, DrawKind::Ruler, [7; 32]).expect(&rt, "parameters");
+    starts_at(&rt, &AnyDraw::new(&params), &led(key(b"UU")), 3);
 }

@@ -184,36 +184,47 @@ fn sink(rt: &impl Abort, alloc: Global, room: usize, failing: u64) -> MemSink {
     MemSink::new(alloc, room, failing).expect(rt, "memory")
 }
 
-#[test]
-fn replies_have_their_text(rt: HostRuntime) {
-    let mut entries = Entries::new(rt.alloc());
-    entries.push(b"a", None).expect(&rt, "memory");
-    entries.push(b"b", Some(1_048_576)).expect(&rt, "memory");
-    let replies = [
-        Reply::Ok,
-        Reply::Bytes(Bytes::new(&[1, 0xFF, 0x0A])),
-        Reply::Bytes(Bytes::new(&[])),
-        Reply::Listing(entries),
-        Reply::Space {
+/// The children of a directory: a directory and a file.
+fn two_entries(rt: &impl Abort, alloc: Global) -> Entries {
+    let mut entries = Entries::new(alloc);
+    entries.push(b"a", None).expect(rt, "memory");
+    entries.push(b"b", Some(1_048_576)).expect(rt, "memory");
+    entries
+}
+
+/// The reply with this number, of eight.
+fn reply(rt: &impl Abort, alloc: Global, number: u8) -> Reply {
+    match number {
+        0 => Reply::Ok,
+        1 => Reply::Bytes(Bytes::new(&[1, 0xFF, 0x0A])),
+        2 => Reply::Bytes(Bytes::new(&[])),
+        3 => Reply::Listing(two_entries(rt, alloc)),
+        4 => Reply::Space {
             used: 2,
             slots: 16384,
         },
-        Reply::No(Refusal::NotEmpty),
-        Reply::No(Refusal::Full {
+        5 => Reply::No(Refusal::NotEmpty),
+        6 => Reply::No(Refusal::Full {
             need: 34,
             slots: 33,
         }),
-        Reply::Digest([0xAB; 32]),
-    ];
-    let mut sink = sink(&rt, rt.alloc(), 30_000, 8);
-    for reply in &replies {
-        assert!(rt; write_reply(&mut sink, reply).is_ok());
+        _ => Reply::Digest([0xAB; 32]),
     }
-    assert!(rt; write_reply(&mut sink, &replies[0]).is_err());
-    let text =
-        b"ok\nok 01ff0a\nok -\nd a\nf b 1048576\nend\nspace 2 16384\nno notempty\nno full 34 33\n\
-        digest abababababababababababababababababababababababababababababababab\n";
-    assert!(rt; sink.written() == text.as_slice());
+}
+
+/// The texts of the eight replies.
+static TEXTS: &str =
+    "ok\nok 01ff0a\nok -\nd a\nf b 1048576\nend\nspace 2 16384\nno notempty\nno full 34 33\n\
+    digest abababababababababababababababababababababababababababababababab\n";
+
+#[test]
+fn replies_have_their_text(rt: HostRuntime) {
+    let mut sink = sink(&rt, rt.alloc(), 30_000, 8);
+    for number in 0..8 {
+        assert!(rt; write_reply(&mut sink, &reply(&rt, rt.alloc(), number)).is_ok());
+    }
+    assert!(rt; write_reply(&mut sink, &Reply::Ok).is_err());
+    assert!(rt; sink.written() == TEXTS.as_bytes());
 }
 
 /// A listing of 200 children, which has lines of 134 bytes.

@@ -59,19 +59,25 @@ fn is_answered(list: &mut CountedPairs, path: &Path, call: &Call) -> Result<bool
     }
 }
 
+/// Looks whether the calls on the file at the path are answered so.
+fn are_answered(rt: &impl Abort, list: &mut CountedPairs, path: &Path) {
+    for (at, call) in CALLS.iter().enumerate() {
+        assert!(rt; is_answered(list, path, call) == Ok(true), "call {at}");
+    }
+}
+
+/// Looks whether the root is a directory, and is not cut.
+fn is_root_kept(rt: &impl Abort, list: &mut CountedPairs) {
+    assert!(rt; kind_of(list, &Path::root()) == Ok(Kind::Dir));
+    assert!(rt; cut(list, &Path::root(), 0) == Ok(Err(Refusal::Kind)));
+}
+
 #[test]
 fn small_files(rt: HostRuntime) {
     let mut list = CountedPairs::new(rt.alloc());
-    let file = path(&rt, "/f");
-    for (at, call) in CALLS.iter().enumerate() {
-        assert!(rt;
-            is_answered(&mut list, &file, call) == Ok(true),
-            "call {at}"
-        );
-    }
-    assert_eq!(rt; list.len(), 2);
-    assert!(rt; kind_of(&mut list, &Path::root()) == Ok(Kind::Dir));
-    assert!(rt; cut(&mut list, &Path::root(), 0) == Ok(Err(Refusal::Kind)));
+    are_answered(&rt, &mut list, &path(&rt, "/f"));
+    assert!(rt; list.len() == 2);
+    is_root_kept(&rt, &mut list);
 }
 
 /// A change of a file.
@@ -130,17 +136,19 @@ fn file_of_one_block(rt: HostRuntime) {
     assert_eq!(rt; list.len(), 2);
 }
 
+/// Fills a file that is absent to the greatest length.
+fn fill(rt: &impl Abort, list: &mut CountedPairs, path: &Path) {
+    for piece in 0..512 {
+        let filled = (Change::Fill(piece * 2048, 2048), Ok(()), 10);
+        assert!(rt; is_made(list, path, &filled) == Ok(true), "piece {piece}");
+    }
+}
+
 #[test]
 fn longest_file(rt: HostRuntime) {
     let mut list = CountedPairs::new(rt.alloc());
     let file = path(&rt, "/f");
-    for piece in 0..512 {
-        let filled = (Change::Fill(piece * 2048, 2048), Ok(()), 10);
-        assert!(rt;
-            is_made(&mut list, &file, &filled) == Ok(true),
-            "piece {piece}"
-        );
-    }
-    assert_eq!(rt; list.len(), 4097);
+    fill(&rt, &mut list, &file);
+    assert!(rt; list.len() == 4097);
     are_made(&rt, &mut list, &file, &LONGEST);
 }

@@ -197,7 +197,7 @@ fn a_disk_of_any_length_is_digested_and_wiped(rt: HostRuntime) {
 }
 
 /// Whether all of these bytes are zeros.
-fn is_zero(bytes: &[u8]) -> bool {
+pub(crate) fn is_zero(bytes: &[u8]) -> bool {
     bytes.iter().all(|byte| *byte == 0)
 }
 

@@ -154,17 +154,30 @@ static UU: [(usize, u8); 9] = [
     (258, 1),
 ];
 
-// The table of /UU and /Ua in 4 slots: page (0, UU, 0) in slot 3, (0, Ua, 0) in slot 0 and (1, start, 0) in slot 1.
+/// Whether the slot of the layout has these bytes.
+fn has_slot(layout: &Layout, at: u32, bytes: &[(usize, u8)]) -> bool
+    requires { at < length layout.now }
+{
+    slot_of(layout, at) == slot_with(bytes)
+}
+
+/// Looks whether the layout has the slots of /UU and /Ua: page (0, Ua, 0), page (1, start, 0), a free slot, and page (0, UU, 0).
+fn has_slots(rt: &impl Abort, layout: &Layout)
+    requires { length layout.now ≡ 4 }
+{
+    assert!(rt; has_slot(layout, 0, &UA));
+    assert!(rt; has_slot(layout, 1, &TWO_KEYS));
+    assert!(rt; has_slot(layout, 2, &[]));
+    assert!(rt; has_slot(layout, 3, &UU));
+}
+
 #[test]
 fn two_directories_in_both_orders(rt: HostRuntime) {
     let params = Params::new(4, 2, DrawKind::Ruler, [0; 32]).expect(&rt, "parameters");
     for letters in [b"Ua", b"aU"] {
         let layout = layout(&rt, rt.alloc(), &params, true, letters).expect(&rt, "a layout");
-        assert_eq!(rt; layout.used(), 3);
-        assert!(rt; slot_of(&layout, 0) == slot_with(&UA));
-        assert!(rt; slot_of(&layout, 1) == slot_with(&TWO_KEYS));
-        assert!(rt; slot_of(&layout, 2) == [0; BLOCK]);
-        assert!(rt; slot_of(&layout, 3) == slot_with(&UU));
+        assert!(rt; layout.used() == 3);
+        has_slots(&rt, &layout);
     }
 }
 

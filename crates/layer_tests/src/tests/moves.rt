@@ -7,7 +7,7 @@ use path_keys::Path;
 use skip_levels::OrderedPairs;
 use std::alloc::Global;
 use std::process::Abort;
-use store_base::{Answer, Fault, Refusal, Value};
+use store_base::{Answer, Entries, Fault, Refusal, Value};
 use subtree_move::{prune, rename};
 use tree_pairs::file_value;
 
@@ -22,18 +22,33 @@ static DIRECTORIES: [&str; 4] = ["/d", "/d/x", "/d/x/y", "/dd"];
 /// The blocks of the file of the small tree, and their lengths.
 static BLOCKS: [(u32, usize); 3] = [(1, 256), (2, 256), (3, 88)];
 
+/// Makes the directories of the small tree.
+fn make_directories(rt: &impl Abort, pairs: &mut CountedPairs) {
+    for text in &DIRECTORIES {
+        assert!(rt; make(pairs, &path(rt, *text)) == Ok(Ok(())));
+    }
+}
+
+/// A value of so many bytes, 1 to 256.
+fn filled(len: usize) -> Value {
+    Value::new(&[7; 256][..len.clamp(1, 256)])
+}
+
+/// Puts the blocks of the file of the small tree, and its length.
+fn put_file(rt: &impl Abort, pairs: &mut CountedPairs, file: &Path) {
+    pairs.put(file.key(0), file_value(600)).expect(rt, "memory");
+    for (block, len) in &BLOCKS {
+        pairs
+            .put(file.key(*block), filled(*len))
+            .expect(rt, "memory");
+    }
+}
+
 /// The directories /d, /d/x, /d/x/y and /dd, and the file /d/f of 600 bytes.
 fn small_tree(rt: &impl Abort, alloc: Global) -> CountedPairs {
     let mut pairs = CountedPairs::new(alloc);
-    for text in &DIRECTORIES {
-        assert!(rt; make(&mut pairs, &path(rt, *text)) == Ok(Ok(())));
-    }
-    let file = path(rt, "/d/f");
-    pairs.put(file.key(0), file_value(600)).expect(rt, "memory");
-    for (block, len) in &BLOCKS {
-        let value = Value::new(&[7; 256][..(*len).clamp(1, 256)]);
-        pairs.put(file.key(*block), value).expect(rt, "memory");
-    }
+    make_directories(rt, &mut pairs);
+    put_file(rt, &mut pairs, &path(rt, "/d/f"));
     pairs.calls();
     pairs
 }
@@ -60,64 +75,78 @@ fn answer_to(
     }
 }
 
-/// Changes of the small tree, one behind the other, their answers, and the calls that they make on the pairs.
-static MOVES: [(Change, Answer<()>, u32); 4] = [
+/// A change, its answer, and the calls that it makes on the pairs, where these are told.
+type Row = (Change, Answer<()>, Option<u32>);
+
+/// Looks whether the changes, one behind the other, are answered so.
+fn are_answered(rt: &impl Abort, pairs: &mut CountedPairs, rows: &[Row]) {
+    for (at, (change, answer, calls)) in rows.iter().enumerate() {
+        let found = answer_to(rt, pairs, change);
+        let made = pairs.calls();
+        assert!(rt;
+            found == Ok(*answer) && calls.unwrap_or(made) == made,
+            "change {at}"
+        );
+    }
+}
+
+/// Changes of the small tree, which leave nothing of it.
+static MOVES: [Row; 4] = [
     // The tests find four paths; then seven pairs are found, taken and put.
-    (Change::Rename("/d", "/dd/e"), Ok(()), 3 + 5 + 22),
-    (Change::Remove("/dd"), Err(Refusal::NotEmpty), 1 + 1),
+    (Change::Rename("/d", "/dd/e"), Ok(()), Some(3 + 5 + 22)),
+    (Change::Remove("/dd"), Err(Refusal::NotEmpty), Some(1 + 1)),
     // Four pairs are found and taken, of the file and then of the directories.
-    (Change::Remove("/dd/e/f"), Ok(()), 1 + 9),
-    (Change::Prune("/dd"), Ok(()), 1 + 9),
+    (Change::Remove("/dd/e/f"), Ok(()), Some(1 + 9)),
+    (Change::Prune("/dd"), Ok(()), Some(1 + 9)),
 ];
 
 #[test]
 fn moves_a_small_tree(rt: HostRuntime) {
     let mut pairs = small_tree(&rt, rt.alloc());
-    for (at, (change, answer, calls)) in MOVES.iter().enumerate() {
-        let found = answer_to(&rt, &mut pairs, change);
-        assert!(rt;
-            found == Ok(*answer) && pairs.calls() == *calls,
-            "change {at}"
-        );
-    }
-    assert_eq!(rt; pairs.len(), 0);
+    are_answered(&rt, &mut pairs, &MOVES);
+    assert!(rt; pairs.len() == 0);
+}
+
+/// What is found below /d.
+fn children(rt: &impl Abort, alloc: Global, pairs: &mut CountedPairs) -> Entries {
+    let listed = list(alloc, pairs, &path(rt, "/d")).expect(rt, "memory");
+    listed.expect(rt, "a list")
+}
+
+/// Looks whether the children are a file of 600 bytes and a directory.
+fn are_f_and_x(rt: &impl Abort, children: &Entries) {
+    assert!(rt; children.len() == 2);
+    assert!(rt; children.get(0) == (b"f".as_slice(), Some(600)));
+    assert!(rt; children.get(1) == (b"x".as_slice(), None));
 }
 
 #[test]
 fn lists_a_small_tree(rt: HostRuntime) {
     let mut pairs = small_tree(&rt, rt.alloc());
-    let listed = list(rt.alloc(), &mut pairs, &path(&rt, "/d")).expect(&rt, "memory");
+    are_f_and_x(&rt, &children(&rt, rt.alloc(), &mut pairs));
     // What stands there, two calls for each child, and one behind the last.
-    assert_eq!(rt; pairs.calls(), 6);
-    let children = listed.expect(&rt, "a list");
-    assert!(rt; children.len() == 2 && children.get(0) == (b"f".as_slice(), Some(600)));
-    assert!(rt; children.get(1) == (b"x".as_slice(), None));
+    assert!(rt; pairs.calls() == 6);
 }
 
-/// Changes of the small tree, one behind the other, and their answers.
+/// Other changes of the small tree.
 #[rattlefmt::skip]
-static REFUSALS: [(Change, Answer<()>); 11] = [
-    (Change::Rename("/", "/q"), Err(Refusal::Root)),
-    (Change::Rename("/q", "/"), Err(Refusal::Root)),
-    (Change::Rename("/q", "/q/x"), Err(Refusal::Missing)),
-    (Change::Rename("/d", "/d/q"), Err(Refusal::Inside)),
-    (Change::Rename("/d", "/q/x"), Err(Refusal::Parent)),
-    (Change::Rename("/d", "/d"), Err(Refusal::Exists)),
-    (Change::Rename("/d", "/dd"), Err(Refusal::Exists)),
-    (Change::Prune("/q"), Err(Refusal::Missing)),
+static REFUSALS: [Row; 11] = [
+    (Change::Rename("/", "/q"), Err(Refusal::Root), None),
+    (Change::Rename("/q", "/"), Err(Refusal::Root), None),
+    (Change::Rename("/q", "/q/x"), Err(Refusal::Missing), None),
+    (Change::Rename("/d", "/d/q"), Err(Refusal::Inside), None),
+    (Change::Rename("/d", "/q/x"), Err(Refusal::Parent), None),
+    (Change::Rename("/d", "/d"), Err(Refusal::Exists), None),
+    (Change::Rename("/d", "/dd"), Err(Refusal::Exists), None),
+    (Change::Prune("/q"), Err(Refusal::Missing), None),
     // The longest path below /d has 120 bytes.
-    (Change::Make("/d/xxxxxxxxxxxxxxxxxxxxxxxxxxxxxxxxxxxxxxxxxxxxxxxxxxxxxxxxxxxxxxxxxxxxxxxxxxxxxxxxxxxxxxxxxxxxxxxxxxxxxxxxxxxxxxxxxxxxx"), Ok(())),
-    (Change::Rename("/d", "/ee"), Err(Refusal::Path)),
-    (Change::Rename("/d", "/e"), Ok(())),
+    (Change::Make("/d/xxxxxxxxxxxxxxxxxxxxxxxxxxxxxxxxxxxxxxxxxxxxxxxxxxxxxxxxxxxxxxxxxxxxxxxxxxxxxxxxxxxxxxxxxxxxxxxxxxxxxxxxxxxxxxxxxxxxx"), Ok(()), None),
+    (Change::Rename("/d", "/ee"), Err(Refusal::Path), None),
+    (Change::Rename("/d", "/e"), Ok(()), None),
 ];
 
 #[test]
 fn refuses_moves(rt: HostRuntime) {
     let mut pairs = small_tree(&rt, rt.alloc());
-    for (at, (change, answer)) in REFUSALS.iter().enumerate() {
-        assert!(rt;
-            answer_to(&rt, &mut pairs, change) == Ok(*answer),
-            "change {at}"
-        );
-    }
+    are_answered(&rt, &mut pairs, &REFUSALS);
 }

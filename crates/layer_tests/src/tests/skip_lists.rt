@@ -3,11 +3,12 @@
 use super::listed_pages::{RULER, SHA256};
 use super::moves::path;
 use base_tests::CountedPages;
-use node_pages::Pages;
+use node_pages::{Page, Pages};
 use seeded_draw::AnyDraw;
 use skip_levels::{MapPairs, OrderedPairs, SkipList};
 use std::alloc::Global;
 use std::process::Abort;
+use std::str::SplitWhitespace;
 use store_base::{DrawKind, Fault, Key, Label, Lead, Params, Value};
 
 /// The key that a word spells: its path, and the block number 1 where `#1` stands behind it.
@@ -23,6 +24,12 @@ fn value_of(byte: u8) -> Value {
     Value::new(&[byte])
 }
 
+/// Takes a key out, and once more, where there is nothing left to take. Answers whether that was so.
+fn take(list: &mut SkipList<CountedPages, AnyDraw>, key: &Key) -> Result<bool, Fault> {
+    let is_taken = list.take(key)? == Some(value_of(1));
+    Ok(is_taken && list.take(key)?.is_none())
+}
+
 /// Puts the value 1 under the key of a change such as `+/a`, or takes the key of one such as `-/a` out, and once more
 /// where there is nothing left to take. Answers whether that was done.
 fn change(
@@ -30,13 +37,16 @@ fn change(
     list: &mut SkipList<CountedPages, AnyDraw>,
     word: &str,
 ) -> Result<bool, Fault> {
-    if let Some(word) = word.strip_prefix('+') {
-        list.put(key_of(rt, word), value_of(1))?;
-        return Ok(true);
+    match word.strip_prefix('+') {
+        Some(word) => {
+            list.put(key_of(rt, word), value_of(1))?;
+            Ok(true)
+        }
+        None => take(
+            list,
+            &key_of(rt, word.strip_prefix('-').expect(rt, "a change")),
+        ),
     }
-    let key = key_of(rt, word.strip_prefix('-').expect(rt, "a change"));
-    let is_taken = list.take(&key)? == Some(value_of(1));
-    Ok(is_taken && list.take(&key)?.is_none())
 }
 
 /// The pages after these changes of a list.
@@ -54,29 +64,41 @@ fn changed(
     list.into_pages()
 }
 
-/// Looks whether a page is as told by its level, what leads it, its index and its keys; with no key it is gone.
-fn is_as_told<P: Pages>(rt: &impl Abort, pages: &mut P, told: &str) {
-    let mut words = told.split_whitespace();
-    let level = words
-        .next()
-        .expect(rt, "a level")
-        .parse::<u8>()
-        .expect(rt, "a number");
+/// The number that the next word spells.
+fn number(rt: &impl Abort, words: &mut SplitWhitespace<'_>) -> u32 {
+    let word = words.next().expect(rt, "a number");
+    word.parse::<u32>().expect(rt, "a number")
+}
+
+/// The label that the next words tell: a level, what leads the group, and an index.
+fn next_label(rt: &impl Abort, words: &mut SplitWhitespace<'_>) -> Label {
+    let level = words.next().expect(rt, "a level");
+    let level = level.parse::<u8>().expect(rt, "a number");
     let lead = match words.next().expect(rt, "a lead") {
         "start" => Lead::Start,
         word => Lead::Key(key_of(rt, word)),
     };
-    let index = words
-        .next()
-        .expect(rt, "an index")
-        .parse::<u32>()
-        .expect(rt, "a number");
-    let label = Label { level, lead, index };
-    if let Some(page) = pages.get(&label).expect(rt, "a page") {
-        for i in 0..page.len() {
-            let word = words.next().expect(rt, "a key");
-            assert!(rt; page.key(i) == key_of(rt, word), "{told}");
-        }
+    Label {
+        level,
+        lead,
+        index: number(rt, words),
+    }
+}
+
+/// Looks whether the page has the keys that the words tell, each in turn.
+fn has_keys(rt: &impl Abort, page: &Page, words: &mut SplitWhitespace<'_>) {
+    for i in 0..page.len() {
+        let word = words.next().expect(rt, "a key");
+        assert!(rt; page.key(i) == key_of(rt, word), "{word}");
+    }
+}
+
+/// Looks whether a page is as told by its level, what leads it, its index and its keys; with no key it is gone.
+fn is_as_told<P: Pages>(rt: &impl Abort, pages: &mut P, told: &str) {
+    let mut words = told.split_whitespace();
+    let label = next_label(rt, &mut words);
+    if let Some(page) = pages.look(&label).expect(rt, "a page") {
+        has_keys(rt, page, &mut words);
     }
     assert!(rt; words.next().is_none(), "{told}");
 }
@@ -101,21 +123,16 @@ enum Told {
 }
 
 /// Carries out each row's changes, and looks whether the pages told are as told, and no others.
-fn come_to_pages(
-    rt: &impl Abort,
-    alloc: Global,
-    draw: AnyDraw,
-    rows: &[(&str, &str)],
-    which: Told,
-) {
+fn come_to_pages(rt: &impl Abort, alloc: Global, draw: AnyDraw, rows: &str, which: Told) {
     let mut pages = CountedPages::new(alloc);
-    for (changes, told) in rows {
-        pages = changed(rt, alloc, pages, draw, *changes);
+    for row in rows.split(';') {
+        let (changes, told) = row.split_once('|').expect(rt, "changes and pages");
+        pages = changed(rt, alloc, pages, draw, changes);
         let count = match which {
             Told::Left => pages.len(),
             Told::Changed => pages.changes() as usize,
         };
-        assert!(rt; are_as_told(rt, &mut pages, *told) == count, "{changes}");
+        assert!(rt; are_as_told(rt, &mut pages, told) == count, "{changes}");
     }
 }
 
@@ -124,35 +141,32 @@ fn ruler(rt: &impl Abort) -> AnyDraw {
     AnyDraw::new(&Params::new(8, 3, DrawKind::Ruler, [0; 32]).expect(rt, "parameters"))
 }
 
-/// Three directories in each order, and then two of them removed.
-static ORDERS: [[(&str, &str); 3]; 6] = [
-    [("+/UU +/Ua +/b", THREE), ("-/UU", TWO), ("-/Ua", ONE)],
-    [("+/UU +/b +/Ua", THREE), ("-/UU", TWO), ("-/Ua", ONE)],
-    [("+/Ua +/UU +/b", THREE), ("-/UU", TWO), ("-/Ua", ONE)],
-    [("+/Ua +/b +/UU", THREE), ("-/UU", TWO), ("-/Ua", ONE)],
-    [("+/b +/UU +/Ua", THREE), ("-/UU", TWO), ("-/Ua", ONE)],
-    [("+/b +/Ua +/UU", THREE), ("-/UU", TWO), ("-/Ua", ONE)],
+/// Three directories in each order.
+static ORDERS: [&str; 6] = [
+    "+/UU +/Ua +/b",
+    "+/UU +/b +/Ua",
+    "+/Ua +/UU +/b",
+    "+/Ua +/b +/UU",
+    "+/b +/UU +/Ua",
+    "+/b +/Ua +/UU",
 ];
 
-/// The pages of /UU, /Ua and /b.
-const THREE: &str = "0 /UU 0 /UU, 0 /Ua 0 /Ua /b, 1 /UU 0 /UU /Ua, 2 start 0 /UU";
-
-/// The pages of /Ua and /b.
-const TWO: &str = "0 /Ua 0 /Ua /b, 1 start 0 /Ua";
-
-/// The page of /b.
-const ONE: &str = "0 start 0 /b";
+/// The pages of /UU, /Ua and /b, and what is left when /UU and then /Ua is removed.
+const LEFT: &str = "|0 /UU 0 /UU, 0 /Ua 0 /Ua /b, 1 /UU 0 /UU /Ua, 2 start 0 /UU;\
+    -/UU|0 /Ua 0 /Ua /b, 1 start 0 /Ua;\
+    -/Ua|0 start 0 /b";
 
 #[test]
 fn lists_in_any_order(rt: HostRuntime) {
-    for rows in &ORDERS {
-        come_to_pages(&rt, rt.alloc(), ruler(&rt), rows, Told::Left);
+    for order in &ORDERS {
+        let rows = format!(in rt.alloc(); "{order}{LEFT}").expect(&rt, "memory");
+        come_to_pages(&rt, rt.alloc(), ruler(&rt), rows.as_str(), Told::Left);
     }
 }
 
 #[test]
 fn each_change_of_a_list(rt: HostRuntime) {
-    come_to_pages(&rt, rt.alloc(), ruler(&rt), &RULER, Told::Changed);
+    come_to_pages(&rt, rt.alloc(), ruler(&rt), RULER, Told::Changed);
 }
 
 #[test]
@@ -162,7 +176,7 @@ fn long_list(rt: HostRuntime) {
         *byte = at as u8;
     }
     let params = Params::new(8, 4, DrawKind::Sha256, seed).expect(&rt, "parameters");
-    come_to_pages(&rt, rt.alloc(), AnyDraw::new(&params), &SHA256, Told::Left);
+    come_to_pages(&rt, rt.alloc(), AnyDraw::new(&params), SHA256, Told::Left);
 }
 
 /// The list of the directories /UU, /Ua and /b, whose pages were not asked for yet.
@@ -182,15 +196,19 @@ fn list_of_three(rt: &impl Abort, alloc: Global) -> SkipList<CountedPages, AnyDr
 /// Keys, and whether each is there.
 static SEARCHES: [(&str, bool); 4] = [("/A", false), ("/UU", true), ("/Ua", true), ("/b", true)];
 
+/// Whether the key is found or not, as is told, and three pages are asked for.
+fn is_found_in_three(rt: &impl Abort, alloc: Global, word: &str, is_here: bool) -> bool {
+    let mut list = list_of_three(rt, alloc);
+    let found = list.get(&key_of(rt, word)).expect(rt, "memory");
+    found.is_some() == is_here && list.into_pages().lookups() == 3
+}
+
 #[test]
 fn pages_of_a_search(rt: HostRuntime) {
     // Of each of the three groups of the path its page, which has room, so that none is asked for behind it.
     for (word, is_here) in &SEARCHES {
-        let mut list = list_of_three(&rt, rt.alloc());
-        let found = list.get(&key_of(&rt, *word)).expect(&rt, "memory");
-        let is_found = found.is_some();
         assert!(rt;
-            is_found == *is_here && list.into_pages().lookups() == 3,
+            is_found_in_three(&rt, rt.alloc(), *word, *is_here),
             "{word}"
         );
     }
@@ -199,17 +217,27 @@ fn pages_of_a_search(rt: HostRuntime) {
 /// Keys that are there.
 static KEPT: [&str; 3] = ["/UU", "/Ua", "/b"];
 
+/// Puts the value 2 under the key, and answers whether it is found then.
+fn overwrite(rt: &impl Abort, list: &mut SkipList<CountedPages, AnyDraw>, word: &str) -> bool {
+    let key = key_of(rt, word);
+    list.put(key, value_of(2)).expect(rt, "memory");
+    list.get(&key) == Ok(Some(value_of(2)))
+}
+
+/// Whether the key is overwritten by one change of a page, with four pages asked for.
+fn is_overwritten_by_four(rt: &impl Abort, alloc: Global, word: &str) -> bool {
+    let mut list = list_of_three(rt, alloc);
+    let is_there = overwrite(rt, &mut list, word);
+    let mut pages = list.into_pages();
+    is_there && pages.changes() == 1 && pages.lookups() == 4
+}
+
 #[test]
 fn value_that_is_overwritten(rt: HostRuntime) {
     // The put asks for the page of each of the three groups of the path. The lowest group is known then, so that the search
     // behind it asks for the page of that one alone: 3 and 1, and 3 and 3 were it forgotten.
     for word in &KEPT {
-        let mut list = list_of_three(&rt, rt.alloc());
-        let key = key_of(&rt, *word);
-        list.put(key, value_of(2)).expect(&rt, "memory");
-        assert!(rt; list.get(&key) == Ok(Some(value_of(2))), "{word}");
-        let mut pages = list.into_pages();
-        assert!(rt; pages.changes() == 1 && pages.lookups() == 4, "{word}");
+        assert!(rt; is_overwritten_by_four(&rt, rt.alloc(), *word), "{word}");
     }
 }
 
@@ -221,13 +249,29 @@ fn two_pairs(rt: &impl Abort, alloc: Global) -> Result<MapPairs, Fault> {
     Ok(pairs)
 }
 
+/// Whether the key has this value, of one byte.
+fn has(rt: &impl Abort, pairs: &mut MapPairs, word: &str, byte: u8) -> bool {
+    pairs.get(&key_of(rt, word)) == Ok(Some(value_of(byte)))
+}
+
+/// Whether the key can be taken out, once.
+fn is_taken(rt: &impl Abort, pairs: &mut MapPairs, word: &str) -> bool {
+    let key = key_of(rt, word);
+    let is_taken = pairs.take(&key) == Ok(Some(value_of(1)));
+    is_taken && pairs.take(&key) == Ok(None)
+}
+
+/// Whether the first pair behind /aa is that of /b.
+fn is_next(rt: &impl Abort, pairs: &mut MapPairs) -> bool {
+    let next = pairs.next_from(&key_of(rt, "/aa"));
+    next == Ok(Some((key_of(rt, "/b"), value_of(2))))
+}
+
 #[test]
 fn list_in_memory_and_a_copy(rt: HostRuntime) {
     let mut pairs = two_pairs(&rt, rt.alloc()).expect(&rt, "memory");
-    let (first, second) = (key_of(&rt, "/a"), key_of(&rt, "/b"));
     let mut other = pairs.copy().expect(&rt, "memory");
-    assert!(rt; other.take(&first) == Ok(Some(value_of(1))) && other.take(&first) == Ok(None));
-    assert!(rt; pairs.get(&first) == Ok(Some(value_of(1))));
-    let next = pairs.next_from(&key_of(&rt, "/aa"));
-    assert!(rt; next == Ok(Some((second, value_of(2)))));
+    assert!(rt; is_taken(&rt, &mut other, "/a"));
+    assert!(rt; has(&rt, &mut pairs, "/a", 1));
+    assert!(rt; is_next(&rt, &mut pairs));
 }

@@ -230,15 +230,29 @@ static CHANGES: [Letters; 7] = [
     },
 ];
 
+/// Whether the change is settled, with pages that are overwritten or dropped first.
+fn is_change_settled(
+    rt: &impl Abort,
+    alloc: Global,
+    tables: [&Table; 2],
+    overwrites: bool,
+) -> bool {
+    let settled = try_change(rt, alloc, tables, overwrites, None);
+    is_settled(settled, tables[1])
+}
+
+/// Whether the one table becomes the other by either way.
+fn are_settled(rt: &impl Abort, alloc: Global, letters: &Letters) -> bool {
+    let old = table_of(rt, alloc, SLOTS, letters.old);
+    let new = table_of(rt, alloc, SLOTS, letters.new);
+    is_change_settled(rt, alloc, [&old, &new], true)
+        && is_change_settled(rt, alloc, [&old, &new], false)
+}
+
 #[test]
 fn settled_pages_are_those_of_the_layout(rt: HostRuntime) {
     for (at, letters) in CHANGES.iter().enumerate() {
-        let old = table_of(&rt, rt.alloc(), SLOTS, letters.old);
-        let new = table_of(&rt, rt.alloc(), SLOTS, letters.new);
-        let overwritten = try_change(&rt, rt.alloc(), [&old, &new], true, None);
-        assert!(rt; is_settled(overwritten, &new), "row {at}");
-        let dropped = try_change(&rt, rt.alloc(), [&old, &new], false, None);
-        assert!(rt; is_settled(dropped, &new), "row {at}");
+        assert!(rt; are_settled(&rt, rt.alloc(), letters), "row {at}");
     }
 }
 
@@ -361,11 +375,16 @@ fn count_after(pages: &mut TestedPages, step: &Step) -> Result<u32, Fault> {
     Ok(pages.used())
 }
 
+/// Takes the steps, and looks whether there are as many pages as told.
+fn count_steps(rt: &impl Abort, pages: &mut TestedPages) {
+    for (at, (step, count)) in STEPS.iter().enumerate() {
+        assert!(rt; count_after(pages, step) == Ok(*count), "at step {at}");
+    }
+}
+
 #[test]
 fn pages_are_counted_once(rt: HostRuntime) {
     let table = table_of(&rt, rt.alloc(), SLOTS, b"a");
     let mut pages = stage(&rt, rt.alloc(), &table, None);
-    for (at, (step, count)) in STEPS.iter().enumerate() {
-        assert!(rt; count_after(&mut pages, step) == Ok(*count), "at step {at}");
-    }
+    count_steps(&rt, &mut pages);
 }

@@ -14,22 +14,28 @@ type TestedPages = Staged<UnseenDisk, RulerDraw>;
 
 /// The image of one slot and one level that has the directory /a: its header, an empty journal, and the slot of its page.
 fn image_of_one_directory(rt: &impl Abort, alloc: Global) -> Vec<u8> {
-    let mut image = vec![in alloc; 0; 16384].expect(rt, "memory");
-    image[..15].copy_from_slice(b"HSTORE01\0\0\0\x01\x01\0\x01");
-    image
-        .extend_from_slice(&slot_with(&ONE_DIRECTORY))
+    let mut image = b"HSTORE01\0\0\0\x01\x01\0\x01"
+        .to_vec(alloc)
         .expect(rt, "memory");
+    image.resize(16384, 0).expect(rt, "memory");
+    let slot = slot_with(&ONE_DIRECTORY);
+    image.extend_from_slice(&slot).expect(rt, "memory");
     image
+}
+
+/// The pages of the image on this disk.
+fn staged_on(rt: &impl Abort, alloc: Global, disk: UnseenDisk) -> TestedPages {
+    let params = Params::new(1, 1, DrawKind::Ruler, [0; 32]).expect(rt, "parameters");
+    assert!(rt; is_long(&disk, &params));
+    let cache = SlotCache::new(alloc).expect(rt, "memory");
+    Staged::new(alloc, disk, &params, RulerDraw::new(&params), 1, cache)
 }
 
 /// The pages of that image.
 fn staged(rt: &impl Abort, alloc: Global) -> TestedPages {
-    let params = Params::new(1, 1, DrawKind::Ruler, [0; 32]).expect(rt, "parameters");
     let image = image_of_one_directory(rt, alloc);
     let disk = UnseenDisk::new(alloc, &image).expect(rt, "memory");
-    assert!(rt; is_long(&disk, &params));
-    let cache = SlotCache::new(alloc).expect(rt, "memory");
-    Staged::new(alloc, disk, &params, RulerDraw::new(&params), 1, cache)
+    staged_on(rt, alloc, disk)
 }
 
 /// The page of the directory /a with this value.
@@ -57,13 +63,17 @@ fn settle(rt: &impl Abort, pages: &mut TestedPages) {
     pages.settle().expect(rt, "the pages");
 }
 
+/// Looks whether the slot is read once, and not behind a put and a settle.
+fn is_read_once(rt: &impl Abort, pages: &mut TestedPages) {
+    assert!(rt; reads(rt, pages, 1) && !reads(rt, pages, 1));
+    put(rt, pages, 2);
+    assert!(rt; !reads(rt, pages, 2));
+    settle(rt, pages);
+    assert!(rt; !reads(rt, pages, 2));
+}
+
 #[test]
 fn a_slot_is_read_from_the_disk_once(rt: HostRuntime) {
     let mut pages = staged(&rt, rt.alloc());
-    assert!(rt; reads(&rt, &mut pages, 1));
-    assert!(rt; !reads(&rt, &mut pages, 1));
-    put(&rt, &mut pages, 2);
-    assert!(rt; !reads(&rt, &mut pages, 2));
-    settle(&rt, &mut pages);
-    assert!(rt; !reads(&rt, &mut pages, 2));
+    is_read_once(&rt, &mut pages);
 }

@@ -4,6 +4,7 @@
 ghost use Rattle.std.specs.Prelude.{◌≡◌, ◌<◌};
 ghost use Rattle.ordered_table.specs.MemSlots.{mem_state};
 
+use super::journals::is_zero;
 use base_tests::samples::{key, led, start_label};
 use node_pages::{Cell, Page};
 use ordered_table::{MemSlots, Steps, find, insert, overwrite};
@@ -13,7 +14,7 @@ use std::alloc::Global;
 use std::marker::Brand;
 use std::process::Abort;
 use std::sync::ledger::{Blank, Ledger};
-use store_base::{BLOCK, DrawKind, Fault, Label, Params, Value};
+use store_base::{DrawKind, Fault, Label, Params, Slot, Value};
 
 /// The name of the page (1, start, 0); any other name is that of a page of level 0 which its key leads.
 pub(crate) const TOP: [u8; 2] = [0; 2];
@@ -36,15 +37,19 @@ pub(crate) fn page(name: [u8; 2], value: u8) -> Page {
     Page::new(led(key(&name)), cell)
 }
 
+/// Whether the slot holds the page of this name, with the value 1, or is free where there is none.
+fn is_slot_of(slot: &Slot, name: Option<[u8; 2]>) -> bool {
+    match name {
+        Some(name) => *slot == *page(name, 1).as_slot(),
+        None => is_zero(slot),
+    }
+}
+
 /// Looks whether the slots hold the pages of these names, with the value 1.
 fn holds(rt: &impl Abort, slots: &MemSlots, wanted: &[Option<[u8; 2]>]) {
     assert_eq!(rt; slots.slots().len(), wanted.len());
     for (slot, name) in slots.slots().iter().zip(wanted) {
-        let expected = match name {
-            Some(name) => *page(*name, 1).as_slot(),
-            None => [0; BLOCK],
-        };
-        assert!(rt; *slot == expected);
+        assert!(rt; is_slot_of(slot, *name));
     }
 }
 
@@ -73,13 +78,33 @@ enum Call {
     Overwrite(u32, [u8; 2]),
     /// Takes the page in the slot out.
     Remove(u32),
+    /// Searches for the page of this name, which is in the slot that is told, if one is.
+    Find([u8; 2], Option<u32>),
 }
 
 /// A call on slots, how many reads and writes were made in all when it ends, and the pages that the slots then hold, with
 /// the value 1; where none are told, the slots are not looked at.
 type Step = (Call, u64, &'static [Option<[u8; 2]>]);
 
-/// Makes the call; one that names no slot is a fault.
+/// Searches for the page of this name; to find it elsewhere is a fault.
+fn find_at(
+    slots: &mut MemSlots,
+    draw: &RulerDraw,
+    name: [u8; 2],
+    wanted: Option<u32>,
+) -> Result<(), Fault>
+    requires { (mem_state slots.old).count ≡ draw.now.slots }
+    ensures { (mem_state slots.new).count ≡ draw.now.slots }
+{
+    let found = look_for::<Brand>(slots, draw, name, Blank::new(1))?;
+    if found == wanted {
+        Ok(())
+    } else {
+        Err(Fault::Disk)
+    }
+}
+
+/// Makes the call; one that names no slot is a fault, and so is a search that finds another slot.
 fn make(slots: &mut MemSlots, draw: &RulerDraw, call: &Call) -> Result<(), Fault>
     requires { (mem_state slots.old).count ≡ draw.now.slots }
     ensures { (mem_state slots.new).count ≡ draw.now.slots }
@@ -90,6 +115,7 @@ fn make(slots: &mut MemSlots, draw: &RulerDraw, call: &Call) -> Result<(), Fault
             overwrite(slots, draw, *at, &page(*name, 1))
         }
         Call::Remove(at) if *at < draw.slots() => remove(slots, draw, *at),
+        Call::Find(name, wanted) => find_at(slots, draw, *name, *wanted),
         _ => Err(Fault::Disk),
     }
 }
@@ -132,17 +158,18 @@ fn insertion_and_overwriting(rt: HostRuntime) {
     lead_so(&rt, rt.alloc(), 4, &INSERTIONS);
 }
 
+/// Two pages that start in one slot, the second of which goes round the end. A search reads the slots up to the page, or one
+/// free slot.
+static SEARCHES: [Step; 4] = [
+    (Call::Insert(*b"UU", 1), 2, &[]),
+    (Call::Insert(*b"Ua", 1), 5, &[]),
+    (Call::Find(*b"Ua", Some(0)), 7, &[]),
+    (Call::Find(TOP, None), 8, &[]),
+];
+
 #[test]
 fn search_round_the_end(rt: HostRuntime) {
-    let draw = RulerDraw::new(&Params::new(4, 2, DrawKind::Ruler, [0; 32]).expect(
-        &rt,
-        "parameters",
-    ));
-    let mut slots = MemSlots::new(rt.alloc(), 4, Vec::new(rt.alloc())).expect(&rt, "memory");
-    insert(&mut slots, &draw, &page(*b"UU", 1)).expect(&rt, "memory");
-    insert(&mut slots, &draw, &page(*b"Ua", 1)).expect(&rt, "memory");
-    assert!(rt; look_for::<Brand>(&mut slots, &draw, *b"Ua", Blank::new(1)) == Ok(Some(0)));
-    assert!(rt; look_for::<Brand>(&mut slots, &draw, TOP, Blank::new(1)) == Ok(None));
+    lead_so(&rt, rt.alloc(), 4, &SEARCHES);
 }
 
 /// Two slots that are filled, and a page taken out.

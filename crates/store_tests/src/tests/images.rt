@@ -1,221 +1,139 @@
 //! Images that no script leaves: what `check` finds of them, and what a run makes of them.
 
-use super::support::{
-    DAMAGED, Ended, FLAT, FOUR, Format, LEAST, NOT_IMAGE, ZEROS, call, first_false, image_of,
-    is_left, status_of,
-};
-use std::alloc::Global;
-use std::test::Fail;
-use store_base::NoMemory;
+use super::support::{Machine, expect, fields, number, status_of};
+use std::process::Abort;
 
-/// An image that a script leaves with some of it written over, and what is to be found.
-pub struct Spoiled {
-    pub format: Format,
-    pub script: &'static str,
-    /// Blocks that are copied to another place: where from and where to, both counted in blocks.
-    pub blocks: &'static [(u16, u16)],
-    /// Bytes and their places.
-    pub bytes: &'static [(usize, u8)],
-    /// What `check` prints.
-    pub report: &'static str,
-    /// A script for the tree that the image represents, where it represents one.
-    pub tree: Option<&'static str>,
+/// What a row shows; the format and the script of an image; what is written over: blocks that are copied to another place,
+/// where from and where to, both counted in blocks, and bytes at their places; what `check` prints; and a script for the tree
+/// that the image represents, or `-` where it represents none.
+static IMAGES: &str = "\
+    nothing is written over|1 1 ruler|make /a\n|||clean 1 1 0 0\n|make /a\n#\
+    a byte in a free slot|4 2 ruler|make /Ua\n||36873:127|damaged\n|-#\
+    slots in each other's places|4 2 ruler|make /Ua\nmake /UU\n|7:10 10:7||damaged\n|-#\
+    one slot twice|4 2 ruler|make /Ua\nmake /UU\n|10:9||damaged\n|-#\
+    a slot that is missing|4 2 ruler|make /Ua\nmake /UU\n|9:8||damaged\n|-#\
+    more pages than slots: the page above those of `/Ua` and `/UU` has none|2 2 ruler|make /Ua\n|6:5|\
+        20484:85 20613:85|damaged\n|-#\
+    the header's first byte|1 1 ruler|make /a\n||0:0|not-image\n|-#\
+    the header's slots|1 1 ruler|make /a\n||11:2|not-image\n|-#\
+    the header's height|1 1 ruler|make /a\n||12:9|not-image\n|-#\
+    the header's draw|1 1 ruler|make /a\n||13:2|not-image\n|-#\
+    the header's version|1 1 ruler|make /a\n||14:9|not-image\n|-#\
+    the header's filling|1 1 ruler|make /a\n||4095:1|not-image\n|-#\
+    another height, for which a page is missing|4 1 ruler|make /U\n||12:2|damaged\n|-#\
+    a child without its parent|1 1 ruler|make /a\n||16518:98|damaged\n|-#\
+    a name that no path has|1 1 ruler|make /a\n||16516:46|damaged\n|-#\
+    a name with a space|1 1 ruler|make /a\n||16516:32|damaged\n|-#\
+    the root|1 1 ruler|make /a\n||16516:0|damaged\n|-#\
+    a name that a path has|1 1 ruler|make /a\n||16516:98|clean 1 1 0 0\n|make /b\n#\
+    keys that do not rise|1 1 ruler|make /a\nmake /b\n||16516:99|damaged\n|-#\
+    a cell that the count leaves out|1 1 ruler|make /a\nmake /b\n||16515:1|damaged\n|-#\
+    a label's level|1 1 ruler|make /a\n||16385:1|damaged\n|-#\
+    a label's index|1 1 ruler|make /a\n||16514:1|damaged\n|-#\
+    a count of no cell|1 1 ruler|make /a\n||16515:0|damaged\n|-#\
+    a count of a cell too many|1 1 ruler|make /a\n||16515:2|damaged\n|-#\
+    a byte behind the last cell|1 1 ruler|make /a\n||20479:1|damaged\n|-#\
+    a block that no file has|1 1 ruler|make /a\n||16639:1|damaged\n|-#\
+    a byte that no name has|1 1 ruler|make /a\n||16517:1|damaged\n|-#\
+    a value that no directory has|1 1 ruler|make /a\n||16642:2|damaged\n|-#\
+    a value of no kind|1 1 ruler|make /a\n||16642:3|damaged\n|-#\
+    a file without its block|1 1 ruler|make /a\n||16641:5 16642:2 16646:1|damaged\n|-#\
+    a length that no file has|1 1 ruler|make /a\n||16641:5 16642:2 16644:16 16646:1|damaged\n|-#\
+    a file that is longer than its block|1 1 ruler|write /f 0 00\n||16646:2|damaged\n|-#\
+    a file that is shorter than its block|1 1 ruler|write /f 0 00\n||16646:0|damaged\n|-#\
+    a block with another number|1 1 ruler|write /f 0 00\n||17021:2|damaged\n|-#\
+    a file's byte, which is not noticed|1 1 ruler|write /f 0 00\n||17024:1|clean 1 0 1 1\n|write /f 0 01\n#\
+    a journal behind its flag|1 1 ruler|make /a\n|4:3 1:4|4096:127 8192:1|clean 1 1 0 0\n|make /a\n#\
+    a journal without its flag|1 1 ruler|make /a\n|4:3 1:4|8192:1|clean 0 0 0 0\n|#\
+    a block that was marked and is zero|1 1 ruler|make /a\n||4096:1 8192:1|clean 0 0 0 0\n|#\
+    what a journal left|1 1 ruler|make /a\n||4100:5 8193:1 12288:7|clean 1 1 0 0\n|make /a\n#\
+    a journal of bytes that no page has|1 1 ruler|make /a\n||4096:1 8192:1 12290:7|damaged\n|-";
+
+/// The two numbers of a word.
+fn pair(rt: &impl Abort, word: &str) -> (usize, usize) {
+    let (first, second) = word.split_once(':').expect(rt, "two numbers");
+    (number(rt, first) as usize, number(rt, second) as usize)
 }
 
-/// Two slots of height 2, under `ruler`.
-const TWO: Format = ["2", "2", "ruler", ZEROS];
-
-/// One directory in one slot. What a row writes over leaves the layout of no tree, if it does not say otherwise.
-pub const ONE_DIRECTORY: Spoiled = Spoiled {
-    format: LEAST,
-    script: "make /a\n",
-    blocks: &[],
-    bytes: &[],
-    report: DAMAGED,
-    tree: None,
-};
-
-/// Two directories in one slot.
-const TWO_DIRECTORIES: Spoiled = Spoiled {
-    script: "make /a\nmake /b\n",
-    ..ONE_DIRECTORY
-};
-
-/// A file of one byte in one slot.
-const ONE_FILE: Spoiled = Spoiled {
-    script: "write /f 0 00\n",
-    ..ONE_DIRECTORY
-};
-
-/// One directory with two pages in four slots.
-pub const TWO_PAGES: Spoiled = Spoiled {
-    format: FOUR,
-    script: "make /Ua\n",
-    ..ONE_DIRECTORY
-};
-
-/// Two directories with three pages in four slots.
-const THREE_PAGES: Spoiled = Spoiled {
-    script: "make /Ua\nmake /UU\n",
-    ..TWO_PAGES
-};
-
-/// The images, one kind behind another.
-#[rattlefmt::skip]
-static IMAGES: [Spoiled; 40] = [
-    // Nothing is written over.
-    Spoiled { report: "clean 1 1 0 0\n", tree: Some("make /a\n"), ..ONE_DIRECTORY },
-    // A byte in a free slot.
-    Spoiled { bytes: &[(36_873, 0x7f)], ..TWO_PAGES },
-    // Slots in each other's places, one slot twice, and one that is missing.
-    Spoiled { blocks: &[(7, 10), (10, 7)], ..THREE_PAGES },
-    Spoiled { blocks: &[(10, 9)], ..THREE_PAGES },
-    Spoiled { blocks: &[(9, 8)], ..THREE_PAGES },
-    // More pages than slots: the page above those of `/Ua` and `/UU` has none.
-    Spoiled { format: TWO, blocks: &[(6, 5)], bytes: &[(20_484, 0x55), (20_613, 0x55)], ..TWO_PAGES },
-    // Headers: first byte, slots, height, draw, version, filling.
-    Spoiled { bytes: &[(0, 0)], report: NOT_IMAGE, ..ONE_DIRECTORY },
-    Spoiled { bytes: &[(11, 2)], report: NOT_IMAGE, ..ONE_DIRECTORY },
-    Spoiled { bytes: &[(12, 9)], report: NOT_IMAGE, ..ONE_DIRECTORY },
-    Spoiled { bytes: &[(13, 2)], report: NOT_IMAGE, ..ONE_DIRECTORY },
-    Spoiled { bytes: &[(14, 9)], report: NOT_IMAGE, ..ONE_DIRECTORY },
-    Spoiled { bytes: &[(4095, 1)], report: NOT_IMAGE, ..ONE_DIRECTORY },
-    // Another height, for which a page is missing.
-    Spoiled { format: FLAT, script: "make /U\n", bytes: &[(12, 2)], ..ONE_DIRECTORY },
-    // Keys: a child without its parent, names that no path has, the root; and a name that one has.
-    Spoiled { bytes: &[(16_518, 0x62)], ..ONE_DIRECTORY },
-    Spoiled { bytes: &[(16_516, 0x2e)], ..ONE_DIRECTORY },
-    Spoiled { bytes: &[(16_516, 0x20)], ..ONE_DIRECTORY },
-    Spoiled { bytes: &[(16_516, 0)], ..ONE_DIRECTORY },
-    Spoiled { bytes: &[(16_516, 0x62)], report: "clean 1 1 0 0\n", tree: Some("make /b\n"), ..ONE_DIRECTORY },
-    // Keys that do not rise, and a cell that the count leaves out.
-    Spoiled { bytes: &[(16_516, 0x63)], ..TWO_DIRECTORIES },
-    Spoiled { bytes: &[(16_515, 1)], ..TWO_DIRECTORIES },
-    // Labels: another level, another index.
-    Spoiled { bytes: &[(16_385, 1)], ..ONE_DIRECTORY },
-    Spoiled { bytes: &[(16_514, 1)], ..ONE_DIRECTORY },
-    // Counts of cells that are none of a page, a byte behind the last cell, a block that no file has, a byte that no name has.
-    Spoiled { bytes: &[(16_515, 0)], ..ONE_DIRECTORY },
-    Spoiled { bytes: &[(16_515, 2)], ..ONE_DIRECTORY },
-    Spoiled { bytes: &[(20_479, 1)], ..ONE_DIRECTORY },
-    Spoiled { bytes: &[(16_639, 1)], ..ONE_DIRECTORY },
-    Spoiled { bytes: &[(16_517, 1)], ..ONE_DIRECTORY },
-    // Values: a directory's and none's, a file's length that its blocks have not, one that no file has, a block with another number.
-    Spoiled { bytes: &[(16_642, 2)], ..ONE_DIRECTORY },
-    Spoiled { bytes: &[(16_642, 3)], ..ONE_DIRECTORY },
-    Spoiled { bytes: &[(16_641, 5), (16_642, 2), (16_646, 1)], ..ONE_DIRECTORY },
-    Spoiled { bytes: &[(16_641, 5), (16_642, 2), (16_644, 0x10), (16_646, 1)], ..ONE_DIRECTORY },
-    Spoiled { bytes: &[(16_646, 2)], ..ONE_FILE },
-    Spoiled { bytes: &[(16_646, 0)], ..ONE_FILE },
-    Spoiled { bytes: &[(17_021, 2)], ..ONE_FILE },
-    // A file's byte is not noticed.
-    Spoiled { bytes: &[(17_024, 1)], report: "clean 1 0 1 1\n", tree: Some("write /f 0 01\n"), ..ONE_FILE },
-    // A journal behind its flag, and without it; a block that was marked and is zero; what a journal left.
-    Spoiled {
-        blocks: &[(4, 3), (1, 4)], bytes: &[(4096, 0x7f), (8192, 1)], report: "clean 1 1 0 0\n", tree: Some("make /a\n"),
-        ..ONE_DIRECTORY
-    },
-    Spoiled { blocks: &[(4, 3), (1, 4)], bytes: &[(8192, 1)], report: "clean 0 0 0 0\n", tree: Some(""), ..ONE_DIRECTORY },
-    Spoiled { bytes: &[(4096, 1), (8192, 1)], report: "clean 0 0 0 0\n", tree: Some(""), ..ONE_DIRECTORY },
-    Spoiled {
-        bytes: &[(4100, 5), (8193, 1), (12_288, 7)], report: "clean 1 1 0 0\n", tree: Some("make /a\n"),
-        ..ONE_DIRECTORY
-    },
-    Spoiled { bytes: &[(4096, 1), (8192, 1), (12_290, 7)], ..ONE_DIRECTORY },
-];
-
-/// Copies a block to the place of another one, both counted in blocks of 4,096 bytes.
-fn copy_block(good: &[u8], from: u16, image: &mut [u8], to: u16) {
-    let (from, to) = (4096 * usize::from(from), 4096 * usize::from(to));
-    if from + 4096 <= good.len() && to + 4096 <= image.len() {
-        image[to..to + 4096].copy_from_slice(&good[from..from + 4096]);
-    }
-}
-
-/// Puts these bytes at their places.
-fn put_bytes(bytes: &[(usize, u8)], image: &mut [u8]) {
-    for &(at, byte) in bytes {
-        if let Some(place) = image.get_mut(at) {
-            *place = byte;
+/// Copies a block of the good image to the place of another one, both counted in blocks of 4,096 bytes.
+fn copy_block(machine: &mut Machine, good: &[u8], from: usize, to: usize) {
+    for at in 0..4096 {
+        if let Some(byte) = good.get(from.wrapping_mul(4096).wrapping_add(at)) {
+            machine.put(to.wrapping_mul(4096).wrapping_add(at), *byte);
         }
     }
 }
 
-/// Writes over the image what the row tells of; the blocks come from the good one.
-fn write_over(row: &Spoiled, good: &[u8], image: &mut [u8]) {
-    for (from, to) in row.blocks {
-        copy_block(good, *from, image, *to);
+/// Makes the image that the row tells of: what the script leaves, with blocks of that and bytes written over it.
+pub fn spoil(rt: &impl Abort, machine: &mut Machine, row: [&str; 9]) {
+    machine.make(rt, row[1], row[2]);
+    let good = machine.copy(rt);
+    for word in row[3].split_whitespace() {
+        let (from, to) = pair(rt, word);
+        copy_block(machine, &good, from, to);
     }
-    put_bytes(row.bytes, image);
+    for word in row[4].split_whitespace() {
+        let (at, byte) = pair(rt, word);
+        assert!(rt; byte < 256);
+        machine.put(at, byte as u8);
+    }
 }
 
-/// The image that the row tells of.
-pub fn spoil(alloc: Global, row: &Spoiled) -> Result<Vec<u8>, NoMemory> {
-    let good = image_of(alloc, &row.format, row.script.as_bytes())?;
-    let mut image = Vec::from_slice(alloc, &good)?;
-    write_over(row, &good, &mut image);
-    Ok(image)
+/// Looks whether `check` finds what the row says, and leaves the image as it is.
+fn expect_check(rt: &impl Abort, machine: &mut Machine, row: [&str; 9], image: &[u8]) {
+    machine.call(rt, &["check"], "make /b\n");
+    expect(
+        rt,
+        machine.is_ended(status_of(row[5]), 1, row[5]),
+        "check",
+        row[0],
+    );
+    let is_kept = machine.ended.calls[0] == 0 && machine.image() == image;
+    expect(rt, is_kept, "image after check", row[0]);
 }
 
-/// What of `check` on the image of the row is not as the row says, if anything is. It leaves the image as it is.
-fn wrong_in_check(alloc: Global, row: &Spoiled, image: &[u8]) -> Result<&'static str, NoMemory> {
-    let checked = call(alloc, &["check"], image, b"make /b\n")?;
-    Ok(first_false(&[
-        ("report", checked.written() == row.report.as_bytes()),
-        ("status of check", checked.status == status_of(row.report)),
-        ("done of check", checked.done == 1),
-        ("writes of check", checked.disk.write_count() == 0),
-        ("image after check", checked.disk.bytes() == image),
-    ]))
+/// Looks whether a run leaves the layout of the row's tree.
+fn expect_layout(rt: &impl Abort, machine: &mut Machine, row: [&str; 9], other: &mut Machine) {
+    machine.call(rt, &["run"], "list /q\n");
+    expect(rt, machine.is_ended(0, 1, "no missing\n"), "run", row[0]);
+    other.make(rt, row[1], row[6]);
+    expect(
+        rt,
+        machine.image() == other.image(),
+        "image after a run",
+        row[0],
+    );
 }
 
-/// What of this run on the image of the row is not as the row says, if anything is. It leaves the layout of the row's tree,
-/// or does nothing at all.
-fn wrong_in_end(
-    alloc: Global,
-    row: &Spoiled,
-    image: &[u8],
-    ran: &Ended,
-) -> Result<&'static str, NoMemory> {
-    let is_layout = is_left(alloc, &row.format, row.tree, ran.disk.bytes())?;
-    let is_clean = row.tree.is_some();
-    let replies = if is_clean { "no missing\n" } else { "" };
-    Ok(first_false(&[
-        ("status of a run", ran.status == status_of(row.report)),
-        ("replies", ran.written() == replies.as_bytes()),
-        ("layout after a run", is_layout),
-        ("image after a run", is_clean || ran.disk.bytes() == image),
-        ("writes of a run", is_clean || ran.disk.write_count() == 0),
-    ]))
+/// Looks whether a run does nothing at all.
+fn expect_nothing(rt: &impl Abort, machine: &mut Machine, row: [&str; 9], image: &[u8]) {
+    machine.call(rt, &["run"], "list /q\n");
+    expect(
+        rt,
+        machine.is_ended(status_of(row[5]), 0, ""),
+        "run",
+        row[0],
+    );
+    let is_kept = machine.ended.calls[0] == 0 && machine.image() == image;
+    expect(rt, is_kept, "image after a run", row[0]);
 }
 
-/// What of a run on the image of the row is not as the row says, if anything is.
-fn wrong_in_run(alloc: Global, row: &Spoiled, image: &[u8]) -> Result<&'static str, NoMemory> {
-    let ran = call(alloc, &["run"], image, b"list /q\n")?;
-    wrong_in_end(alloc, row, image, &ran)
-}
-
-/// What of a check and a run on the image of the row is not as the row says, if anything is.
-fn wrong_in_image(alloc: Global, row: &Spoiled, image: &[u8]) -> Result<&'static str, NoMemory> {
-    let wrong = wrong_in_check(alloc, row, image)?;
-    if wrong.is_empty() {
-        wrong_in_run(alloc, row, image)
+/// Looks whether a check and a run of the image of the row come to what it says.
+fn expect_row(rt: &impl Abort, machine: &mut Machine, other: &mut Machine, row: [&str; 9]) {
+    spoil(rt, machine, row);
+    let image = machine.copy(rt);
+    expect_check(rt, machine, row, &image);
+    if row[6] == "-" {
+        expect_nothing(rt, machine, row, &image);
     } else {
-        Ok(wrong)
+        expect_layout(rt, machine, row, other);
     }
-}
-
-/// What of the image of the row is not as the row says, if anything is.
-fn wrong_in(alloc: Global, row: &Spoiled) -> Result<&'static str, NoMemory> {
-    let image = spoil(alloc, row)?;
-    wrong_in_image(alloc, row, &image)
 }
 
 #[test]
-fn images_are_found_clean_or_not(rt: HostRuntime) -> Result<(), Fail> {
-    for row in &IMAGES {
-        let wrong = wrong_in(rt.alloc(), row)?;
-        assert!(rt; wrong.is_empty(), "{wrong}: {:?}", row.bytes);
+fn images_are_found_clean_or_not(rt: HostRuntime) {
+    let (mut machine, mut other) = (Machine::new(rt.alloc()), Machine::new(rt.alloc()));
+    for row in IMAGES.split('#') {
+        expect_row(&rt, &mut machine, &mut other, fields(row));
     }
-    Ok(())
 }

@@ -1,14 +1,11 @@
 //! Calls whose disk, source or sink fails.
 
-use super::support::{
-    CALM, Ended, LEAST, Outside, call, call_in, disk_of, first_false, image_of, is_left,
-};
+use super::support::{CALM, Machine, Outside, disk_of, expect};
 use disk_model::{FailingDisk, MemDisk};
 use script_lines::{Command, parse_command};
 use std::alloc::Global;
-use std::test::Fail;
-use store_base::NoMemory;
-use store_core::{ApplyFault, AttachFault, Store};
+use std::process::Abort;
+use store_core::{ApplyFault, Store};
 
 /// The room of a disk's record where all of the first command's commit has room but the write of the slot behind the
 /// commit flag: two syncs of opening the image, a block and its mark, a sync, the flag and a sync.
@@ -58,84 +55,56 @@ static FAILURES: [Failing; 16] = [
     Failing { word: "wipe", outside: Outside { from: Some(0), ..CALM }, status: 5, done: 0, written: "", tree: "", ..NOTHING },
 ];
 
-/// How the call of the row ends.
-fn end_of(alloc: Global, row: &Failing) -> Result<Ended, NoMemory> {
-    let empty = image_of(alloc, &LEAST, b"")?;
-    call_in(
-        alloc,
-        &[row.word],
-        &empty,
-        b"make /a\nlist /\n",
-        &row.outside,
-    )
-}
-
-/// Whether the next run finds the tree of the row in these bytes.
-fn is_found(alloc: Global, row: &Failing, bytes: &[u8]) -> Result<bool, NoMemory> {
-    let found = call(alloc, &["run"], bytes, b"")?;
-    is_left(alloc, &LEAST, Some(row.tree), found.disk.bytes())
-}
-
-/// What of the call of the row is not as the row says, if anything is.
-fn wrong_in(alloc: Global, row: &Failing) -> Result<&'static str, NoMemory> {
-    let ended = end_of(alloc, row)?;
-    let is_found = is_found(alloc, row, ended.disk.bytes())?;
-    Ok(first_false(&[
-        ("status", ended.status == row.status),
-        ("done", ended.done == row.done),
-        ("written", ended.written() == row.written.as_bytes()),
-        ("tree", is_found),
-    ]))
+/// Looks whether the call of the row ends as it says, and the next run finds its tree.
+fn expect_row(rt: &impl Abort, machine: &mut Machine, other: &mut Machine, row: &Failing) {
+    machine.format(rt, "1 1 ruler");
+    machine.call_in(rt, &[row.word], b"make /a\nlist /\n", &row.outside);
+    expect(
+        rt,
+        machine.is_ended(row.status, row.done, row.written),
+        row.word,
+        row.written,
+    );
+    machine.call(rt, &["run"], "");
+    other.make(rt, "1 1 ruler", row.tree);
+    expect(rt, machine.image() == other.image(), "tree", row.word);
 }
 
 #[test]
-fn failing_calls_end_with_their_status(rt: HostRuntime) -> Result<(), Fail> {
-    for (at, row) in FAILURES.iter().enumerate() {
-        let wrong = wrong_in(rt.alloc(), row)?;
-        assert!(rt; wrong.is_empty(), "{wrong} of row {at}");
+fn failing_calls_end_with_their_status(rt: HostRuntime) {
+    let (mut machine, mut other) = (Machine::new(rt.alloc()), Machine::new(rt.alloc()));
+    for row in &FAILURES {
+        expect_row(&rt, &mut machine, &mut other, row);
     }
-    Ok(())
 }
 
 /// A store over a disk that may fail.
 type FailingStore = Store<FailingDisk<MemDisk>>;
 
-/// The store in the image that the disk reads.
-fn attached(alloc: Global, disk: FailingDisk<MemDisk>) -> Result<FailingStore, AttachFault> {
-    match Store::attach(alloc, disk) {
-        Ok(store) => Ok(store),
-        Err((fault, _)) => Err(fault),
-    }
-}
-
 /// A store in the least image, whose disk fails at the write of a slot.
-fn store_that_stops(alloc: Global) -> Result<FailingStore, Fail> {
-    let image = image_of(alloc, &LEAST, b"")?;
+fn store_that_stops(rt: &impl Abort, alloc: Global) -> FailingStore {
+    let mut machine = Machine::new(alloc);
+    machine.format(rt, "1 1 ruler");
     let outside = Outside {
         disk_room: TILL_THE_SLOT,
         ..CALM
     };
-    let disk = disk_of(alloc, &image, &outside)?;
-    Ok(attached(alloc, disk)?)
+    let attached = Store::attach(alloc, disk_of(rt, alloc, machine.image(), &outside));
+    attached.ok().expect(rt, "a store")
 }
 
-/// The faults with which the store answers two commands, one behind the other, and how many writes were asked for.
-fn faults_of(mut store: FailingStore, commands: [&Command; 2]) -> ([Option<ApplyFault>; 2], u64) {
-    let faults = [
-        store.apply(commands[0]).err(),
-        store.apply(commands[1]).err(),
-    ];
-    (faults, store.into_disk().into_disk().write_count())
+/// The fault with which the store answers a command.
+fn fault_of(store: &mut FailingStore, command: &Command) -> Option<ApplyFault> {
+    store.apply(command).err()
 }
 
 #[test]
-fn a_store_stops_at_a_fault_behind_a_write(rt: HostRuntime) -> Result<(), Fail> {
-    let (make, list) = (parse_command(b"make /a")?, parse_command(b"list /")?);
-    let store = store_that_stops(rt.alloc())?;
+fn a_store_stops_at_a_fault_behind_a_write(rt: HostRuntime) {
+    let make = parse_command(b"make /a").ok().expect(&rt, "a command");
+    let list = parse_command(b"list /").ok().expect(&rt, "a command");
+    let mut store = store_that_stops(&rt, rt.alloc());
+    assert!(rt; fault_of(&mut store, &make) == Some(ApplyFault::Disk));
+    assert!(rt; fault_of(&mut store, &list) == Some(ApplyFault::Stopped));
     // A block, its mark, the flag, and the slot.
-    assert_eq!(rt;
-        faults_of(store, [&make, &list]),
-        ([Some(ApplyFault::Disk), Some(ApplyFault::Stopped)], 4)
-    );
-    Ok(())
+    assert!(rt; store.into_disk().into_disk().write_count() == 4);
 }

@@ -1,12 +1,13 @@
-//! What the tests share: calls of `top` in memory, the images that scripts leave, and which fact of a row does not hold.
+//! What the tests share: a machine in memory, on which `top` is called, and the fields of a row of a table.
 //!
-//! Only the functions here make disks, sources and sinks, and each holds few of them where a call may fail: the others are
-//! handed what they look at. And all use one kind of each, so that the program is proved and compiled for these alone.
+//! Tables are texts, each with rows parted by `#` and fields parted by `|`: a text is a constant by itself, and the proof
+//! of a function takes long for many constants. What a call comes to stays in the machine, so that nothing is handed out
+//! that owns memory.
 
 use disk_model::{FailingDisk, MemDisk, StopChoice};
 use script_lines::{MemSink, MemSource};
 use std::alloc::Global;
-use store_base::NoMemory;
+use std::process::Abort;
 use store_top::{Wanted, Words, top, wanted_len};
 
 /// A seed of zeros.
@@ -15,25 +16,13 @@ pub const ZEROS: &str = "0000000000000000000000000000000000000000000000000000000
 /// The seed that counts from 00 to 1f.
 pub const COUNTING: &str = "000102030405060708090a0b0c0d0e0f101112131415161718191a1b1c1d1e1f";
 
-/// The arguments of `format`: slots, height, draw and seed.
-pub type Format = [&'static str; 4];
-
-/// One slot of height 1, under `ruler`.
-pub const LEAST: Format = ["1", "1", "ruler", ZEROS];
-
-/// Four slots of height 1, under `ruler`.
-pub const FLAT: Format = ["4", "1", "ruler", ZEROS];
-
-/// Four slots of height 2, under `ruler`.
-pub const FOUR: Format = ["4", "2", "ruler", ZEROS];
-
 /// What `check` prints of an image whose recovered image is the layout of no tree.
 pub const DAMAGED: &str = "damaged\n";
 
 /// What `check` prints of a file that is no image.
 pub const NOT_IMAGE: &str = "not-image\n";
 
-/// What a call meets outside: how much room there is, and what fails.
+/// What a call meets outside: how much room there is, what fails, and what comes behind it.
 #[derive(Clone, Copy)]
 pub struct Outside {
     /// The room of the disk's record: a write takes 16 bytes and those that it writes, a sync 16.
@@ -46,6 +35,8 @@ pub struct Outside {
     /// The room of the sink, and the puts that fail.
     pub sink_room: usize,
     pub puts: &'static [u64],
+    /// What a crash behind the call makes of bytes that are not durable, where there is one.
+    pub crash: Option<StopChoice>,
 }
 
 /// There is room, and nothing fails.
@@ -56,227 +47,270 @@ pub const CALM: Outside = Outside {
     takes: &[],
     sink_room: 65_536,
     puts: &[],
+    crash: None,
 };
 
 /// The room of the record of a disk that is to fail, in bytes.
 const FAILING_ROOM: usize = 65_536;
 
+/// A disk that fails from call `from` on, and then a crash.
+pub fn crashing(from: u64, choice: StopChoice) -> Outside {
+    Outside {
+        disk_room: FAILING_ROOM,
+        from: Some(from),
+        crash: Some(choice),
+        ..CALM
+    }
+}
+
 /// What a crash may make of bytes that are not durable.
 pub static CHOICES: [StopChoice; 3] = [StopChoice::Old, StopChoice::New, StopChoice::Fill(0xA5)];
 
-/// How a call ended: its status, the lines carried out, the disk below the one that may fail, and the sink.
-#[derive(Drop)]
+/// How the last call ended: its status, the lines carried out, the writes and syncs that were made of the disk, and the
+/// bytes that were read.
+#[derive(Clone, Copy)]
 pub struct Ended {
     pub status: u8,
     pub done: u64,
-    pub disk: MemDisk,
-    sink: MemSink,
+    pub calls: [u64; 2],
+    pub fetched: u64,
 }
 
-impl Ended {
-    /// What was written.
-    pub fn written(&self) -> &[u8] {
-        self.sink.written()
-    }
-
-    /// The writes and syncs that were made of the disk.
-    pub fn calls(&self) -> [u64; 2] {
-        [self.disk.write_count(), self.disk.sync_count()]
-    }
-
-    /// The disk after a crash at this moment.
-    pub fn into_left(self, choice: StopChoice) -> MemDisk {
-        self.disk.stopped(choice)
-    }
-}
-
-/// Adds these words behind the others.
-fn add_words(words: &mut Words, texts: &[&str]) -> Result<(), NoMemory> {
-    for text in texts {
-        words.push(text)?;
-    }
-    Ok(())
+/// An image in memory, and how the last call of `top` on it ended.
+#[derive(Drop)]
+pub struct Machine {
+    alloc: Global,
+    /// The bytes of the image: those that the disk reads, or those that a crash left.
+    image: Vec<u8>,
+    /// What was written to the sink.
+    written: Vec<u8>,
+    pub ended: Ended,
 }
 
 /// These words.
-fn words_of(alloc: Global, texts: &[&str]) -> Result<Words, NoMemory> {
+fn words_of(rt: &impl Abort, alloc: Global, texts: &[&str]) -> Words {
     let mut words = Words::new(alloc);
-    add_words(&mut words, texts)?;
-    Ok(words)
+    for text in texts {
+        words.push(text).expect(rt, "memory");
+    }
+    words
 }
 
 /// The file that these words need.
-pub fn wanted_of(alloc: Global, texts: &[&str]) -> Result<Wanted, NoMemory> {
-    let words = words_of(alloc, texts)?;
-    wanted_len(&words)
+pub fn wanted_of(rt: &impl Abort, alloc: Global, texts: &[&str]) -> Wanted {
+    wanted_len(&words_of(rt, alloc, texts)).expect(rt, "memory")
+}
+
+/// A copy of the numbers.
+fn copied(rt: &impl Abort, alloc: Global, numbers: &[u64]) -> Vec<u64> {
+    numbers.to_vec(alloc).expect(rt, "memory")
+}
+
+/// A copy of the bytes.
+fn bytes_of(rt: &impl Abort, alloc: Global, bytes: &[u8]) -> Vec<u8> {
+    bytes.to_vec(alloc).expect(rt, "memory")
 }
 
 /// A source that gives the script.
-fn source_of(alloc: Global, script: &[u8], outside: &Outside) -> Result<MemSource, NoMemory> {
-    let pieces = Vec::from_slice(alloc, outside.pieces)?;
-    let takes = Vec::from_slice(alloc, outside.takes)?;
-    let bytes = Vec::from_slice(alloc, script)?;
-    Ok(MemSource::new(bytes, pieces, takes))
+fn source_of(rt: &impl Abort, alloc: Global, script: &[u8], outside: &Outside) -> MemSource {
+    let pieces = outside.pieces.to_vec(alloc).expect(rt, "memory");
+    let takes = copied(rt, alloc, outside.takes);
+    MemSource::new(bytes_of(rt, alloc, script), pieces, takes)
 }
 
 /// A sink to which nothing was written.
-fn sink_of(alloc: Global, outside: &Outside) -> Result<MemSink, NoMemory> {
-    let puts = Vec::from_slice(alloc, outside.puts)?;
-    MemSink::new(alloc, outside.sink_room, puts)
+fn sink_of(rt: &impl Abort, alloc: Global, outside: &Outside) -> MemSink {
+    let puts = copied(rt, alloc, outside.puts);
+    MemSink::new(alloc, outside.sink_room, puts).expect(rt, "memory")
 }
 
 /// A disk with these bytes.
 pub fn disk_of(
+    rt: &impl Abort,
     alloc: Global,
     bytes: &[u8],
     outside: &Outside,
-) -> Result<FailingDisk<MemDisk>, NoMemory> {
-    let disk = MemDisk::new(alloc, bytes, outside.disk_room)?;
-    Ok(FailingDisk::new(disk, Vec::new(alloc), outside.from))
+) -> FailingDisk<MemDisk> {
+    let disk = MemDisk::new(alloc, bytes, outside.disk_room).expect(rt, "memory");
+    FailingDisk::new(disk, Vec::new(alloc), outside.from)
 }
 
-/// How the call ends that these words make of this disk, source and sink.
-fn end_of(
-    alloc: Global,
-    words: &Words,
-    disk: FailingDisk<MemDisk>,
-    source: MemSource,
-    sink: MemSink,
-) -> Ended {
-    let left = top(alloc, words, disk, source, sink);
-    Ended {
-        status: left.status.code(),
-        done: left.done,
-        disk: left.disk.into_disk(),
-        sink: left.sink,
+impl Machine {
+    /// A machine whose image has no byte.
+    pub fn new(alloc: Global) -> Machine {
+        Machine {
+            alloc,
+            image: Vec::new(alloc),
+            written: Vec::new(alloc),
+            ended: Ended {
+                status: 0,
+                done: 0,
+                calls: [0; 2],
+                fetched: 0,
+            },
+        }
+    }
+
+    /// The bytes of the image.
+    pub fn image(&self) -> &[u8] {
+        &self.image
+    }
+
+    /// A copy of these.
+    pub fn copy(&self, rt: &impl Abort) -> Vec<u8> {
+        bytes_of(rt, self.alloc, &self.image)
+    }
+
+    /// What the last call wrote.
+    pub fn written(&self) -> &[u8] {
+        &self.written
+    }
+
+    /// Has these bytes as its image.
+    pub fn load(&mut self, rt: &impl Abort, bytes: &[u8]) {
+        self.image = bytes_of(rt, self.alloc, bytes);
+    }
+
+    /// Has so many zeros as its image.
+    pub fn clear(&mut self, rt: &impl Abort, len: usize) {
+        self.image = vec![in self.alloc; 0; len].expect(rt, "memory");
+    }
+
+    /// Puts a byte in its place, where there is one.
+    pub fn put(&mut self, at: usize, byte: u8) {
+        if let Some(place) = self.image.get_mut(at) {
+            *place = byte;
+        }
+    }
+
+    /// Keeps what the disk reads, or what a crash leaves of it.
+    fn keep(&mut self, rt: &impl Abort, disk: MemDisk, crash: Option<StopChoice>) {
+        self.ended.calls = [disk.write_count(), disk.sync_count()];
+        self.ended.fetched = disk.fetched();
+        match crash {
+            Some(choice) => self.load(rt, disk.stopped(choice).bytes()),
+            None => self.load(rt, disk.bytes()),
+        }
+    }
+
+    /// Calls `top` on the disk, and keeps how that ends.
+    fn end_of(
+        &mut self,
+        rt: &impl Abort,
+        words: &Words,
+        disk: FailingDisk<MemDisk>,
+        source: MemSource,
+        sink: MemSink,
+    ) -> MemDisk {
+        let left = top(self.alloc, words, disk, source, sink);
+        self.ended.status = left.status.code();
+        self.ended.done = left.done;
+        self.written = bytes_of(rt, self.alloc, left.sink.written());
+        left.disk.into_disk()
+    }
+
+    /// A call with these words, where the outside is so.
+    pub fn call_in(&mut self, rt: &impl Abort, texts: &[&str], script: &[u8], outside: &Outside) {
+        let words = words_of(rt, self.alloc, texts);
+        let disk = disk_of(rt, self.alloc, &self.image, outside);
+        let source = source_of(rt, self.alloc, script, outside);
+        let sink = sink_of(rt, self.alloc, outside);
+        let disk = self.end_of(rt, &words, disk, source, sink);
+        self.keep(rt, disk, outside.crash);
+    }
+
+    /// A call where nothing fails.
+    pub fn call(&mut self, rt: &impl Abort, texts: &[&str], script: &str) {
+        self.call_in(rt, texts, script.as_bytes(), &CALM);
+    }
+
+    /// Makes the image of the empty tree. The words are the arguments of `format`, where the seed is zeros, but for the word
+    /// `counting`.
+    pub fn format(&mut self, rt: &impl Abort, format: &str) {
+        let mut words = format.split_whitespace();
+        let [slots, height, draw] = [words.next(), words.next(), words.next()];
+        let seed = if words.next().is_some() {
+            COUNTING
+        } else {
+            ZEROS
+        };
+        let texts = [
+            "format",
+            slots.unwrap_or(""),
+            height.unwrap_or(""),
+            draw.unwrap_or(""),
+            seed,
+        ];
+        let len = match wanted_of(rt, self.alloc, &texts) {
+            Wanted::Fresh(len) => len as usize,
+            _ => 0,
+        };
+        self.clear(rt, len);
+        let outside = Outside {
+            disk_room: len.saturating_add(CALM.disk_room),
+            ..CALM
+        };
+        self.call_in(rt, &texts, b"", &outside);
+    }
+
+    /// Makes the image that the script leaves on that of the empty tree.
+    pub fn make(&mut self, rt: &impl Abort, format: &str, script: &str) {
+        self.format(rt, format);
+        self.call(rt, &["run"], script);
+    }
+
+    /// Whether the last call ended with this status behind so many lines, and wrote this.
+    pub fn is_ended(&self, status: u8, done: u64, written: &str) -> bool {
+        let Ended {
+            status: found,
+            done: made,
+            ..
+        } = self.ended;
+        found == status && made == done && self.written.as_slice() == written.as_bytes()
+    }
+
+    /// Looks whether `check` prints this of the image, and ends with its status.
+    pub fn is_reported(&mut self, rt: &impl Abort, report: &str) -> bool {
+        self.call(rt, &["check"], "");
+        self.is_ended(status_of(report), 1, report)
     }
 }
-
-/// A call with these words.
-fn call_with(
-    alloc: Global,
-    words: &Words,
-    bytes: &[u8],
-    script: &[u8],
-    outside: &Outside,
-) -> Result<Ended, NoMemory> {
-    let source = source_of(alloc, script, outside)?;
-    let sink = sink_of(alloc, outside)?;
-    let disk = disk_of(alloc, bytes, outside)?;
-    Ok(end_of(alloc, words, disk, source, sink))
-}
-
-/// A call whose words these texts are, on a disk with these bytes.
-pub fn call_in(
-    alloc: Global,
-    texts: &[&str],
-    bytes: &[u8],
-    script: &[u8],
-    outside: &Outside,
-) -> Result<Ended, NoMemory> {
-    let words = words_of(alloc, texts)?;
-    call_with(alloc, &words, bytes, script, outside)
-}
-
-/// A call where nothing fails.
-pub fn call(alloc: Global, texts: &[&str], bytes: &[u8], script: &[u8]) -> Result<Ended, NoMemory> {
-    call_in(alloc, texts, bytes, script, &CALM)
-}
-
-/// A call with this word and script on a disk with these bytes that fails from call `from` on.
-pub fn crash(
-    alloc: Global,
-    word: &str,
-    bytes: &[u8],
-    script: &[u8],
-    from: u64,
-) -> Result<Ended, NoMemory> {
-    let outside = Outside {
-        disk_room: FAILING_ROOM,
-        from: Some(from),
-        ..CALM
-    };
-    call_in(alloc, &[word], bytes, script, &outside)
-}
-
-/// As many zeros as the image has bytes that these words make; none where they make none.
-fn blank(alloc: Global, texts: &[&str]) -> Result<Vec<u8>, NoMemory> {
-    let len = match wanted_of(alloc, texts)? {
-        Wanted::Fresh(len) => len as usize,
-        _ => 0,
-    };
-    Ok(vec![in alloc; 0; len]?)
-}
-
-/// A call of `format` on this disk, with room for the whole image.
-fn format_on(alloc: Global, texts: &[&str], zeros: &[u8]) -> Result<Ended, NoMemory> {
-    let outside = Outside {
-        disk_room: zeros.len().saturating_add(CALM.disk_room),
-        ..CALM
-    };
-    call_in(alloc, texts, zeros, b"", &outside)
-}
-
-/// What the call leaves that makes the image of the empty tree.
-fn made(alloc: Global, format: &Format) -> Result<Ended, NoMemory> {
-    let [slots, height, draw, seed] = *format;
-    let texts = ["format", slots, height, draw, seed];
-    let zeros = blank(alloc, &texts)?;
-    format_on(alloc, &texts, &zeros)
-}
-
-/// The image that the script leaves on this one.
-fn image_after(alloc: Global, image: &[u8], script: &[u8]) -> Result<Vec<u8>, NoMemory> {
-    let ran = call(alloc, &["run"], image, script)?;
-    Ok(Vec::from_slice(alloc, ran.disk.bytes())?)
-}
-
-/// The image that the script leaves on that of the empty tree.
-pub fn image_of(alloc: Global, format: &Format, script: &[u8]) -> Result<Vec<u8>, NoMemory> {
-    let empty = made(alloc, format)?;
-    image_after(alloc, empty.disk.bytes(), script)
-}
-
-/// Whether the script, where there is one, leaves this image on that of the empty tree.
-pub fn is_left(
-    alloc: Global,
-    format: &Format,
-    script: Option<&str>,
-    image: &[u8],
-) -> Result<bool, NoMemory> {
-    let Some(script) = script else {
-        return Ok(true);
-    };
-    let left = image_of(alloc, format, script.as_bytes())?;
-    Ok(left.as_slice() == image)
-}
-
-/// What `check` prints where it finds no tree, and its status then.
-static REFUSALS: [(&str, u8); 2] = [(NOT_IMAGE, 7), (DAMAGED, 8)];
 
 /// The status with which `check` prints this.
 pub fn status_of(report: &str) -> u8 {
-    for &(text, status) in &REFUSALS {
-        if text == report {
-            return status;
-        }
+    match report {
+        NOT_IMAGE => 7,
+        DAMAGED => 8,
+        _ => 0,
     }
-    0
 }
 
-/// Whether `check` prints this of these bytes, and ends with its status.
-pub fn is_reported(alloc: Global, bytes: &[u8], report: &str) -> Result<bool, NoMemory> {
-    let checked = call(alloc, &["check"], bytes, b"")?;
-    let is_status = checked.status == status_of(report);
-    Ok(checked.written() == report.as_bytes() && is_status)
+/// Ends the test where this does not hold, and says of which row.
+pub fn expect(rt: &impl Abort, holds: bool, what: &str, row: &str) {
+    assert!(rt; holds, "{what} of {row}");
 }
 
-/// The name of the first of these facts that does not hold, and no text where all hold.
-pub fn first_false(facts: &[(&'static str, bool)]) -> &'static str {
-    for &(name, holds) in facts {
-        if !holds {
-            return name;
+/// The number that a text spells.
+pub fn number(rt: &impl Abort, text: &str) -> u64 {
+    text.parse::<u64>().expect(rt, "a number")
+}
+
+/// The numbers that a text spells, and zeros behind them.
+pub fn numbers(rt: &impl Abort, text: &str) -> [u64; 3] {
+    let mut numbers = [0; 3];
+    for (place, word) in numbers.iter_mut().zip(text.split_whitespace()) {
+        *place = number(rt, word);
+    }
+    numbers
+}
+
+/// The fields of a row, and no text for each that it does not have.
+pub fn fields(row: &str) -> [&str; 9] {
+    let mut fields = [""; 9];
+    for (at, field) in row.split('|').enumerate() {
+        if at < 9 {
+            fields[at] = field;
         }
     }
-    ""
+    fields
 }

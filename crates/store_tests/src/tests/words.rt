@@ -1,205 +1,187 @@
 //! Words of the command line: the file that they need, and how a call ends that refuses or wipes.
 
-use super::support::{
-    Ended, FOUR, Format, LEAST, NOT_IMAGE, ZEROS, call, first_false, image_of, is_reported,
-    wanted_of,
-};
+use super::support::{Machine, NOT_IMAGE, ZEROS, expect, fields, number, wanted_of};
 use std::alloc::Global;
-use std::test::Fail;
-use store_base::NoMemory;
+use std::process::Abort;
 use store_top::Wanted;
 
-/// A seed in capital letters, and one with a digit too many.
-const CAPITALS: &str = "FFFFFFFFFFFFFFFFFFFFFFFFFFFFFFFFFFFFFFFFFFFFFFFFFFFFFFFFFFFFFFFF";
+/// Words, parted by blanks, and the file that they need: none since they ask for nothing (`usage`), one that is there
+/// (`existing`), or one of so many bytes.
+static WANTED: &str = "\
+    run|existing#\
+    check|existing#\
+    scrub|existing#\
+    wipe|existing#\
+    run now|usage#\
+    Run|usage#\
+    format 1 1 ruler 0000000000000000000000000000000000000000000000000000000000000000|20480#\
+    format 4 2 sha256 0000000000000000000000000000000000000000000000000000000000000000|45056#\
+    format 16384 8 ruler FFFFFFFFFFFFFFFFFFFFFFFFFFFFFFFFFFFFFFFFFFFFFFFFFFFFFFFFFFFFFFFF|134246400#\
+    format 0 1 ruler 0000000000000000000000000000000000000000000000000000000000000000|usage#\
+    format 16385 1 ruler 0000000000000000000000000000000000000000000000000000000000000000|usage#\
+    format 4 0 ruler 0000000000000000000000000000000000000000000000000000000000000000|usage#\
+    format 4 9 ruler 0000000000000000000000000000000000000000000000000000000000000000|usage#\
+    format 04 1 ruler 0000000000000000000000000000000000000000000000000000000000000000|usage#\
+    format 4 1 sha1 0000000000000000000000000000000000000000000000000000000000000000|usage#\
+    format 4 1 ruler 00|usage#\
+    big 0 1|existing#\
+    big 4294967295 1000000|existing#\
+    big 4294967296 1|usage#\
+    big 00 1|usage#\
+    big 0 0|usage#\
+    big 0 1000001|usage#\
+    big 0|usage#\
+    Big 0 1|usage#\
+    format 4 1 ruler 00000000000000000000000000000000000000000000000000000000000000000|usage#\
+    format 4 1 ruler|usage#\
+    format 4 1 ruler 0000000000000000000000000000000000000000000000000000000000000000 now|usage#\
+    format|usage";
 
-const TOO_LONG: &str = "00000000000000000000000000000000000000000000000000000000000000000";
+/// The same for words that a parser of command lines might take for something. The first is one word with no letter.
+static STRAY: &str = "\
+    |usage#\
+    run |usage# run|usage#\
+    --help|usage#\
+    -h|usage#\
+    help|usage#\
+    help run|usage#\
+    run --help|usage#\
+    run -h|usage#\
+    --version|usage#\
+    -V|usage#\
+    -|usage#\
+    --|usage#\
+    -- run|usage#\
+    run --|usage#\
+    ru|usage#\
+    format -- 4 1 ruler 0000000000000000000000000000000000000000000000000000000000000000|usage#\
+    format -4 1 ruler 0000000000000000000000000000000000000000000000000000000000000000|usage#\
+    format +4 1 ruler 0000000000000000000000000000000000000000000000000000000000000000|usage#\
+    big 7 2000 now|usage";
 
-/// Words, and the file that they need.
-static WANTED: [(&[&str], Wanted); 29] = [
-    (&[], Wanted::Usage),
-    (&["run"], Wanted::Existing),
-    (&["check"], Wanted::Existing),
-    (&["scrub"], Wanted::Existing),
-    (&["wipe"], Wanted::Existing),
-    (&["run", "now"], Wanted::Usage),
-    (&["Run"], Wanted::Usage),
-    (&["format", "1", "1", "ruler", ZEROS], Wanted::Fresh(20_480)),
-    (
-        &["format", "4", "2", "sha256", ZEROS],
-        Wanted::Fresh(45_056),
-    ),
-    (
-        &["format", "16384", "8", "ruler", CAPITALS],
-        Wanted::Fresh(134_246_400),
-    ),
-    (&["format", "0", "1", "ruler", ZEROS], Wanted::Usage),
-    (&["format", "16385", "1", "ruler", ZEROS], Wanted::Usage),
-    (&["format", "4", "0", "ruler", ZEROS], Wanted::Usage),
-    (&["format", "4", "9", "ruler", ZEROS], Wanted::Usage),
-    (&["format", "04", "1", "ruler", ZEROS], Wanted::Usage),
-    (&["format", "4", "1", "sha1", ZEROS], Wanted::Usage),
-    (&["format", "4", "1", "ruler", "00"], Wanted::Usage),
-    (&["big", "0", "1"], Wanted::Existing),
-    (&["big", "4294967295", "1000000"], Wanted::Existing),
-    (&["big", "4294967296", "1"], Wanted::Usage),
-    (&["big", "00", "1"], Wanted::Usage),
-    (&["big", "0", "0"], Wanted::Usage),
-    (&["big", "0", "1000001"], Wanted::Usage),
-    (&["big", "0"], Wanted::Usage),
-    (&["Big", "0", "1"], Wanted::Usage),
-    (&["format", "4", "1", "ruler", TOO_LONG], Wanted::Usage),
-    (&["format", "4", "1", "ruler"], Wanted::Usage),
-    (&["format", "4", "1", "ruler", ZEROS, "now"], Wanted::Usage),
-    (&["format"], Wanted::Usage),
-];
-
-/// Words that a parser of command lines might take for something, and that ask for nothing here.
-static STRAY: [&[&str]; 20] = [
-    &[""],
-    &["run", ""],
-    &["", "run"],
-    &["--help"],
-    &["-h"],
-    &["help"],
-    &["help", "run"],
-    &["run", "--help"],
-    &["run", "-h"],
-    &["--version"],
-    &["-V"],
-    &["-"],
-    &["--"],
-    &["--", "run"],
-    &["run", "--"],
-    &["ru"],
-    &["format", "--", "4", "1", "ruler", ZEROS],
-    &["format", "-4", "1", "ruler", ZEROS],
-    &["format", "+4", "1", "ruler", ZEROS],
-    &["big", "7", "2000", "now"],
-];
-
-/// Whether a call with these words is refused before anything is done.
-fn is_refused(alloc: Global, texts: &[&str]) -> Result<bool, NoMemory> {
-    let refused = call(alloc, texts, b"", b"make /a\n")?;
-    Ok(refused.status == 2 && refused.done == 0)
-}
-
-/// Whether the words need this file, and end the call with it where none will do.
-fn tell(alloc: Global, texts: &[&str], wanted: Wanted) -> Result<bool, NoMemory> {
-    let is_wanted = wanted_of(alloc, texts)? == wanted;
-    Ok(is_wanted && is_refused(alloc, texts)? == (wanted == Wanted::Usage))
-}
-
-#[test]
-fn words_tell_the_file_that_they_need(rt: HostRuntime) -> Result<(), Fail> {
-    for (texts, wanted) in &WANTED {
-        let holds = tell(rt.alloc(), texts, *wanted)?;
-        assert!(rt; holds, "{texts:?}");
+/// The file that the word for it names.
+fn file_of(rt: &impl Abort, word: &str) -> Wanted {
+    match word {
+        "usage" => Wanted::Usage,
+        "existing" => Wanted::Existing,
+        len => Wanted::Fresh(number(rt, len)),
     }
-    Ok(())
 }
 
-#[test]
-fn stray_words_ask_for_nothing(rt: HostRuntime) -> Result<(), Fail> {
-    for texts in &STRAY {
-        let holds = tell(rt.alloc(), texts, Wanted::Usage)?;
-        assert!(rt; holds, "{texts:?}");
+/// The words of a text.
+fn texts_of<'a>(rt: &impl Abort, alloc: Global, text: &'a str) -> Vec<&'a str> {
+    let mut texts = Vec::new(alloc);
+    for word in text.split(' ') {
+        texts.push(word).expect(rt, "memory");
     }
-    Ok(())
+    texts
 }
 
-#[test]
-fn there_is_memory_for_a_thousand_words(rt: HostRuntime) -> Result<(), Fail> {
-    let texts = vec![in rt.alloc(); "word"; 1000]?;
-    let wanted = wanted_of(rt.alloc(), &texts)?;
-    assert_eq!(rt; wanted, Wanted::Usage);
-    Ok(())
-}
-
-/// What of this formatting of a disk with these bytes, as the least image, is not as it is to be, if anything is.
-fn wrong_in_end(made: &Ended, bytes: &[u8], status: u8) -> &'static str {
-    let is_made = status == 0;
-    first_false(&[
-        ("status", made.status == status),
-        ("done", made.done == u64::from(is_made)),
-        ("bytes", (made.disk.bytes() != bytes) == is_made),
-        ("writes", (made.disk.write_count() != 0) == is_made),
-    ])
-}
-
-/// What of formatting a disk with these bytes as the least image does not end so, if anything does not.
-fn wrong_in_format(alloc: Global, bytes: &[u8], status: u8) -> Result<&'static str, NoMemory> {
-    let made = call(alloc, &["format", "1", "1", "ruler", ZEROS], bytes, b"")?;
-    Ok(wrong_in_end(&made, bytes, status))
-}
-
-/// Images by their scripts, and the status of formatting them as the least image: an image is refused by its first byte, and
-/// one of another length by the length.
-static REFUSED: [(Format, &[u8], u8); 2] = [(LEAST, b"make /a\n", 10), (FOUR, b"", 11)];
-
-/// What of formatting the image of this script does not end so, if anything does not.
-fn wrong_over_image(
+/// Looks whether the words need this file, and whether a call with them on a disk of no byte is refused before anything is
+/// done just where no file will do.
+fn expect_file(
+    rt: &impl Abort,
     alloc: Global,
-    format: &Format,
-    script: &[u8],
-    status: u8,
-) -> Result<&'static str, NoMemory> {
-    let image = image_of(alloc, format, script)?;
-    wrong_in_format(alloc, &image, status)
+    machine: &mut Machine,
+    texts: &[&str],
+    wanted: Wanted,
+    row: &str,
+) {
+    expect(rt, wanted_of(rt, alloc, texts) == wanted, "file", row);
+    machine.clear(rt, 0);
+    machine.call(rt, texts, "make /a\n");
+    let ended = machine.ended;
+    let is_refused = ended.status == 2 && ended.done == 0;
+    expect(rt, is_refused == (wanted == Wanted::Usage), "status", row);
 }
 
-/// What of formatting zeros does not end so, if anything does not.
-fn wrong_over_zeros(alloc: Global) -> Result<&'static str, NoMemory> {
-    let zeros = vec![in alloc; 0; 20_480]?;
-    wrong_in_format(alloc, &zeros, 0)
+/// Looks whether the words of the row need the file that it names.
+fn expect_row(rt: &impl Abort, alloc: Global, machine: &mut Machine, row: &str) {
+    let [text, word, ..] = fields(row);
+    expect_file(
+        rt,
+        alloc,
+        machine,
+        &texts_of(rt, alloc, text),
+        file_of(rt, word),
+        row,
+    );
 }
 
 #[test]
-fn format_takes_blank_disks_of_the_right_length(rt: HostRuntime) -> Result<(), Fail> {
-    let wrong = wrong_over_zeros(rt.alloc())?;
-    assert!(rt; wrong.is_empty(), "{wrong} of zeros");
-    for (format, script, status) in &REFUSED {
-        let wrong = wrong_over_image(rt.alloc(), format, script, *status)?;
-        assert!(rt; wrong.is_empty(), "{wrong} of {status}");
+fn words_tell_the_file_that_they_need(rt: HostRuntime) {
+    let mut machine = Machine::new(rt.alloc());
+    expect_file(
+        &rt,
+        rt.alloc(),
+        &mut machine,
+        &[],
+        Wanted::Usage,
+        "no words",
+    );
+    for table in [WANTED, STRAY] {
+        for row in table.split('#') {
+            expect_row(&rt, rt.alloc(), &mut machine, row);
+        }
     }
-    Ok(())
 }
-
-/// What of this wipe is not as it is to be, if anything is: it leaves zeros, and no image, by so many writes and syncs.
-fn wrong_in_wiped(alloc: Global, wiped: &Ended, calls: [u64; 2]) -> Result<&'static str, NoMemory> {
-    let is_reported = is_reported(alloc, wiped.disk.bytes(), NOT_IMAGE)?;
-    let is_zero = wiped.disk.bytes().iter().all(|byte| *byte == 0);
-    Ok(first_false(&[
-        ("status", wiped.status == 0),
-        ("done", wiped.done == 1),
-        ("calls", wiped.calls() == calls),
-        ("bytes", is_zero),
-        ("report", is_reported),
-    ]))
-}
-
-/// What of a wipe of these bytes is not as it is to be, if anything is.
-fn wrong_in_wipe(alloc: Global, bytes: &[u8], calls: [u64; 2]) -> Result<&'static str, NoMemory> {
-    let wiped = call(alloc, &["wipe"], bytes, b"")?;
-    wrong_in_wiped(alloc, &wiped, calls)
-}
-
-/// What of a wipe of the image of one directory is not as it is to be, if anything is.
-fn wrong_in_wiped_image(alloc: Global) -> Result<&'static str, NoMemory> {
-    let image = image_of(alloc, &LEAST, b"make /a\n")?;
-    // Byte 0 and a sync, the blocks and a sync.
-    wrong_in_wipe(alloc, &image, [6, 2])
-}
-
-/// Bytes of no image, and the writes and syncs of their wipe: no call where there is no byte.
-static NO_IMAGES: [(&[u8], [u64; 2]); 2] = [(b"no image", [2, 2]), (b"", [0, 0])];
 
 #[test]
-fn wipe_leaves_zeros(rt: HostRuntime) -> Result<(), Fail> {
-    let wrong = wrong_in_wiped_image(rt.alloc())?;
-    assert!(rt; wrong.is_empty(), "{wrong} of an image");
-    for (bytes, calls) in &NO_IMAGES {
-        let wrong = wrong_in_wipe(rt.alloc(), bytes, *calls)?;
-        assert!(rt; wrong.is_empty(), "{wrong} of {} bytes", bytes.len());
-    }
-    Ok(())
+fn there_is_memory_for_a_thousand_words(rt: HostRuntime) {
+    let texts = vec![in rt.alloc(); "word"; 1000].expect(&rt, "memory");
+    assert!(rt; wanted_of(&rt, rt.alloc(), &texts) == Wanted::Usage);
+}
+
+/// Looks whether formatting the disk as the least image ends so: it makes one, or changes nothing.
+fn expect_format(rt: &impl Abort, machine: &mut Machine, status: u8, row: &str) {
+    let before = machine.copy(rt);
+    machine.call(rt, &["format", "1", "1", "ruler", ZEROS], "");
+    let is_made = status == 0;
+    expect(
+        rt,
+        machine.is_ended(status, u64::from(is_made), ""),
+        "end",
+        row,
+    );
+    let is_changed = machine.image() != before.as_slice();
+    let is_written = machine.ended.calls[0] != 0;
+    expect(
+        rt,
+        is_changed == is_made && is_written == is_made,
+        "bytes",
+        row,
+    );
+}
+
+// An image is refused by its first byte, and one of another length by the length.
+#[test]
+fn format_takes_blank_disks_of_the_right_length(rt: HostRuntime) {
+    let mut machine = Machine::new(rt.alloc());
+    machine.clear(&rt, 20_480);
+    expect_format(&rt, &mut machine, 0, "zeros");
+    machine.make(&rt, "1 1 ruler", "make /a\n");
+    expect_format(&rt, &mut machine, 10, "an image");
+    machine.format(&rt, "4 2 ruler");
+    expect_format(&rt, &mut machine, 11, "an image of four slots");
+}
+
+/// Looks whether a wipe leaves zeros, and no image, by so many writes and syncs.
+fn expect_wiped(rt: &impl Abort, machine: &mut Machine, calls: [u64; 2], row: &str) {
+    machine.call(rt, &["wipe"], "");
+    let is_zero = machine.image().iter().all(|byte| *byte == 0);
+    expect(rt, machine.is_ended(0, 1, "") && is_zero, "wipe", row);
+    expect(rt, machine.ended.calls == calls, "calls", row);
+    expect(rt, machine.is_reported(rt, NOT_IMAGE), "report", row);
+}
+
+#[test]
+fn wipe_leaves_zeros(rt: HostRuntime) {
+    let mut machine = Machine::new(rt.alloc());
+    machine.make(&rt, "1 1 ruler", "make /a\n");
+    // Byte 0 and a sync, the blocks and a sync; and no call where there is no byte.
+    expect_wiped(&rt, &mut machine, [6, 2], "an image");
+    machine.load(&rt, b"no image");
+    expect_wiped(&rt, &mut machine, [2, 2], "no image");
+    machine.clear(&rt, 0);
+    expect_wiped(&rt, &mut machine, [0, 0], "no byte");
 }

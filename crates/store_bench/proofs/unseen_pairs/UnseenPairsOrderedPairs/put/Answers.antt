@@ -1,6 +1,6 @@
 use Rattle.std.proofs.Common.{length, ap, arith}
 use Rattle.file_blocks.proofs.FileLemmas.{length-put_le}
-use Rattle.layer_bench.proofs.unseen_pairs.UnseenPairsOrderedPairs.put.Goals as goal
+use Rattle.store_bench.proofs.unseen_pairs.UnseenPairsOrderedPairs.put.Goals as goal
 
 -- a put adds a pair at most
 pub invariant_of-self-2 : goal.invariant_of-self-2

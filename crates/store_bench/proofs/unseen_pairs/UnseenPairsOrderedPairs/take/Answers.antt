@@ -3,7 +3,7 @@ use Rattle.std.specs.Ordering.{eq_by_cmp}
 use Rattle.store_model.specs.Paths.{key_cmp}
 use Rattle.store_model.specs.Pairs.{Pair}
 use Rattle.skip_levels.specs.PairsState.{without}
-use Rattle.layer_bench.proofs.unseen_pairs.UnseenPairsOrderedPairs.take.Goals as goal
+use Rattle.store_bench.proofs.unseen_pairs.UnseenPairsOrderedPairs.take.Goals as goal
 
 -- a list without a key is no longer than it was
 length-without_le : (key : List ℕ) (s : List Pair) → length (without key s) ≤ length s

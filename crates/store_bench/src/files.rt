@@ -1,8 +1,10 @@
 //! How long calls on files and directories take over a list in memory.
 
+use crate::no_memory;
 use crate::paths::{path_of, scattered};
+use crate::ratio::Ratio;
+use crate::stopwatch::Stopwatch;
 use crate::unseen_pairs::UnseenPairs;
-use crate::{Ratio, Stopwatch, no_memory};
 use dir_tree::{list, make};
 use file_blocks::{read_at, write_at};
 use path_keys::Path;

@@ -1,7 +1,8 @@
 //! How long calls on a skip list take.
 
 use crate::paths::{path_of, scattered};
-use crate::{Ratio, Stopwatch};
+use crate::ratio::Ratio;
+use crate::stopwatch::Stopwatch;
 use base_tests::CountedPages;
 use seeded_draw::AnyDraw;
 use skip_levels::{OrderedPairs, SkipList};

@@ -1,3 +1,55 @@
+//! The help of the command line and of each word, as `clap` renders it from the one definition of the command line.
+
+use super::support::expect;
+use clap::Command;
+use std::alloc::Global;
+use std::process::Abort;
+use store_words::{Word, command, word_command};
+
+/// What stands before the words of a command line.
+const PROGRAM: &str = "./hstore IMAGE";
+
+/// The words, in the order of the help.
+static WORDS: [Word; 6] = [
+    Word::Format,
+    Word::Run,
+    Word::Check,
+    Word::Scrub,
+    Word::Wipe,
+    Word::Big,
+];
+
+/// Looks whether the help of a command, which is called so, is this part of the text, behind the command's name.
+fn expect_part(rt: &impl Abort, alloc: Global, command: Command<'_>, called: &str, part: &str) {
+    let mut command = command.bin_name(called).expect(rt, "memory");
+    let help = command.render_help().expect(rt, "memory");
+    let name = command.get_name();
+    let text = format!(in alloc; "{name}\n{}", help.as_str()).expect(rt, "memory");
+    expect(rt, text.as_str() == part, "help", name);
+}
+
+/// Looks whether the help of a word is this part of the text.
+fn expect_word(rt: &impl Abort, alloc: Global, word: Word, part: &str) {
+    let command = word_command(alloc, word).expect(rt, "memory");
+    let called = format!(in alloc; "{PROGRAM} {}", command.get_name()).expect(rt, "memory");
+    expect_part(rt, alloc, command, called.as_str(), part);
+}
+
+#[test]
+fn help_has_its_text(rt: HostRuntime) {
+    let mut parts = TEXT.split("== ");
+    assert!(rt; parts.next() == Some(""));
+    let line = command(rt.alloc()).expect(&rt, "memory");
+    expect_part(&rt, rt.alloc(), line, PROGRAM, parts.next().unwrap_or(""));
+    for word in &WORDS {
+        expect_word(&rt, rt.alloc(), *word, parts.next().unwrap_or(""));
+    }
+    assert!(rt; parts.next().is_none());
+}
+
+/// The help: each part behind a line with the name of the command whose help it is, first that of the whole. `bin/texts` reads
+/// it from here, from the first such line on to the end of this file.
+static TEXT: &str = "\
 == hstore
 Keeps directories and files in one file, the image. Its bytes tell what it holds now, and nothing of
 what it held before or of how it came to be.
@@ -64,3 +116,4 @@ Arguments:
 
 It prints four lines at the end: `ok N` and `no N`, how many commands were carried out and how many
 were refused, `space USED SLOTS`, and `digest HEX`, the SHA-256 of the image.
+";
