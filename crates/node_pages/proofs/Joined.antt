@@ -1,12 +1,16 @@
 -- The cells of pages, one after the other.
-use Rattle.std.proofs.Common.{◌≡◌, ℕ, zero, suc, ◌+◌, List, [], ◌∷◌, ◌++◌, map, take, cond, ◌==◌, Some, refl, ap, ◌∙◌, arith}
+use Rattle.std.proofs.Common.{◌≡◌, ℕ, zero, suc, ◌+◌, ◌<◌, List, [], ◌∷◌, ◌++◌, length, get_or, map, take, cond, ◌==◌, Some, refl, sym, ap, ◌∙◌, arith}
 use Rattle.std.specs.List.{filter, flat_map, enumerate_from, slice_get}
-use Rattle.std.proofs.lemmas.Bool.{eq-eqb}
+use Rattle.std.proofs.lemmas.Bool.{eq-eqb, ne_eqb}
+use Rattle.std.proofs.lemmas.List.{append-nil, take_all, take_more}
+use Rattle.std.proofs.lemmas.List.Elements.{filter-append}
+use Rattle.std.proofs.lemmas.Grind.{flat_map-append}
 use Rattle.store_model.specs.Lists.{runs}
 use Rattle.store_model.specs.Labels.{Lead}
 use Rattle.store_model.specs.Pages.{Cell, Page, page_room, group_pages}
 use Rattle.store_model.proofs.ListsLemmasCuts.{flat_map-map, flat_map-enumerate_from, flat_map-runs}
 use Rattle.store_model.proofs.PagesLemmas.{some_room}
+use Rattle.node_pages.specs.Cells.{CellList}
 use Rattle.node_pages.specs.Groups.{page_of_run}
 
 -- one element more
@@ -34,3 +38,26 @@ of_level level lead (run ∷ runs) =
 pub group_of_level : (level : ℕ) (lead : Lead) (cells : List Cell) → filter (λ page. page.label.level == level) (group_pages level lead cells) ≡ group_pages level lead cells
 unfolding group_pages
 group_of_level level lead cells = of_level level lead (enumerate_from 0 (runs (page_room level) cells))
+
+-- The cells of the first pages that are of the level, with one page more.
+abbrev on_level : ℕ → List Page → List Cell
+on_level level pages = flat_map (λ page. page.cells) (filter (λ page. page.label.level == level) pages)
+
+more_on_level : (level : ℕ) (pages : List Page) (i : ℕ) (page : Page) → i < length pages → page ≡ get_or pages i page → on_level level (take (i + 1) pages) ≡ on_level level (take i pages) ++ on_level level (page ∷ [])
+more_on_level level pages i page low is =
+    ap (on_level level) (take_more pages i page low ∙ ap (λ p. take i pages ++ p ∷ []) (sym is)) ∙ ap (flat_map (λ page. page.cells)) (filter-append (λ page. page.label.level == level) (take i pages) (page ∷ []))
+    ∙ flat_map-append (λ page. page.cells) (filter (λ page. page.label.level == level) (take i pages)) (filter (λ page. page.label.level == level) (page ∷ []))
+
+module _ (level : ℕ) (pages : List Page) (i : ℕ) (page : Page) (low : i < length pages) (is : page ≡ get_or pages i page) where
+  pub joined_page : (before after : CellList) (count : ℕ) → page.label.level ≡ level → count ≡ length page.cells → before ≡ record { level = level; cells = on_level level (take i pages) }
+      → after ≡ record before { cells = before.cells ++ take count page.cells } → after ≡ record { level = level; cells = on_level level (take (i + 1) pages) }
+  joined_page before after count here all so_far then =
+      let one : take count page.cells ≡ on_level level (page ∷ []) =
+      take_all count page.cells (omega (arith, all)) ∙ sym (ap (λ b. flat_map (λ page. page.cells) (cond b (page ∷ []) [])) (eq-eqb page.label.level level here) ∙ append-nil page.cells) in
+      then ∙ ap (λ (l : CellList). record l { cells = l.cells ++ take count page.cells }) so_far
+      ∙ ap (λ (cs : List Cell). record { level = level; cells = cs }) (ap (λ cs. on_level level (take i pages) ++ cs) one ∙ sym (more_on_level level pages i page low is))
+
+  pub passed_page : (before : CellList) → (page.label.level ≡ level → ⊥) → before ≡ record { level = level; cells = on_level level (take i pages) } → before ≡ record { level = level; cells = on_level level (take (i + 1) pages) }
+  passed_page before other so_far =
+      let none : on_level level (page ∷ []) ≡ [] = ap (λ b. flat_map (λ page. page.cells) (cond b (page ∷ []) [])) (ne_eqb page.label.level level other) in
+      so_far ∙ ap (λ (cs : List Cell). record { level = level; cells = cs }) (sym (more_on_level level pages i page low is ∙ ap (λ cs. on_level level (take i pages) ++ cs) none ∙ append-nil (on_level level (take i pages))))

@@ -10,7 +10,7 @@ ghost use Rattle.store_model.specs.Images.{cell_bytes, value_bytes};
 ghost use Rattle.node_pages.specs.Cells as cells;
 
 use crate::cell::Cell;
-use store_base::{Key, NoMemory, Value};
+use store_base::{Key, NoMemory, Value, byte_order};
 
 /// The bytes of a key.
 pub const KEY_LEN: usize = 124;
@@ -61,7 +61,7 @@ fn is_cell(level: u8, bytes: &[u8]) -> bool
 fn is_below(key: &[u8], other: &[u8]) -> bool
     ensures { IsTrue result ↔ (key_cmp key.now other.now ≡ Less) }
 {
-    key.cmp(other).is_lt()
+    byte_order(key, other).is_lt()
 }
 
 /// Whether the bytes begin with so many cells of the level, with keys that strictly rise.

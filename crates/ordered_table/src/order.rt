@@ -4,7 +4,7 @@ ghost use Rattle.std.specs.Prelude.{◌<◌};
 ghost use Rattle.ordered_table.specs.Tables.{Orders, TellsOrder};
 
 use std::cmp::Ordering;
-use store_base::{BLOCK, Fault, ReadSlots, Slot};
+use store_base::{BLOCK, Fault, ReadSlots, Slot, byte_order};
 
 /// Where the bytes of the label begin in the slot of a page, and where they end.
 const LABEL_AT: usize = 1;
@@ -19,7 +19,7 @@ pub fn order_of(slot: &Slot, wanted: &[u8]) -> Option<Ordering>
     if slot[0] != 1 {
         return None;
     }
-    Some(slot[LABEL_AT..LABEL_END].cmp(wanted))
+    Some(byte_order(&slot[LABEL_AT..LABEL_END], wanted))
 }
 
 /// Slots whose labels can be compared.

@@ -7,6 +7,7 @@ ghost use Rattle.std.specs.Cmp.Lexicographic.{pointwise, nat_list_eq_equiv, nat_
 ghost use Rattle.store_model.specs.Paths.{key_cmp};
 ghost use Rattle.store_base.specs.Keys.{IsKey};
 
+use crate::order::byte_order;
 use std::cmp::Ordering;
 use std::marker::Model;
 
@@ -57,7 +58,7 @@ impl PartialEq for Key {
         ensures value { result ≡ pointwise nat_eq self.now other.now }
         ensures same { IsTrue result ↔ (self.now ≡ other.now) }
     {
-        self.bytes == other.bytes
+        self.cmp(other).is_eq()
     }
 }
 
@@ -88,6 +89,6 @@ impl Ord for Key {
         ensures value { result ≡ key_cmp self.now other.now }
         ensures valid { IsKey self.now × IsKey other.now }
     {
-        self.bytes.cmp(&other.bytes)
+        byte_order(&self.bytes, &other.bytes)
     }
 }

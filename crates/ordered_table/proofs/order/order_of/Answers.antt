@@ -16,5 +16,5 @@ returns c = record {
   free = λ free.
       let first : slice_index c.args.slot.now 0 ≡ 0 = ap (λ (xs : List ℕ). slice_index xs 0) free ∙ get_or-replicate {A = ℕ} 4096 0 0 0 (omega arith) in
       absurd (omega (arith, first, c.if-slot-ne1.false));
-  page = λ page is spells. ap Some (c.cmp.ensures ∙ ap (λ (bytes : List ℕ). slice_cmp nat_cmp bytes c.args.wanted.now) (sym (shown page c.args.slot.now is (sym spells)).label_bytes_are));
+  page = λ page is spells. ap Some (c.byte_order.ensures ∙ ap (λ (bytes : List ℕ). slice_cmp nat_cmp bytes c.args.wanted.now) (sym (shown page c.args.slot.now is (sym spells)).label_bytes_are));
 }
