@@ -1,6 +1,6 @@
 -- What the calls of a disk in memory leave is what the trait says of a read, a write and a sync.
-use Rattle.std.proofs.Common.{◌≡◌, ◌⊎◌, ℕ, ◌+◌, ◌-◌, ◌^◌, ◌<◌, ◌≤◌, List, ◌∷◌, ◌++◌, length, take, drop, slice_index, refl, sym, ◌∙◌, ap, subst, inl, inr, ⊎_elim, arith, Ok, Err, length-take, length-drop, length-append, get_or-take, get_or-drop}
-use Rattle.std.proofs.lemmas.Bool.{cases_lt}
+use Rattle.std.proofs.Common.{true, false, ◌≡◌, ◌⊎◌, ℕ, ◌+◌, ◌-◌, ◌^◌, ◌<◌, ◌≤◌, List, ◌∷◌, ◌++◌, length, take, drop, slice_index, refl, sym, ◌∙◌, ap, subst, inl, inr, ⊎_elim, arith, Ok, Err, length-take, length-drop, length-append, get_or-take, get_or-drop}
+use Rattle.std.proofs.lemmas.Bool.{cases_lt, false≢true}
 use Rattle.std.proofs.lemmas.List.{ext_get_or, take_at, drop_at}
 use Rattle.disk_model.specs.declared.record.Call.{Call}
 use Rattle.disk_model.specs.declared.record.Call.TheVariants.{Write, Sync}
@@ -260,6 +260,22 @@ pub IsConsistent-written_as : (memory : Memory) (at : ℕ) (written_bytes bytes 
 IsConsistent-written_as memory at written_bytes bytes calls replaced writes calls_capacity replaced_capacity calls_capacity_now replaced_capacity_now within same_bytes same_calls same_replaced room calls_le replaced_le kept =
     let done = IsConsistent-written memory at written_bytes within calls_capacity replaced_capacity calls_capacity_now replaced_capacity_now room calls_le replaced_le kept in
     rw (same_bytes, same_calls, same_replaced) (record { synced = done.synced; within = done.within; fits = done.fits; calls_fit = done.calls_fit; replaced_fit = done.replaced_fit })
+
+pub IsConsistent-flushed_as : (memory : Memory) (synced : List ℕ) (calls : List Call) (syncs : ℕ) (calls_capacity replaced_capacity calls_capacity_now : ℕ) → synced ≡ memory.bytes → calls ≡ Sync ∷ memory.calls → 16 ≤ room_left memory
+    → calls_capacity ≤ calls_capacity_now → IsConsistent memory calls_capacity replaced_capacity → IsConsistent (record memory { synced = synced; calls = calls; syncs = syncs }) calls_capacity_now replaced_capacity
+IsConsistent-flushed_as memory synced calls syncs calls_capacity replaced_capacity calls_capacity_now same_synced same_calls room calls_le kept =
+    rw (same_synced, same_calls) (record { synced = record { size = refl; kept = λ place none. refl }; within = kept.within; fits = omega (arith, kept.fits); calls_fit = omega (arith, kept.calls_fit); replaced_fit = kept.replaced_fit })
+
+-- and where only the counts are others
+pub IsConsistent-counted : (memory : Memory) (faults writes syncs : ℕ) (calls_capacity replaced_capacity : ℕ) → IsConsistent memory calls_capacity replaced_capacity → IsConsistent (record memory { faults = faults; writes = writes; syncs = syncs }) calls_capacity replaced_capacity
+IsConsistent-counted memory faults writes syncs calls_capacity replaced_capacity kept = record { synced = kept.synced; within = kept.within; fits = kept.fits; calls_fit = kept.calls_fit; replaced_fit = kept.replaced_fit }
+
+-- whether the room suffices, told by the answer
+pub full_told : (free room need : ℕ) → free ≡ room → need ≤ free → (false ≡ true → room < need) × (room < need → false ≡ true)
+full_told free room need is enough = (λ full. absurd (false≢true full), λ few. absurd (omega arith))
+
+pub room_for : (free n : ℕ) → 16 ≤ free → n ≤ free - 16 → n + 16 ≤ free
+room_for free n some enough = omega arith
 
 pub IsSync-flushed_as : {T E : Type 0} (memory : Memory) (synced : List ℕ) (calls : List Call) (syncs : ℕ) (value : T) → calls ≡ Sync ∷ memory.calls → syncs ≡ raised memory.syncs → CountsFit memory
     → IsSync {T = T} {E = E} (memory_state memory) (memory_state (record memory { synced = synced; calls = calls; syncs = syncs })) (Ok value)

@@ -57,17 +57,25 @@ impl<D: Disk> FailingDisk<D> {
         ensures answer { result ≡ will_fail self.old }
         ensures after { self.new ≡ record self.old { next = raised self.old.next; faults = if result then raised self.old.faults else self.old.faults } }
     {
-        let number = self.next;
-        self.next = number.saturating_add(1);
-        let fails = self.calls.contains(&number)
-            || match self.from {
-                Some(first) => first <= number,
-                None => false,
-            };
+        let fails = self.fails_next();
+        self.next = self.next.saturating_add(1);
         if fails {
             self.faults = self.faults.saturating_add(1);
         }
         fails
+    }
+
+    /// Whether the next call is to fail.
+    fn fails_next(&self) -> bool
+        ensures { result ≡ will_fail self.now }
+    {
+        if self.calls.contains(&self.next) {
+            return true;
+        }
+        match self.from {
+            Some(first) => first <= self.next,
+            None => false,
+        }
     }
 }
 

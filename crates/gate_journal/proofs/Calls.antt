@@ -173,6 +173,14 @@ Makes-then old mid new (Err error) w s v t before then = record {
   sync_limit = omega (arith, before.sync_count, then.sync_limit);
 }
 
+-- calls behind others that only read
+pub Makes-behind : {T E : Type 0} (old mid new : DiskState) (result : Result T E) (w s : ℕ) → ReadsOnly old mid → Makes w s mid new result → Makes w s old new result
+Makes-behind old mid new result w s reads makes = Makes-as old new result (0 + w) (0 + s) w s (omega arith) (omega arith) (Makes-then old mid new result 0 0 w s (Made-reads old mid reads) makes)
+
+-- a value in place of another
+pub Makes-answered : {T E U F : Type 0} (old new : DiskState) (value : U) (other : T) (w s : ℕ) → Makes {E = F} w s old new (Ok value) → Makes {E = E} w s old new (Ok other)
+Makes-answered old new value other w s makes = record { write_count = makes.write_count; sync_count = makes.sync_count; write_limit = makes.write_limit; sync_limit = makes.sync_limit }
+
 -- a fault that is handed on, where there may have been more writes and syncs
 pub Makes-failed : {T E U F : Type 0} (old new : DiskState) (error : F) (other : E) (w s v t : ℕ) → w ≤ v → s ≤ t → Makes {T = U} w s old new (Err error) → Makes {T = T} v t old new (Err other)
 Makes-failed old new error other w s v t writes syncs makes = record {

@@ -1,7 +1,9 @@
 -- The images on the way of a format.
-use Rattle.std.proofs.Common.{◌≡◌, ℕ, zero, suc, ◌+◌, ◌-◌, ◌*◌, ◌<◌, ◌≤◌, List, [], ◌∷◌, ◌++◌, length, take, drop, replicate, slice_index, Option, None, refl, sym, ap, ◌∙◌, inl, inr, arith, length-append, length-take, length-drop, append_assoc, get_or-take, get_or-drop, Result, Ok, OnOk, IsErr}
+use Rattle.std.proofs.Common.{◌≡◌, ℕ, zero, suc, ◌+◌, ◌-◌, ◌*◌, ◌<◌, ◌≤◌, List, [], ◌∷◌, ◌++◌, length, take, drop, replicate, slice_index, Option, None, refl, sym, ap, ◌∙◌, inl, inr, arith, length-append, length-take, length-drop, append_assoc, get_or-take, get_or-drop, Bool, true, false, nat_eq, Result, Ok, Err, OnOk, IsErr}
 use Rattle.std.specs.List.{flat_map}
+use Rattle.std.specs.Result.{IsErrAnd}
 use Rattle.std.proofs.lemmas.Bool.{cases_eq, cases_lt}
+use Rattle.std.proofs.lemmas.Result.{err_from_is_err_and}
 use Rattle.std.proofs.lemmas.List.{ext_get_or, get_or_append_left, get_or-append_right, get_or-replicate, length-replicate, replicate-append-replicate}
 use Rattle.store_model.specs.Lists.{zeros, zero_filled, numbers_from, cut_before, in_order}
 use Rattle.store_model.specs.Parameters.{Parameters, IsParameters, image_len}
@@ -12,12 +14,15 @@ use Rattle.store_model.specs.Pages.{Page, level_list, groups, level_pages, pages
 use Rattle.store_model.specs.Placement.{place, put_all}
 use Rattle.store_model.specs.Images.{header, slot_bytes, table_bytes, layout, journal_len}
 use Rattle.disk_model.specs.DiskState.{DiskState, IsDurable}
-use Rattle.disk_model.specs.DiskCalls.{LeavesOnly, overwrite}
+use Rattle.disk_model.specs.DiskCalls.{LeavesOnly, Rose, raised, overwrite}
 use Rattle.disk_model.proofs.Crashes.{LeavesOnly-trans, LeavesOnly-weaken}
+use Rattle.disk_model.proofs.Faults.{Rose-fault}
 use Rattle.disk_model.proofs.Images.{slice_index-overwrite}
 use Rattle.store_model.proofs.ImagesLemmas.{length-header}
+use Rattle.gate_journal.specs.declared.fault.JournalFault.{JournalFault}
+use Rattle.gate_journal.specs.declared.fault.JournalFault.TheVariants.{Disk, AlreadyImage, WrongLength}
 use Rattle.gate_journal.specs.Places.{IsApart, SameAt, Keeps, Reaches, ReadsOnly}
-use Rattle.gate_journal.specs.Formats.{IsNoImage, IsEmptyOrNone, HasEmptyRest, Formats}
+use Rattle.gate_journal.specs.Formats.{IsNoImage, IsEmptyOrNone, HasEmptyRest, Formats, faults_after_format}
 use Rattle.gate_journal.proofs.Areas.{journal_end, marks_end, shadow_end, table_end}
 use Rattle.gate_journal.proofs.Places.{Keeps-durable}
 use Rattle.gate_journal.proofs.Reading.{IsDurable-reads}
@@ -170,3 +175,42 @@ reads_no_image p old mid differs reads = inl (no_image mid.bytes (λ first. diff
 pub leaves_written : (p : Parameters) (old mid new : DiskState) → IsDurable old → (slice_index old.bytes 0 ≡ 72 → ⊥) → ReadsOnly old mid → (IsDurable mid → LeavesOnly mid new (IsEmptyOrNone p)) → LeavesOnly old new (IsEmptyOrNone p)
 leaves_written p old mid new durable differs reads then =
     LeavesOnly-trans old mid new (IsEmptyOrNone p) (leaves_no_image p old mid durable differs reads) (then (IsDurable-reads old mid durable reads))
+
+-- what a format answers, told apart
+pub handed_fault : {T : Type 0} (result : Result T JournalFault) → IsErrAnd result (λ e. e ≡ Disk) → result ≡ Err Disk
+handed_fault result handed = let err = err_from_is_err_and result handed in err.1 ∙ ap Err err.2
+
+pub fault_not_wrong : {T : Type 0} (result : Result T JournalFault) → result ≡ Err Disk → result ≡ Err WrongLength → ⊥
+fault_not_wrong result is other = cc
+
+pub fault_not_image : {T : Type 0} (result : Result T JournalFault) → result ≡ Err Disk → result ≡ Err AlreadyImage → ⊥
+fault_not_image result is other = cc
+
+pub other_fault : {T : Type 0} (result : Result T JournalFault) (fault other : JournalFault) → result ≡ Err fault → result ≡ Err other → (fault ≡ other → ⊥) → ⊥
+other_fault result fault other is same apart = apart cc
+
+pub wrong_not_image : WrongLength ≡ AlreadyImage → ⊥
+wrong_not_image same = cc
+
+pub wrong_not_disk : WrongLength ≡ Disk → ⊥
+wrong_not_disk same = cc
+
+pub image_not_disk : AlreadyImage ≡ Disk → ⊥
+image_not_disk same = cc
+
+pub ok_not_fault : {T : Type 0} (value : T) (fault : JournalFault) → Ok value ≡ Err fault → ⊥
+ok_not_fault value fault is = cc
+
+-- a fault is counted once
+pub fault_counted : {T : Type 0} (old new : ℕ) (result : Result T JournalFault) → result ≡ Err Disk → new ≡ raised old → new ≡ faults_after_format old result
+fault_counted old new result is counted = counted ∙ ap (faults_after_format old) (sym is)
+
+pub fault_rose : (old new : ℕ) → new ≡ raised old → Rose old new
+fault_rose old new counted = Rose-fault {T = Unit {0}} {E = Unit {0}} old new (Err tt) counted
+
+-- the test of the first byte found another one
+pub not_first : (found : Bool) (byte first : ℕ) → found ≡ nat_eq byte first → found ≡ false → byte ≡ first → ⊥
+not_first found byte first is other same = grind arith
+
+pub is_first : (found : Bool) (byte first : ℕ) → found ≡ nat_eq byte first → found ≡ true → byte ≡ first
+is_first found byte first is here = grind arith

@@ -8,6 +8,7 @@ pub mod Phases
 pub mod Committing
 pub mod Stages
 pub mod Reading
+pub mod Caches
 pub mod Counting
 pub mod Redoing
 pub mod Recovering

@@ -1,9 +1,18 @@
 -- Lists that are made of blocks, one for each slot.
-use Rattle.std.proofs.Common.{◌≡◌, ℕ, zero, suc, ◌+◌, ◌*◌, ◌<◌, ◌≤◌, List, ◌++◌, length, take, drop, refl, sym, ap, ◌∙◌, arith, take-append-drop, length-append}
+use Rattle.std.proofs.Common.{◌≡◌, ℕ, zero, suc, ◌+◌, ◌*◌, ◌<◌, ◌≤◌, List, ◌++◌, map, length, take, drop, Some, slice_get, refl, sym, ap, ◌∙◌, arith, take-append-drop, length-append}
 use Rattle.std.specs.List.{flat_map}
 use Rattle.std.proofs.lemmas.List.{take_at, drop_at, take-take, drop-take, drop-drop}
 use Rattle.store_model.specs.Lists.{numbers_from}
 use Rattle.store_model.specs.Images.{bytes_at}
+
+-- slot i of a list of slots
+pub get_number : (f : ℕ → List ℕ) (first count i : ℕ) → i < count → slice_get (map f (numbers_from first count)) i ≡ Some (f (first + i))
+unfolding numbers_from
+get_number f first zero i below = absurd (omega arith)
+get_number f first (suc count) zero below = let here : first ≡ first + 0 = omega arith in ap (λ (n : ℕ). Some (f n)) here
+get_number f first (suc count) (suc i) below =
+    let there : suc first + i ≡ first + suc i = omega arith in
+    get_number f (suc first) count i (omega arith) ∙ ap (λ (n : ℕ). Some (f n)) there
 
 -- block i of blocks of n elements each
 pub block-flat_map : (f : ℕ → List ℕ) (n first count i : ℕ) → ((j : ℕ) → j < first + count → length (f j) ≡ n) → i < count → take n (drop (n * i) (flat_map f (numbers_from first count))) ≡ f (first + i)

@@ -1,10 +1,8 @@
 //! What was read of the journal of a disk, so that the slots that it recovers to are told without reading it again.
-ghost use Rattle.std.specs.Prelude.{◌≡◌, ◌+◌, ◌<◌, ◌≤◌, ◌&&◌, None, Some, OnOk, IfOk};
-ghost use Rattle.store_model.specs.Parameters.{image_len, slots_limit};
+ghost use Rattle.std.specs.Prelude.{◌≡◌, ◌≤◌, ◌&&◌, None, Some, OnOk, IfOk};
 ghost use Rattle.store_model.specs.Images.{is_flag_set, is_marked};
 ghost use Rattle.disk_model.specs.DiskState.{DiskState, IsObservable};
-ghost use Rattle.gate_journal.specs.Places.{AreCalls, ReadsOnly};
-ghost use Rattle.gate_journal.specs.Caches.{IsCacheOf};
+ghost use Rattle.gate_journal.specs.Caches.{IsCacheOf, HasSlot, ReadsJournal};
 
 use crate::recover::is_flag_set;
 use disk_model::Disk;
@@ -38,9 +36,7 @@ impl JournalCache {
     fn is_flag_set<D: Disk>(&mut self, disk: &mut D) -> Result<bool, DiskFault>
         requires size { 4097 ≤ (D.state disk.old).size }
         requires cache { IsCacheOf (D.state disk.old) self.old }
-        ensures calls { AreCalls (D.state disk.old) (D.state disk.new) result }
-        ensures reads { IsObservable (D.state disk.old) → ReadsOnly (D.state disk.old) (D.state disk.new) }
-        ensures cache { IsCacheOf (D.state disk.new) self.new }
+        ensures journal { ReadsJournal (D.state disk.old) (D.state disk.new) self.new result }
         ensures value { IsObservable (D.state disk.old) → IfOk result (λ set. set ≡ is_flag_set (D.state disk.old).bytes) }
     {
         if let Some(set) = self.flag {
@@ -53,13 +49,8 @@ impl JournalCache {
 
     /// Reads the block of marks that begins with that of this slot, unless it was read last.
     fn load_marks<D: Disk>(&mut self, disk: &mut D, slots: u32, first: u32) -> Result<(), DiskFault>
-        requires in_range { slots ≤ slots_limit }
-        requires below { first < slots }
-        requires size { (D.state disk.old).size ≡ image_len slots }
-        requires cache { IsCacheOf (D.state disk.old) self.old }
-        ensures calls { AreCalls (D.state disk.old) (D.state disk.new) result }
-        ensures reads { IsObservable (D.state disk.old) → ReadsOnly (D.state disk.old) (D.state disk.new) }
-        ensures cache { IsCacheOf (D.state disk.new) self.new }
+        requires { HasSlot slots first (D.state disk.old) self.old }
+        ensures journal { ReadsJournal (D.state disk.old) (D.state disk.new) self.new result }
         ensures loaded { OnOk result (self.new.first ≡ Some first) }
     {
         if self.first.is_some_and(|kept| kept == first) {
@@ -74,13 +65,8 @@ impl JournalCache {
 
     /// Whether this slot is marked: marks are read by block.
     fn is_marked<D: Disk>(&mut self, disk: &mut D, slots: u32, slot: u32) -> Result<bool, DiskFault>
-        requires in_range { slots ≤ slots_limit }
-        requires below { slot < slots }
-        requires size { (D.state disk.old).size ≡ image_len slots }
-        requires cache { IsCacheOf (D.state disk.old) self.old }
-        ensures calls { AreCalls (D.state disk.old) (D.state disk.new) result }
-        ensures reads { IsObservable (D.state disk.old) → ReadsOnly (D.state disk.old) (D.state disk.new) }
-        ensures cache { IsCacheOf (D.state disk.new) self.new }
+        requires { HasSlot slots slot (D.state disk.old) self.old }
+        ensures journal { ReadsJournal (D.state disk.old) (D.state disk.new) self.new result }
         ensures value { IsObservable (D.state disk.old) → IfOk result (λ marked. marked ≡ is_marked (D.state disk.old).bytes slot) }
     {
         let behind = slot % BLOCK as u32;
@@ -95,13 +81,8 @@ impl JournalCache {
         slots: u32,
         slot: u32,
     ) -> Result<bool, DiskFault>
-        requires in_range { slots ≤ slots_limit }
-        requires below { slot < slots }
-        requires size { (D.state disk.old).size ≡ image_len slots }
-        requires cache { IsCacheOf (D.state disk.old) self.old }
-        ensures calls { AreCalls (D.state disk.old) (D.state disk.new) result }
-        ensures reads { IsObservable (D.state disk.old) → ReadsOnly (D.state disk.old) (D.state disk.new) }
-        ensures cache { IsCacheOf (D.state disk.new) self.new }
+        requires { HasSlot slots slot (D.state disk.old) self.old }
+        ensures journal { ReadsJournal (D.state disk.old) (D.state disk.new) self.new result }
         ensures value { IsObservable (D.state disk.old) → IfOk result (λ redone. redone ≡ (is_flag_set (D.state disk.old).bytes && is_marked (D.state disk.old).bytes slot)) }
     {
         if !self.is_flag_set(disk)? {

@@ -1,10 +1,9 @@
 //! The slots of the image that a disk recovers to, read without recovering it.
-ghost use Rattle.std.specs.Prelude.{◌≡◌, ◌+◌, ◌<◌, ◌≤◌, OnOk, IfOk};
-ghost use Rattle.store_model.specs.Parameters.{IsParameters, image_len, slots_limit, block_len};
+ghost use Rattle.std.specs.Prelude.{◌≡◌, ◌+◌, ◌≤◌, OnOk, IfOk};
+ghost use Rattle.store_model.specs.Parameters.{IsParameters, image_len, block_len};
 ghost use Rattle.store_model.specs.Images.{bytes_at, recovered_slot};
 ghost use Rattle.disk_model.specs.DiskState.{DiskState, IsObservable};
-ghost use Rattle.gate_journal.specs.Places.{AreCalls, ReadsOnly};
-ghost use Rattle.gate_journal.specs.Caches.{IsCacheOf};
+ghost use Rattle.gate_journal.specs.Caches.{IsCacheOf, HasSlot, ReadsJournal};
 ghost use Rattle.gate_journal.specs.ViewState.{viewed, viewed_count, viewed_whole, KeepsView, KeepsView-refl, KeepsView-trans};
 
 use crate::cache::JournalCache;
@@ -18,13 +17,8 @@ fn place_of<D: Disk>(
     slots: u32,
     slot: u32,
 ) -> Result<u64, DiskFault>
-    requires in_range { slots ≤ slots_limit }
-    requires below { slot < slots }
-    requires size { (D.state disk.old).size ≡ image_len slots }
-    requires cache { IsCacheOf (D.state disk.old) cache.old }
-    ensures calls { AreCalls (D.state disk.old) (D.state disk.new) result }
-    ensures reads { IsObservable (D.state disk.old) → ReadsOnly (D.state disk.old) (D.state disk.new) }
-    ensures cache { IsCacheOf (D.state disk.new) cache.new }
+    requires { HasSlot slots slot (D.state disk.old) cache.old }
+    ensures journal { ReadsJournal (D.state disk.old) (D.state disk.new) cache.new result }
     ensures within { IfOk result (λ place. place + block_len ≤ image_len slots) }
     ensures value { IsObservable (D.state disk.old) → IfOk result (λ place. bytes_at (D.state disk.old).bytes place block_len ≡ recovered_slot slots (D.state disk.old).bytes slot) }
 {
@@ -43,13 +37,8 @@ pub fn read_slot<D: Disk>(
     slot: u32,
     into: &mut Slot,
 ) -> Result<(), DiskFault>
-    requires in_range { slots ≤ slots_limit }
-    requires below { slot < slots }
-    requires size { (D.state disk.old).size ≡ image_len slots }
-    requires cache { IsCacheOf (D.state disk.old) cache.old }
-    ensures calls { AreCalls (D.state disk.old) (D.state disk.new) result }
-    ensures reads { IsObservable (D.state disk.old) → ReadsOnly (D.state disk.old) (D.state disk.new) }
-    ensures cache { IsCacheOf (D.state disk.new) cache.new }
+    requires { HasSlot slots slot (D.state disk.old) cache.old }
+    ensures journal { ReadsJournal (D.state disk.old) (D.state disk.new) cache.new result }
     ensures slot { IsObservable (D.state disk.old) → OnOk result (into.new ≡ recovered_slot slots (D.state disk.old).bytes slot) }
 {
     let place = place_of(disk, cache, slots, slot)?;

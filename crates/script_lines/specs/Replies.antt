@@ -1,6 +1,9 @@
 -- The program's replies seen as those of the definitions, and what the parts of a listing do to a sink.
-use Rattle.std.specs.Prelude.{◌≡◌, ℕ, ◌^◌, ◌<◌, List, ◌++◌, Result, Ok, Err}
+use Rattle.std.specs.Prelude.{◌≡◌, ℕ, ◌^◌, ◌<◌, List, [], ◌++◌, Result, Ok, Err, codes}
+use Rattle.std.specs.Fmt.{decimal}
 use Rattle.store_base.specs.Counts.{raised}
+use Rattle.store_model.specs.declared.refusal.Refusal.{Refusal}
+use Rattle.store_model.specs.declared.refusal.Refusal.TheVariants as refusals
 use Rattle.store_model.specs.Commands as model
 use Rattle.store_model.specs.Commands.Reply.{Acknowledged, Content, Listing, PagesUsed, ImageDigest, Refused}
 use Rattle.script_lines.specs.declared.reply.Reply.{Reply}
@@ -15,6 +18,11 @@ reply_of (declared.Listing entries) = Listing entries
 reply_of (declared.Space used slots) = PagesUsed used slots
 reply_of (declared.Digest digest) = ImageDigest digest
 reply_of (declared.No refusal) = Refused refusal
+
+-- what the text of a refusal has behind its word: of `full` two numbers, each behind a space, and of all others nothing
+abbrev pub numbers_of : Refusal → List ℕ
+numbers_of (refusals.Full need slots) = codes " " ++ decimal need ++ codes " " ++ decimal slots
+numbers_of refusal = []
 
 -- A part of the text was put out, from its front on.
 pub record PutsPart (old new : SinkState) (before after : List ℕ) : Type 0 where

@@ -189,40 +189,27 @@ fn read_write(
     ensures { reading_of (in_place command.new result) ≡ checked_command (write_of path.now at content.now) }
 {
     if content.len() > 2 * FEW_BYTES {
-        return read_long_write(path, at, content, command);
+        return read_write_in::<{ Bytes::MAX_LEN }>(path, at, content, command);
     }
-    read_write_in(&mut [0; FEW_BYTES], path, at, content, command)
+    read_write_in::<FEW_BYTES>(path, at, content, command)
 }
 
-/// Reads the command that writes many bytes from an offset on.
-// Joined to `read_write`, its room would be cleared where few bytes are written too.
-#[inline(never)]
-fn read_long_write(
-    path: &[u8],
-    at: Option<u32>,
-    content: &[u8],
-    command: &mut Command,
-) -> Result<(), Refusal>
-    requires { length content.now ≤ MAX_LINE }
-    ensures { reading_of (in_place command.new result) ≡ checked_command (write_of path.now at content.now) }
-{
-    read_write_in(&mut [0; Bytes::MAX_LEN], path, at, content, command)
-}
-
-/// Reads the command that writes bytes from an offset on, which are decoded in the room that is lent.
+/// Reads the command that writes bytes from an offset on, which are decoded in a room for so many.
 #[tactic(auto, unfolding(store_model::specs::Grammar::has_short_paths))]
-fn read_write_in(
-    room: &mut [u8],
+// Joined to `read_write`, the larger room would be cleared where few bytes are written too.
+#[inline(never)]
+fn read_write_in<const ROOM: usize>(
     path: &[u8],
     at: Option<u32>,
     content: &[u8],
     command: &mut Command,
 ) -> Result<(), Refusal>
-    requires fits { length content.now ≤ 2 * length room.old }
-    requires room { length room.old ≤ Bytes.MAX_LEN }
+    requires fits { length content.now ≤ 2 * ROOM }
+    requires room { ROOM ≤ Bytes.MAX_LEN }
     ensures { reading_of (in_place command.new result) ≡ checked_command (write_of path.now at content.now) }
 {
-    let (Some(at), Some(bytes)) = (at, read_bytes(content, room)) else {
+    let mut room = [0; ROOM];
+    let (Some(at), Some(bytes)) = (at, read_bytes(content, &mut room)) else {
         return Err(Refusal::Syntax);
     };
     put_write(read_path(path)?, at, bytes, command);

@@ -5,7 +5,7 @@ ghost use Rattle.std.specs.Fmt.{decimal};
 ghost use Rattle.store_model.specs.Commands.{reply_text, child_line, refusal_text};
 ghost use Rattle.store_model.specs.Commands.Reply.{Content, Listing, PagesUsed, ImageDigest, Refused};
 ghost use Rattle.script_lines.specs.SinkState.{IsPut};
-ghost use Rattle.script_lines.specs.Replies.{reply_of, MakesRoom};
+ghost use Rattle.script_lines.specs.Replies.{reply_of, numbers_of, MakesRoom};
 
 use crate::fault::SinkFault;
 use crate::sink::Sink;
@@ -149,36 +149,47 @@ fn write_refusal<W: Sink>(sink: &mut W, refusal: Refusal) -> Result<(), SinkFaul
 }
 
 /// Adds the word of a refusal, and the two numbers of `full`.
-#[tactic(auto, unfolding(store_model::specs::Commands::refusal_text))]
 fn push_refusal(text: &mut Text, refusal: Refusal)
     requires { length text.old + MAX_REFUSAL ≤ MAX_TEXT }
     ensures value { text.new ≡ text.old ++ refusal_text refusal }
     ensures fits { length text.new ≤ length text.old + MAX_REFUSAL }
 {
-    match refusal {
-        Refusal::Long => text.push(b"long"),
-        Refusal::Syntax => text.push(b"syntax"),
-        Refusal::Path => text.push(b"path"),
-        Refusal::Root => text.push(b"root"),
-        Refusal::Parent => text.push(b"parent"),
-        Refusal::Exists => text.push(b"exists"),
-        Refusal::Missing => text.push(b"missing"),
-        Refusal::Inside => text.push(b"inside"),
-        Refusal::Kind => text.push(b"kind"),
-        Refusal::Gap => text.push(b"gap"),
-        Refusal::Big => text.push(b"big"),
-        Refusal::NotEmpty => text.push(b"notempty"),
-        Refusal::Full { need, slots } => push_full(text, need, slots),
+    text.push(word_of(refusal));
+    if let Refusal::Full { need, slots } = refusal {
+        push_numbers(text, need, slots);
     }
 }
 
-/// Adds the word `full` and its two numbers.
-fn push_full(text: &mut Text, need: u32, slots: u32)
-    requires { length text.old + MAX_REFUSAL ≤ MAX_TEXT }
-    ensures value { text.new ≡ text.old ++ (codes "full " ++ decimal need ++ codes " " ++ decimal slots) }
-    ensures fits { length text.new ≤ length text.old + MAX_REFUSAL }
+/// The word of a refusal.
+#[tactic(auto, unfolding(store_model::specs::Commands::refusal_text))]
+fn word_of(refusal: Refusal) -> &'static [u8]
+    ensures value { refusal_text refusal ≡ result.now ++ numbers_of refusal }
+    ensures few { length result.now ≤ 8 }
 {
-    text.push(b"full ");
+    match refusal {
+        Refusal::Long => b"long",
+        Refusal::Syntax => b"syntax",
+        Refusal::Path => b"path",
+        Refusal::Root => b"root",
+        Refusal::Parent => b"parent",
+        Refusal::Exists => b"exists",
+        Refusal::Missing => b"missing",
+        Refusal::Inside => b"inside",
+        Refusal::Kind => b"kind",
+        Refusal::Gap => b"gap",
+        Refusal::Big => b"big",
+        Refusal::NotEmpty => b"notempty",
+        Refusal::Full { .. } => b"full",
+    }
+}
+
+/// Adds the two numbers of `full`, each behind a space.
+fn push_numbers(text: &mut Text, need: u32, slots: u32)
+    requires { length text.old + 22 ≤ MAX_TEXT }
+    ensures value { text.new ≡ text.old ++ (codes " " ++ decimal need ++ codes " " ++ decimal slots) }
+    ensures fits { length text.new ≤ length text.old + 22 }
+{
+    text.push(b" ");
     text.push_number(need);
     text.push(b" ");
     text.push_number(slots);

@@ -10,7 +10,7 @@ returns-clause-slot g c observable =
     let mid = (g.D.Disk.state c.place_of.new.disk).bytes in
     let buffer = c.read_at.new.into in
     let long : length buffer ≡ 4096 = c.read_at.auto.into ∙ c.told-into in
-    let observable_mid = observable_after _ _ _ c.place_of.ensures.calls observable in
+    let observable_mid = observable_after _ _ _ c.place_of.ensures.journal.calls observable in
     on_ok_map c.read_at.result (buffer ≡ take (length buffer) (drop c.in_ok-place.place mid)) (buffer ≡ recovered_slot c.args.slots old c.args.slot)
-    (λ read. read ∙ ap (λ (n : ℕ). take n (drop c.in_ok-place.place mid)) long ∙ ap (λ (l : List ℕ). bytes_at l c.in_ok-place.place 4096) (c.place_of.ensures.reads observable).bytes ∙ c.in_ok-place.ensures.value observable)
+    (λ read. read ∙ ap (λ (n : ℕ). take n (drop c.in_ok-place.place mid)) long ∙ ap (λ (l : List ℕ). bytes_at l c.in_ok-place.place 4096) (c.place_of.ensures.journal.reads observable).bytes ∙ c.in_ok-place.ensures.value observable)
     (c.read_at.ensures.observed observable_mid).read

@@ -16,9 +16,9 @@ mark_in image marks slot behind low few are =
 pub returns-clause-value : goal.returns-clause-value
 returns-clause-value g c observable =
     let slot = c.args.slot in
-    let observable_mid = observable_after _ _ _ c.load_marks.ensures.calls observable in
+    let observable_mid = observable_after _ _ _ c.load_marks.ensures.journal.calls observable in
     let low : slot % 4096 ≤ slot = omega arith in
     let few : slot % 4096 < 4096 = omega arith in
-    let marks = (c.load_marks.ensures.cache observable_mid).marks_are (slot - slot % 4096) c.in_ok-load_marks.ensures.loaded in
+    let marks = (c.load_marks.ensures.journal.cache observable_mid).marks_are (slot - slot % 4096) c.in_ok-load_marks.ensures.loaded in
     mark_in (g.D.Disk.state c.load_marks.new.disk).bytes c.load_marks.new.self.marks slot (slot % 4096) low few marks
-    ∙ ap (λ (l : List ℕ). is_marked l slot) (c.load_marks.ensures.reads observable).bytes
+    ∙ ap (λ (l : List ℕ). is_marked l slot) (c.load_marks.ensures.journal.reads observable).bytes
