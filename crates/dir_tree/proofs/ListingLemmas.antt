@@ -22,7 +22,7 @@ use Rattle.store_model.proofs.TreesLemmasPaths.{path_cmp_total, same_from_test, 
 use Rattle.store_model.proofs.TreesLemmas.{find_from_all, node_at-find, entry_at, all_exist}
 use Rattle.path_keys.proofs.InsideBytes.{inside_split}
 use Rattle.path_keys.proofs.PathBytes.{bytes_split}
-use Rattle.skip_levels.specs.PairsState.{PairsState, most_pairs}
+use Rattle.ordered_pairs.specs.PairsState.{PairsState, most_pairs}
 use Rattle.tree_pairs.specs.TreeCalls.{HoldsTree}
 use Rattle.tree_pairs.specs.Blocks.{tree_blocks}
 use Rattle.dir_tree.specs.declared.subtree.Block.{Block}

@@ -10,7 +10,7 @@ use Rattle.store_model.specs.Pairs.{Pair}
 use Rattle.store_model.proofs.PathsLemmas.{order_of_keys}
 use Rattle.store_model.proofs.TreesLemmasPaths.{same_from_tie}
 use Rattle.store_model.proofs.ListsLemmas.{rising_from_is_sorted}
-use Rattle.skip_levels.specs.PairsState.{next_pair}
+use Rattle.ordered_pairs.specs.PairsState.{next_pair}
 use Rattle.tree_pairs.specs.Blocks.{BlockMap, IsBlockPair}
 use Rattle.tree_pairs.proofs.NextLemmas.{IsNextFrom, next_some, next_none}
 use Rattle.dir_tree.specs.declared.subtree.Block.{Block}

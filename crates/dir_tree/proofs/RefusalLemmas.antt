@@ -13,7 +13,7 @@ use Rattle.store_model.specs.Commands.{Command, Reply}
 use Rattle.store_model.specs.Commands.Command.{Make, Remove, Prune, ListChildren}
 use Rattle.store_model.specs.Steps.{Condition, first_refusal, conditions, refusal_of, next_tree, reply_of, has_child, root_refused, parent_refused, exists_refused, missing_refused}
 use Rattle.store_model.proofs.TreesLemmas.{exists_from_directory}
-use Rattle.skip_levels.specs.PairsState.{PairsState, IsObservable}
+use Rattle.ordered_pairs.specs.PairsState.{PairsState, IsObservable}
 use Rattle.tree_pairs.specs.declared.kind.Kind.{Kind}
 use Rattle.tree_pairs.specs.declared.kind.Kind.TheVariants as kinds
 use Rattle.tree_pairs.specs.Kinds.{kind_of_node}

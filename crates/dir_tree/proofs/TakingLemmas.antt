@@ -7,7 +7,7 @@ use Rattle.std.proofs.lemmas.Bool.{both_ways}
 use Rattle.store_model.specs.Paths.{Path, is_root, is_path, same_path, is_at_or_inside, key, key_cmp}
 use Rattle.store_model.specs.Pairs.{Pair}
 use Rattle.store_model.proofs.TreesLemmasPaths.{same_from_test}
-use Rattle.skip_levels.specs.PairsState.{without, most_pairs}
+use Rattle.ordered_pairs.specs.PairsState.{without, most_pairs}
 use Rattle.tree_pairs.specs.Blocks.{BlockMap, with_blocks}
 use Rattle.tree_pairs.proofs.BlocksLemmas.{blocks_alike, tied_number, other_numbers}
 use Rattle.tree_pairs.proofs.ChangesLemmas.{take_block}

@@ -20,7 +20,7 @@ use Rattle.store_model.proofs.TreesLemmasPaths.{path_cmp_total, inside_from_pare
 use Rattle.store_model.proofs.TreesLemmas.{find_from_all, node_at-find, entry_at, all_exist}
 use Rattle.store_model.proofs.TreesLemmasMoves.{nothing_below}
 use Rattle.store_model.proofs.TreesLemmasSteps.{all_fail, IsTree-next_tree}
-use Rattle.skip_levels.specs.PairsState.{PairsState}
+use Rattle.ordered_pairs.specs.PairsState.{PairsState}
 use Rattle.tree_pairs.specs.TreeCalls.{HoldsTree}
 use Rattle.tree_pairs.specs.Blocks.{block_value, tree_blocks}
 use Rattle.tree_pairs.proofs.BlocksLemmas.{pairs_have_blocks, pairs_from_blocks, blocks_alike}

@@ -8,7 +8,7 @@ use Rattle.store_model.specs.Commands.{Child}
 use Rattle.store_model.specs.Steps.{child_of}
 use Rattle.store_base.specs.declared.store_fault.Fault.{Fault}
 use Rattle.store_base.specs.Faults.{disk_faults_after}
-use Rattle.skip_levels.specs.PairsState.{PairsState, IsObservable}
+use Rattle.ordered_pairs.specs.PairsState.{PairsState, IsObservable}
 use Rattle.tree_pairs.specs.TreeCalls.{HoldsTree, KeepsPairs}
 
 -- the size of a file

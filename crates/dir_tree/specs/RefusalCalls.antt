@@ -8,7 +8,7 @@ use Rattle.store_model.specs.Commands.{Command}
 use Rattle.store_model.specs.Steps.{refusal_of, has_child}
 use Rattle.store_base.specs.declared.store_fault.Fault.{Fault}
 use Rattle.store_base.specs.Faults.{disk_faults_after}
-use Rattle.skip_levels.specs.PairsState.{PairsState, IsObservable}
+use Rattle.ordered_pairs.specs.PairsState.{PairsState, IsObservable}
 use Rattle.tree_pairs.specs.TreeCalls.{HoldsTree, KeepsPairs}
 
 -- a call that says whether a command is refused, and why

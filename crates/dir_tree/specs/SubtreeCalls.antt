@@ -6,7 +6,7 @@ use Rattle.store_model.specs.Paths.{Path, root, is_root, is_path, is_at_or_insid
 use Rattle.store_model.specs.Pairs.{Pair}
 use Rattle.store_base.specs.declared.store_fault.Fault.{Fault}
 use Rattle.store_base.specs.Faults.{disk_faults_after}
-use Rattle.skip_levels.specs.PairsState.{PairsState, IsObservable}
+use Rattle.ordered_pairs.specs.PairsState.{PairsState, IsObservable}
 use Rattle.tree_pairs.specs.Blocks.{BlockMap, HasBlocks}
 use Rattle.tree_pairs.specs.TreeCalls.{KeepsPairs}
 use Rattle.dir_tree.specs.declared.subtree.Block.{Block}

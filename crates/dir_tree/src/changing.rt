@@ -2,13 +2,13 @@
 
 ghost use Rattle.store_model.specs.Commands.Command.{Make, Remove};
 ghost use Rattle.store_model.specs.Commands.Reply.{Acknowledged};
-ghost use Rattle.skip_levels.specs.PairsState.{IsObservable};
+ghost use Rattle.ordered_pairs.specs.PairsState.{IsObservable};
 ghost use Rattle.tree_pairs.specs.TreeCalls.{CarriesOut, HasRoom};
 ghost use Rattle.dir_tree.specs.RefusalCalls.{TellsRefusal, TellsChild};
 
 use crate::subtree::{next_within, take_subtree};
+use ordered_pairs::OrderedPairs;
 use path_keys::Path;
-use skip_levels::OrderedPairs;
 use store_base::{Answer, Fault, Refusal};
 use tree_pairs::{Kind, directory_value, kind_of};
 

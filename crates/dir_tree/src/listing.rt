@@ -6,8 +6,8 @@ ghost use Rattle.tree_pairs.specs.TreeCalls.{CarriesOut, KeepsPairs};
 ghost use Rattle.dir_tree.specs.ListCalls.{ListsChildren, TellsSize};
 
 use crate::subtree::next_within;
+use ordered_pairs::OrderedPairs;
 use path_keys::Path;
-use skip_levels::OrderedPairs;
 use std::alloc::Global;
 use store_base::{Answer, Entries, Fault, Refusal};
 use tree_pairs::{Kind, kind_of};

@@ -4,8 +4,8 @@ ghost use Rattle.std.specs.Prelude.{◌≡◌, IfSome, IfNone};
 ghost use Rattle.store_model.specs.Paths as model;
 ghost use Rattle.dir_tree.specs.SubtreeCalls.{FindsBlock, TakesSubtree, IsWithin, IsOutside};
 
+use ordered_pairs::OrderedPairs;
 use path_keys::Path;
-use skip_levels::OrderedPairs;
 use store_base::{Fault, Key};
 
 /// A pair of what stands at a path: the path, and the number of the block.

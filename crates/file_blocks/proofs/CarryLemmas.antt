@@ -22,7 +22,7 @@ use Rattle.store_base.specs.declared.store_fault.Fault.{Fault}
 use Rattle.store_base.specs.Faults.{disk_faults_after}
 use Rattle.tree_pairs.specs.declared.kind.Kind.{Kind}
 use Rattle.tree_pairs.specs.declared.kind.Kind.TheVariants as kinds
-use Rattle.skip_levels.specs.PairsState.{PairsState, IsObservable}
+use Rattle.ordered_pairs.specs.PairsState.{PairsState, IsObservable}
 use Rattle.tree_pairs.specs.Kinds.{kind_of_node}
 use Rattle.tree_pairs.specs.TreeCalls.{HoldsTree, HasParent, TellsKind, CarriesOut}
 use Rattle.tree_pairs.proofs.CallLemmas.{step_refused}

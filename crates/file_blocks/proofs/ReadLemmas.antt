@@ -6,7 +6,7 @@ use Rattle.std.proofs.lemmas.List.{length-append, length-take, length-drop, take
 use Rattle.store_model.specs.Lists.{run_at}
 use Rattle.store_model.specs.Paths.{Path, is_path, key, key_cmp}
 use Rattle.store_model.specs.Pairs.{file_block}
-use Rattle.skip_levels.specs.PairsState.{PairsState, IsObservable, IsPairGet}
+use Rattle.ordered_pairs.specs.PairsState.{PairsState, IsObservable, IsPairGet}
 use Rattle.tree_pairs.specs.Blocks.{BlockMap}
 use Rattle.file_blocks.specs.FileCalls.{HasFile, ReadsBytes, block_bytes}
 use Rattle.file_blocks.proofs.FileLemmas.{found_run}

@@ -5,7 +5,7 @@ use Rattle.store_model.specs.Paths.{Path}
 use Rattle.store_model.specs.Pairs.{Pair, file_block}
 use Rattle.store_base.specs.declared.store_fault.Fault.{Fault}
 use Rattle.store_base.specs.Faults.{disk_faults_after}
-use Rattle.skip_levels.specs.PairsState.{PairsState, IsObservable}
+use Rattle.ordered_pairs.specs.PairsState.{PairsState, IsObservable}
 use Rattle.tree_pairs.specs.Blocks.{BlockMap, run_value, with_blocks, HasBlocks}
 use Rattle.tree_pairs.specs.TreeCalls.{KeepsPairs}
 

@@ -1,7 +1,7 @@
 //! Cutting a file short.
 
 ghost use Rattle.std.specs.Prelude.{◌≡◌, ◌+◌, ◌-◌, ◌*◌, ◌/◌, ◌≤◌, length, take, OnOk};
-ghost use Rattle.skip_levels.specs.PairsState.{IsObservable};
+ghost use Rattle.ordered_pairs.specs.PairsState.{IsObservable};
 ghost use Rattle.store_model.specs.Commands.Command.{Cut};
 ghost use Rattle.store_model.specs.Commands.Reply.{Acknowledged};
 ghost use Rattle.tree_pairs.specs.TreeCalls.{CarriesOut, HasRoom};
@@ -9,8 +9,8 @@ ghost use Rattle.file_blocks.specs.FileCalls.{CutsBytes};
 ghost use Rattle.file_blocks.specs.Refusals.{IsUnless, cut_conditions, size_of};
 
 use crate::FILE_BLOCK;
+use ordered_pairs::OrderedPairs;
 use path_keys::Path;
-use skip_levels::OrderedPairs;
 use store_base::{Answer, Fault, Refusal, Value};
 use tree_pairs::{Kind, file_value, kind_of};
 

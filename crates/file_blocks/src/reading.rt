@@ -3,15 +3,15 @@
 ghost use Rattle.std.specs.Prelude.{◌≡◌, ◌+◌, ◌-◌, ◌<◌, ◌≤◌, ◌^◌, length, min, take, drop};
 ghost use Rattle.store_model.specs.Commands.Command.{Read};
 ghost use Rattle.store_model.specs.Commands.Reply.{Content};
-ghost use Rattle.skip_levels.specs.PairsState.{IsObservable};
+ghost use Rattle.ordered_pairs.specs.PairsState.{IsObservable};
 ghost use Rattle.tree_pairs.specs.TreeCalls.{CarriesOut, KeepsPairs};
 ghost use Rattle.file_blocks.specs.FileCalls.{ReadsBytes};
 ghost use Rattle.file_blocks.specs.Refusals.{IsUnless, read_conditions, size_of};
 
 use crate::{FILE_BLOCK, bytes_of};
 use arrayvec::ArrayVec;
+use ordered_pairs::OrderedPairs;
 use path_keys::Path;
-use skip_levels::OrderedPairs;
 use store_base::{Answer, Bytes, Fault, Refusal};
 use tree_pairs::{Kind, kind_of};
 

@@ -5,14 +5,14 @@ ghost use Rattle.store_model.specs.Trees.{file_limit};
 ghost use Rattle.store_model.specs.Lists.{overwrite};
 ghost use Rattle.store_model.specs.Commands.Command.{Write};
 ghost use Rattle.store_model.specs.Commands.Reply.{Acknowledged};
-ghost use Rattle.skip_levels.specs.PairsState.{IsObservable, most_pairs};
+ghost use Rattle.ordered_pairs.specs.PairsState.{IsObservable, most_pairs};
 ghost use Rattle.tree_pairs.specs.TreeCalls.{CarriesOut, HasRoom, HasParent};
 ghost use Rattle.file_blocks.specs.FileCalls.{PutsBytes};
 ghost use Rattle.file_blocks.specs.Refusals.{IsUnless, write_conditions, size_of};
 
 use crate::{FILE_BLOCK, bytes_of};
+use ordered_pairs::OrderedPairs;
 use path_keys::Path;
-use skip_levels::OrderedPairs;
 use store_base::{Answer, Bytes, Fault, Refusal, Value};
 use tree_pairs::{Kind, file_value, kind_of};
 

@@ -4,11 +4,13 @@ use Rattle.store_base.specs.declared.store_fault.Fault.{Fault}
 use Rattle.store_base.specs.declared.store_fault.Fault.TheVariants.{NoMemory}
 use Rattle.store_base.specs.Faults.{disk_faults_after}
 use Rattle.store_model.specs.Labels.{Lead}
-use Rattle.store_model.specs.Pages.{Page}
+use Rattle.store_model.specs.Pages.{Cell}
+use Rattle.node_pages.specs.Cells.{CellList}
 use Rattle.node_pages.specs.PagesState.{PagesState}
-use Rattle.skip_levels.specs.GroupChanges.{IsGroupRead, IsGroupChange}
+use Rattle.skip_groups.specs.GroupChanges.{IsRunChange}
 use Rattle.skip_levels.specs.CellChanges.{IsPagesCall}
-use Rattle.skip_levels.proofs.ValueLemmas.{same_count}
+use Rattle.skip_groups.proofs.GroupSteps.{same_count}
+use Rattle.skip_groups.specs.Searches.{IsGroupWalk}
 
 pub memory_lacks : {A C : Type 0} (old mid : PagesState) (a : A) → IsPagesCall {T = A} old mid (Ok a) → IsPagesCall {T = C} old mid (Err NoMemory)
 memory_lacks old mid a h = record { faults = h.faults; lookups_kept = h.lookups_kept; hidden = h.hidden; observable = h.observable }
@@ -30,8 +32,8 @@ pub fails_behind : {A B C : Type 0} (old mid new : PagesState) (a : A) (fault : 
 fails_behind {A} {B} {C} old mid new a fault h g = failed_call old new fault (goes_behind old mid new a (Err fault) h g)
 
 -- the pages of a group read, or changed
-pub read_call : (old new : PagesState) (level : ℕ) (lead : Lead) (result : Result (List Page) Fault) → IsGroupRead old new level lead result → IsPagesCall old new result
-read_call old new level lead result h = record { faults = h.faults; lookups_kept = h.lookups_kept; hidden = h.hidden; observable = λ o. (h.observed o).observable }
+pub walk_call : {T : Type 0} (old new : PagesState) (level : ℕ) (lead : Lead) {IsFound : List Cell → Type 0} (result : Result T Fault) → IsGroupWalk old new level lead IsFound result → IsPagesCall old new result
+walk_call old new level lead result h = record { faults = h.faults; lookups_kept = h.lookups_kept; hidden = h.hidden; observable = λ o. (h.observed o).observable }
 
-pub change_call : {T : Type 0} (old new : PagesState) (olds news : List Page) (result : Result T Fault) → IsGroupChange old new olds news result → IsPagesCall old new result
-change_call old new olds news result h = record { faults = h.faults; lookups_kept = omega (arith, h.lookups); hidden = h.hidden; observable = λ o. (h.observed o).observable }
+pub run_call : {T : Type 0} (old new : PagesState) {lead : Lead} {first count : ℕ} {list : CellList} {past : ℕ} (result : Result T Fault) → IsRunChange old new lead first count list past result → IsPagesCall old new result
+run_call old new result h = record { faults = h.faults; lookups_kept = omega (arith, h.lookups); hidden = h.hidden; observable = λ o. (h.observed o).observable }

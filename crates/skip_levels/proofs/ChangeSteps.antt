@@ -16,10 +16,10 @@ use Rattle.store_model.specs.PageMaps.{map_of_pages}
 use Rattle.node_pages.specs.PagesState.{PagesState, IsObservable}
 use Rattle.skip_levels.specs.CellChanges.{IsPagesCall, HasRoom, SetsCells, SplitsGroup, JoinsGroups}
 use Rattle.skip_levels.specs.Descent.{HoldsPairs}
-use Rattle.skip_levels.specs.Groups.{HoldsGroup}
+use Rattle.skip_groups.specs.Groups.{HoldsGroup, group_cost}
 use Rattle.skip_levels.specs.PairChanges.{IsPutting, IsTaking, PutsPairFrom, TakesPairFrom}
-use Rattle.skip_levels.specs.PairsState.{without}
-use Rattle.skip_levels.specs.SearchPath.{leader_behind, group_cost, group_below, group_at_or_below, levels_cost, path_cost_below, not_above, below, above}
+use Rattle.ordered_pairs.specs.PairsState.{without}
+use Rattle.skip_levels.specs.SearchPath.{leader_behind, group_below, group_at_or_below, levels_cost, path_cost_below, not_above, below, above}
 use Rattle.skip_levels.proofs.CallsBehind.{memory_lacks, fails_behind, failed_call}
 use Rattle.skip_levels.proofs.LevelChanges.{pages_between, all_changed}
 use Rattle.skip_levels.proofs.PathCosts.{cost_of_level, levels_within, costs_from, costs_down, costs_within}

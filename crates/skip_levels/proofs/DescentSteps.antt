@@ -10,18 +10,18 @@ use Rattle.store_model.specs.Pairs.{Pair}
 use Rattle.store_model.specs.Pages.{Cell}
 use Rattle.store_model.specs.PageMaps.{PageMap}
 use Rattle.node_pages.specs.PagesState.{PagesState, IsObservable}
-use Rattle.skip_levels.specs.Floors.{floor_of, after_of, lead_from, key_ahead}
-use Rattle.skip_levels.specs.Groups.{HoldsGroup}
+use Rattle.skip_groups.specs.Floors.{floor_of, after_of, lead_from, key_ahead}
+use Rattle.skip_groups.specs.Groups.{HoldsGroup}
 use Rattle.skip_levels.specs.SearchPath.{above, leader_behind, leader_ahead, not_above, levels_cost}
-use Rattle.skip_levels.specs.Descent.{HoldsPairs, IsSearched, LiesIn, IsPlace, IsWayFrom, IsWayDown, IsPlaceSearch}
+use Rattle.skip_levels.specs.Descent.{HoldsPairs, IsSearched, LiesIn, IsPlace, IsWayFrom, IsWayDown, IsPlaceSearch, led_by, followed_by}
 use Rattle.skip_levels.specs.declared.search.PathEnd.{PathEnd}
-use Rattle.skip_levels.specs.Searches.{seen, led_by, followed_by, ReadsGroup, IsGroupSearch}
+use Rattle.skip_groups.specs.Searches.{seen, ReadsGroup, IsGroupSearch}
 use Rattle.skip_levels.proofs.PlaceGroups.{group_of_place}
 use Rattle.skip_levels.proofs.Descents.{next_lead, next_ahead, start_leads_highest, none_ahead_highest}
 use Rattle.skip_levels.proofs.PathLemmas.{side_passes, side_fails, holds_path, few_on_path}
 use Rattle.skip_levels.proofs.KnownPlaces.{known_at}
 use Rattle.skip_levels.proofs.PathCosts.{cost_within, cost_of_level, levels_joined}
-use Rattle.skip_levels.proofs.ValueLemmas.{same_count}
+use Rattle.skip_groups.proofs.GroupSteps.{same_count}
 
 -- what the cells next to a key make of a place on its search path
 lead_seen : (floor after : Option Cell) (end : PathEnd) → lead_of (seen followed_by after (seen led_by floor end)).lead ≡ lead_from floor (lead_of end.lead)

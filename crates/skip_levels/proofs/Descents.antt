@@ -10,12 +10,12 @@ use Rattle.store_model.specs.Pairs.{Pair}
 use Rattle.store_model.specs.Pages.{Cell, cell_on, level_list, leads_group}
 use Rattle.store_model.proofs.ListsLemmas.{all_front, all_back}
 use Rattle.store_model.proofs.PagesLemmasOrder.{cell_on-key}
-use Rattle.skip_levels.specs.Floors.{is_not_above, last_of, floor_of, after_of, lead_from, key_ahead}
+use Rattle.skip_groups.specs.Floors.{is_not_above, last_of, floor_of, after_of, lead_from, key_ahead}
 use Rattle.skip_levels.specs.SearchPath.{last_lead, leader_behind, leader_ahead}
 use Rattle.skip_levels.proofs.Apart.{BeginsAtCut}
 use Rattle.skip_levels.proofs.Around.{IsLed, HasNoCut, LastPart, last_part, first_cut}
 use Rattle.skip_levels.proofs.PlaceGroups.{group_of_place, keys_of_cuts}
-use Rattle.skip_levels.proofs.Walks.{prefix_past, fails_past}
+use Rattle.skip_groups.proofs.Walks.{prefix_past, fails_past}
 
 -- none of these passes
 none_pass : (p : Cell → Bool) (cells : List Cell) → AllByRecursion (λ c. p c ≡ false) cells → take_while p cells ≡ []

@@ -10,7 +10,7 @@ use Rattle.store_model.specs.Pairs.{Pair}
 use Rattle.store_model.specs.Pages.{Cell, cell_on, level_list, leads_group}
 use Rattle.store_model.proofs.ListsLemmas.{all_weaker, rising_head, rising_tail}
 use Rattle.node_pages.proofs.PlaceLemmas.{same_key, reversed}
-use Rattle.skip_levels.specs.Floors.{last_of, floor_of, value_at}
+use Rattle.skip_groups.specs.Floors.{last_of, floor_of, value_at}
 use Rattle.skip_levels.specs.SearchPath.{above, not_above}
 use Rattle.skip_levels.proofs.Around.{IsLed, LastPart, last_part}
 use Rattle.skip_levels.proofs.PlaceGroups.{group_of_place}

@@ -19,7 +19,7 @@ use Rattle.node_pages.proofs.PlaceLemmas.{same_key, reversed}
 use Rattle.skip_levels.specs.declared.search.PathEnd.{PathEnd}
 use Rattle.skip_levels.specs.declared.put_place.PutPlace.{PutPlace}
 use Rattle.skip_levels.specs.Descent.{IsPlace, IsKnown, IsAt}
-use Rattle.skip_levels.specs.PairsState.{without}
+use Rattle.ordered_pairs.specs.PairsState.{without}
 use Rattle.skip_levels.specs.PutPlaces.{IsPutPlace, behind, leads_own}
 use Rattle.skip_levels.specs.SearchPath.{last_lead, leader_behind, leader_ahead, not_above, below, above}
 use Rattle.skip_levels.proofs.KnownPlaces.{known_at}

@@ -10,7 +10,7 @@ use Rattle.store_model.specs.Draws.{Draw}
 use Rattle.store_model.specs.Pages.{Page, IsPage, level_pages, pages_of_pairs}
 use Rattle.store_model.proofs.ListsLemmas.{all_weaker, all_flat_map, all_numbers_from, all_numbers_below}
 use Rattle.store_model.proofs.PagesLemmasSizes.{IsPairList, level_pages_are_pages}
-use Rattle.skip_levels.specs.GroupChanges.{AreApart}
+use Rattle.skip_groups.specs.GroupChanges.{AreApart}
 use Rattle.skip_levels.proofs.PlaceGroups.{other_levels}
 
 module _ (d : Draw) (s t : List Pair) where

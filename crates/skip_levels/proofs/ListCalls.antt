@@ -12,10 +12,10 @@ use Rattle.node_pages.specs.PagesState.{PagesState, IsObservable}
 use Rattle.skip_levels.specs.declared.search.PathEnd.{PathEnd}
 use Rattle.skip_levels.specs.Descent.{HoldsPairs, IsKnown}
 use Rattle.skip_levels.specs.PagePairs.{pairs_of_map, list_over, IsHeld}
-use Rattle.skip_levels.specs.PairsState.{most_pairs, without, IsPairPut, IsPairTake}
+use Rattle.ordered_pairs.specs.PairsState.{most_pairs, without, IsPairPut, IsPairTake}
 use Rattle.skip_levels.specs.PairChanges.{PutsPairIn, TakesPairIn}
 use Rattle.skip_levels.proofs.PagePairsLemmas.{holds_own, holds_its_pairs}
-use Rattle.skip_levels.proofs.ValidLemmas.{IsPairs-put, IsPairs-without}
+use Rattle.ordered_pairs.proofs.ValidLemmas.{IsPairs-put, IsPairs-without}
 
 -- a put adds one pair at most
 length-put-le : (key value : List ℕ) (s : List Pair) → length (put key_cmp key value s) ≤ length s + 1

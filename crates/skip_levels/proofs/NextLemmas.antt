@@ -15,21 +15,22 @@ use Rattle.store_model.specs.Pages.{Cell, Page, group_pages}
 use Rattle.store_model.proofs.ListsLemmas.{rising_from_is_sorted}
 use Rattle.node_pages.specs.PagesState.{PagesState, IsObservable, IsPageGet}
 use Rattle.skip_levels.specs.declared.search.PathEnd.{PathEnd}
-use Rattle.skip_levels.specs.Floors.{floor_of, after_of}
-use Rattle.skip_levels.specs.Groups.{HoldsGroup, label_of}
-use Rattle.skip_levels.specs.PairsState.{next_pair}
+use Rattle.skip_groups.specs.Floors.{floor_of, after_of, pair_in, pair_at}
+use Rattle.skip_groups.specs.Groups.{HoldsGroup, label_of}
+use Rattle.ordered_pairs.specs.PairsState.{next_pair}
 use Rattle.skip_levels.specs.SearchPath.{leader_behind, leader_ahead, not_above, above}
-use Rattle.skip_levels.specs.Searches.{seen, ReadsGroup, IsGroupSearch}
+use Rattle.skip_groups.specs.Searches.{seen, ReadsGroup, IsGroupSearch}
 use Rattle.skip_levels.specs.Descent.{IsSearched, IsAt, FindsLead, IsPlaceSearch, next_known}
-use Rattle.skip_levels.specs.NextSearch.{pair_in, pair_at, IsFirstPair, IsNextSearch}
+use Rattle.skip_levels.specs.NextSearch.{IsFirstPair, IsNextSearch}
 use Rattle.skip_levels.proofs.Descents.{after_of_place}
 use Rattle.skip_levels.proofs.Found.{floor_is_last}
 use Rattle.skip_levels.proofs.NextPairs.{next_of_sides, no_group_follows, pair_in_group, group_follows, part_ahead, group_begins, pair_leads}
 use Rattle.skip_levels.proofs.PathLemmas.{sides_of, side_passes, side_fails, holds_pairs_place}
 use Rattle.skip_levels.proofs.PlaceGroups.{group_of_place}
 use Rattle.skip_levels.proofs.PathCosts.{path_within}
-use Rattle.skip_levels.proofs.ValueLemmas.{same_count, lowest_searched, path_searched}
-use Rattle.skip_levels.proofs.Walks.{first_cell, no_first_cell}
+use Rattle.skip_groups.proofs.GroupSteps.{same_count}
+use Rattle.skip_levels.proofs.ValueLemmas.{read_fails, read_told, read_behind, lowest_searched, path_searched}
+use Rattle.skip_groups.proofs.Walks.{first_cell, no_first_cell}
 
 -- ---- the first pair of a group
 
@@ -87,36 +88,26 @@ leads_next d s key (Some place) at = at.next
 
 module _ (old mid : PagesState) (height : ℕ) (known : Option PathEnd) (key : List ℕ) (behind : Option PathEnd) (some : 1 ≤ height) where
   pub no_path : (fault : Fault) → IsPlaceSearch old mid height known 0 key behind (Err fault) → IsNextSearch old mid height known key behind (Err fault)
-  no_path fault h = record {
-    faults = h.faults ∙ same_count declared.Lead (Option Pair) old.faults fault;
-    lookups_kept = h.lookups_kept;
-    hidden = h.hidden;
-    observed = λ o. let n = h.observed o in record {
-      observable = n.observable;
-      unchanged = n.unchanged;
-      found = λ d s held. tt;
-      right = n.right;
-      lookups = λ d s held. omega (arith, n.lookups d s held, path_within d s key 1 height held.high some);
-    };
-  }
+  no_path fault = read_fails fault (λ n. record {
+    observable = n.observable;
+    unchanged = n.unchanged;
+    found = λ d s held. tt;
+    right = n.right;
+    lookups = λ d s held. omega (arith, n.lookups d s held, path_within d s key 1 height held.high some);
+  })
 
   module _ (new : PagesState) (lead : declared.Lead) (h : IsPlaceSearch old mid height known 0 key behind (Ok lead)) (at : Lead) (is_lead : at ≡ lead_of lead) (here : Option Pair) where
     leads : FindsLead old mid height known 0 key behind (Ok lead) → (d : Draw) (s : List Pair) → IsSearched d s old.pages height known → at ≡ leader_behind d 0 (not_above key s)
     leads n d s held = is_lead ∙ n.lead d s held
 
     pub no_neighbours : {S : Type 0} (fault : Fault) → IsGroupSearch {S = S} (sees_pair key) sees_next mid new 0 at key None here (Err fault) → IsNextSearch old new height known key behind (Err fault)
-    no_neighbours {S} fault search = record {
-      faults = search.faults ∙ ap (λ n. disk_faults_after {T = S} n (Err fault)) h.faults ∙ same_count S (Option Pair) old.faults fault;
-      lookups_kept = omega (arith, h.lookups_kept, search.lookups_kept);
-      hidden = λ o. h.hidden (search.hidden o);
-      observed = λ o. let n = h.observed o in let g = search.observed n.observable in record {
-        observable = g.observable;
-        unchanged = g.unchanged ∙ n.unchanged;
-        found = λ d s held. tt;
-        right = n.right;
-        lookups = λ d s held. omega (arith, path_searched old mid new height known 0 key behind lead n some at (leads n) g d s held);
-      };
-    }
+    no_neighbours fault search = read_fails fault (λ f. f) (read_behind (λ n. n.observable) (λ n g. record {
+      observable = g.observable;
+      unchanged = g.unchanged ∙ n.unchanged;
+      found = λ d s held. tt;
+      right = n.right;
+      lookups = λ d s held. omega (arith, path_searched old mid new height known 0 key behind lead n some at (leads n) g d s held);
+    }) h search)
 
     module _ {S : Type 0} (done : S) (search : IsGroupSearch (sees_pair key) sees_next mid new 0 at key None here (Ok done)) where
       abbrev Leads : Type 0
@@ -142,18 +133,13 @@ module _ (old mid : PagesState) (height : ℕ) (known : Option PathEnd) (key : L
 
       -- the nearest pair in the group is the next one
       next_told : ((n : Leads) (d : Draw) (s : List Pair) → IsSearched d s old.pages height known → here ≡ option_or (own d s) (pair_in (slice_get (part_ahead d (above key s) (own d s)) 0)) → option_or (own d s) (pair_in (slice_get (part_ahead d (above key s) (own d s)) 0)) ≡ option_or (own d s) (slice_get (above key s) 0)) → IsNextSearch old new height known key behind (Ok here)
-      next_told told = record {
-        faults = search.faults ∙ h.faults;
-        lookups_kept = omega (arith, h.lookups_kept, search.lookups_kept);
-        hidden = λ o. h.hidden (search.hidden o);
-        observed = λ o. let n = h.observed o in let g = search.observed n.observable in record {
-          observable = g.observable;
-          unchanged = g.unchanged ∙ n.unchanged;
-          found = λ d s held. let e = here_is n g d s held in e ∙ told n d s held e ∙ next_is d s held;
-          right = n.right;
-          lookups = λ d s held. omega (arith, path_searched old mid new height known 0 key behind lead n some at (leads n) g d s held);
-        };
-      }
+      next_told told = read_told here (read_behind (λ n. n.observable) (λ n g. record {
+        observable = g.observable;
+        unchanged = g.unchanged ∙ n.unchanged;
+        found = λ d s held. let e = here_is n g d s held in e ∙ told n d s held e ∙ next_is d s held;
+        right = n.right;
+        lookups = λ d s held. omega (arith, path_searched old mid new height known 0 key behind lead n some at (leads n) g d s held);
+      }) h search)
 
       -- no group follows
       pub next_is_none : next_known behind ≡ None → here ≡ None → IsNextSearch old new height known key behind (Ok None)

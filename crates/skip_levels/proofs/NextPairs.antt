@@ -13,9 +13,8 @@ use Rattle.store_model.specs.Pairs.{Pair}
 use Rattle.store_model.specs.Pages.{Cell, cell_on, level_list, leads_group}
 use Rattle.store_model.proofs.ListsLemmas.{all_weaker, rising_head, rising_tail}
 use Rattle.node_pages.proofs.PlaceLemmas.{same_key, reversed}
-use Rattle.skip_levels.specs.Floors.{last_of}
-use Rattle.skip_levels.specs.NextSearch.{pair_in, pair_at}
-use Rattle.skip_levels.specs.PairsState.{next_pair}
+use Rattle.skip_groups.specs.Floors.{last_of, pair_in, pair_at}
+use Rattle.ordered_pairs.specs.PairsState.{next_pair}
 use Rattle.skip_levels.specs.SearchPath.{not_above, above, last_lead, leader_behind, leader_ahead}
 use Rattle.skip_levels.proofs.Apart.{BeginsAtCut}
 use Rattle.skip_levels.proofs.Around.{last_part, first_cut, part_of_last, last_lead-push}

@@ -13,7 +13,7 @@ use Rattle.store_model.proofs.ListsLemmasCuts.{flat_map-cut_before, length-filte
 use Rattle.store_model.specs.Paths.{key_cmp}
 use Rattle.node_pages.proofs.EntryLemmas.{len-with_page}
 use Rattle.skip_levels.proofs.Apart.{list_pages, pages_of_group}
-use Rattle.skip_levels.proofs.GroupReads.{few_group_pages}
+use Rattle.skip_groups.proofs.GroupEnds.{few_group_pages}
 use Rattle.skip_levels.proofs.LevelChanges.{pages_between, lower_pages, higher_pages}
 use Rattle.skip_levels.proofs.PlaceGroups.{level_is_list}
 

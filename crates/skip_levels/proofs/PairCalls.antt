@@ -18,14 +18,14 @@ use Rattle.skip_levels.specs.CellChanges.{IsPagesCall}
 use Rattle.skip_levels.specs.Descent.{HoldsPairs, IsKnown, IsSearched, IsKeyPlace, IsKeySearch}
 use Rattle.skip_levels.specs.PagePairs.{pairs_of_map}
 use Rattle.skip_levels.specs.PairChanges.{IsPutting, IsTaking, PutsPairFrom, TakesPairFrom, PutsPairIn, TakesPairIn}
-use Rattle.skip_levels.specs.PairsState.{most_pairs, without}
+use Rattle.ordered_pairs.specs.PairsState.{most_pairs, without}
 use Rattle.skip_levels.specs.PutPlaces.{IsPutPlace, IsPutSearch, behind}
 use Rattle.skip_levels.specs.SearchPath.{path_cost, path_cost_below, low_cost}
 use Rattle.skip_levels.proofs.KnownBehind.{known_by_put, known_by_take}
 use Rattle.skip_levels.proofs.PairSides.{lacks_pair}
 use Rattle.skip_levels.proofs.PathCosts.{levels_up_to}
-use Rattle.skip_levels.proofs.ValidLemmas.{IsPairs-put, IsPairs-without}
-use Rattle.skip_levels.proofs.ValueLemmas.{same_count}
+use Rattle.ordered_pairs.proofs.ValidLemmas.{IsPairs-put, IsPairs-without}
+use Rattle.skip_groups.proofs.GroupSteps.{same_count}
 
 -- one call behind a search, which leaves the faults as they were
 call_behind : {S T : Type 0} (old mid new : PagesState) → mid.faults ≡ old.faults → old.lookups ≤ mid.lookups → (IsObservable mid → IsObservable old) → (IsObservable old → IsObservable mid)

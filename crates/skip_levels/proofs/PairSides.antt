@@ -11,7 +11,7 @@ use Rattle.store_model.specs.Pairs.{Pair}
 use Rattle.store_model.proofs.ListsLemmas.{all_weaker, rising_head, rising_tail}
 use Rattle.store_model.proofs.TreesLemmasFewer.{find_below_all}
 use Rattle.node_pages.proofs.PlaceLemmas.{same_key, reversed}
-use Rattle.skip_levels.specs.PairsState.{without}
+use Rattle.ordered_pairs.specs.PairsState.{without}
 use Rattle.skip_levels.specs.SearchPath.{not_above, below, above}
 
 -- a list that lacks the pair of a key

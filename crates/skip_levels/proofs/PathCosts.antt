@@ -7,7 +7,8 @@ use Rattle.store_model.specs.Draws.{Draw}
 use Rattle.store_model.specs.Pairs.{Pair, IsPairs}
 use Rattle.store_model.proofs.ListsLemmas.{rising_from_is_sorted}
 use Rattle.store_model.specs.Paths.{key_cmp}
-use Rattle.skip_levels.specs.SearchPath.{above, group_at_or_below, group_cost, levels_cost, path_cost, not_above}
+use Rattle.skip_levels.specs.SearchPath.{above, group_at_or_below, levels_cost, path_cost, not_above}
+use Rattle.skip_groups.specs.Groups.{group_cost}
 use Rattle.skip_levels.proofs.LedGroups.{led_by_place}
 use Rattle.skip_levels.proofs.PathLemmas.{sides_of}
 use Rattle.skip_levels.proofs.PlaceGroups.{group_of_place}

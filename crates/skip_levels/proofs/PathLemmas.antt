@@ -14,8 +14,8 @@ use Rattle.store_model.proofs.ListsLemmasCuts.{length-filter-le}
 use Rattle.store_model.proofs.PagesLemmasOrder.{cell_on-key}
 use Rattle.node_pages.specs.PagesState.{PagesState, most_pages}
 use Rattle.node_pages.proofs.PlaceLemmas.{same_key}
-use Rattle.skip_levels.specs.Floors.{is_not_above}
-use Rattle.skip_levels.specs.Groups.{HoldsGroup}
+use Rattle.skip_groups.specs.Floors.{is_not_above}
+use Rattle.skip_groups.specs.Groups.{HoldsGroup}
 use Rattle.skip_levels.specs.SearchPath.{leader_behind, not_above, above}
 use Rattle.skip_levels.specs.Descent.{HoldsPairs}
 use Rattle.skip_levels.proofs.Around.{last_part, first_cut}

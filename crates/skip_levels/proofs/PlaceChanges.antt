@@ -11,8 +11,8 @@ use Rattle.store_model.proofs.ListsLemmas.{all_append, all_front, all_back}
 use Rattle.store_model.proofs.PagesLemmasOrder.{cell_cmp, rising_level_list}
 use Rattle.store_model.proofs.PagesLemmasSizes.{IsPairList, level_pages_are_pages}
 use Rattle.node_pages.specs.Groups.{page_of_run}
-use Rattle.skip_levels.specs.Groups.{AreNumbered, IsNumbered}
-use Rattle.skip_levels.specs.GroupChanges.{AreApart, IsChange}
+use Rattle.skip_groups.specs.Groups.{AreNumbered, IsNumbered}
+use Rattle.skip_groups.specs.GroupChanges.{AreApart, IsChange}
 use Rattle.skip_levels.specs.SearchPath.{leader_behind}
 use Rattle.skip_levels.proofs.Apart.{list_pages}
 use Rattle.skip_levels.proofs.Around.{last_part, first_cut}

@@ -15,17 +15,18 @@ use Rattle.store_model.specs.Labels.Lead.{Start, Leader}
 use Rattle.store_model.specs.Pairs.{Pair, IsPair, IsPairs}
 use Rattle.store_model.specs.Pages.{Cell, Page, IsPage, cell_on, level_list, leads_group, lead_of, page_room, group_pages, level_pages, groups, pages_of_pairs}
 use Rattle.store_model.specs.PageMaps.{map_of_pages}
-use Rattle.store_model.proofs.ListsLemmas.{all_append, all_front, all_back, all_weaker, all_map, all_none, all_flat_map, all_filter, all_numbers_from, all_numbers_below, rising_head, rising_tail}
+use Rattle.store_model.proofs.ListsLemmas.{all_append, all_front, all_back, all_weaker, all_map, all_none, all_flat_map, all_filter, all_numbers_from, all_numbers_below}
 use Rattle.store_model.proofs.ListsLemmasCuts as cut_lemmas
 use Rattle.store_model.proofs.ListsLemmasCuts.{flat_map-cut_before, all_parts, cut_before_begins, AllButFirst}
 use Rattle.store_model.proofs.PagesLemmasOrder.{cell_on-key, cell_cmp, rising_level_list}
 use Rattle.store_model.proofs.PagesLemmasSizes.{IsPairList, pages_are_pages}
 use Rattle.node_pages.specs.Groups.{page_of_run}
-use Rattle.skip_levels.specs.Groups.{HoldsGroup}
+use Rattle.skip_groups.specs.Groups.{HoldsGroup}
 use Rattle.skip_levels.specs.SearchPath.{last_lead, leader_behind}
 use Rattle.skip_levels.proofs.Apart.{BeginsAtCut, IsUncut, list_pages, pages_of_group, first_part}
 use Rattle.skip_levels.proofs.Around.{IsLed, HasNoCut, last_part, first_cut, pages_around, last_lead-push}
-use Rattle.skip_levels.proofs.GroupLookups.{IsOther, Surround, holds_group}
+use Rattle.skip_groups.proofs.GroupLookups.{IsOther, Surround, holds_group}
+use Rattle.skip_groups.proofs.Sides.{rising_split}
 
 -- ---- what leads the group of a place
 
@@ -167,13 +168,6 @@ module _ (d : Draw) (level : ℕ) where
   others_by_groups lead cells h = all_weaker _ _ (λ p apart on led. apart led) (list_pages d level cells) (leads_of_list (λ l. l ≡ lead → ⊥) cells h)
 
 -- ---- the map holds the group of a place
-
--- what stands before and behind an element of a list that rises
-pub rising_split : {A : Type 0} (c : A → A → _) (xs : List A) (y : A) (ys : List A) → IsStrictlySortedBy c (xs ++ y ∷ ys) → AllByRecursion (λ x. c x y ≡ Less) xs × AllByRecursion (λ z. c y z ≡ Less) ys
-rising_split c [] y ys h = (tt, rising_head c y ys h)
-rising_split c (x ∷ xs) y ys h =
-    let rest = rising_split c xs y ys (rising_tail c x (xs ++ y ∷ ys) h) in
-    (((all_back (λ z. c x z ≡ Less) xs (y ∷ ys) (rising_head c x (xs ++ y ∷ ys) h)).0, rest.0), rest.1)
 
 other_key : (a b : List ℕ) → key_cmp a b ≡ Less → a ≡ b → ⊥
 other_key a b less same = let tie = tied_itself nat_list_cmp_total b in cc

@@ -11,7 +11,7 @@ use Rattle.store_model.specs.PageMaps.{PageMap, map_of_pages}
 use Rattle.store_model.proofs.ListsLemmas.{rising_from_is_sorted}
 use Rattle.store_model.proofs.PagesLemmasSizes.{IsPairList}
 use Rattle.store_model.proofs.PagesLemmasSplits.{level_pages-above}
-use Rattle.skip_levels.specs.PairsState.{without}
+use Rattle.ordered_pairs.specs.PairsState.{without}
 use Rattle.skip_levels.specs.PairChanges.{IsPutting, IsTaking}
 use Rattle.skip_levels.specs.SearchPath.{leader_behind, not_above, below, above}
 use Rattle.skip_levels.proofs.Apart.{list_pages}
@@ -20,7 +20,7 @@ use Rattle.skip_levels.proofs.PairSides.{Lacks, Has, lacks_pair, has_pair}
 use Rattle.skip_levels.proofs.PlaceGroups.{level_is_list, level_list-append}
 use Rattle.skip_levels.proofs.PlaceSteps.{AreFew, SetsAt, SplitsAt, JoinsAt, sets_new, splits_new}
 use Rattle.skip_levels.proofs.PlaceTakes.{leader_past, sets_value, sets_taken, joins_taken}
-use Rattle.skip_levels.proofs.ValidLemmas.{IsPairs-put, IsPairs-without}
+use Rattle.ordered_pairs.proofs.ValidLemmas.{IsPairs-put, IsPairs-without}
 
 -- above a level on which both lists have the same pages, nothing is to be changed
 pub from_level : (d : Draw) (s t : List Pair) (top : ℕ) → top < d.height → ((level : ℕ) → top < level → level_pages d s level ≡ level_pages d t level) → pages_between d s t (top + 1) ≡ pages_of_pairs d s

@@ -11,12 +11,12 @@ use Rattle.store_model.proofs.ListsLemmas.{all_append, all_front, all_back}
 use Rattle.store_model.proofs.PagesLemmasOrder.{cell_on-key, cell_cmp, rising_level_list}
 use Rattle.store_model.proofs.PagesLemmasSizes.{IsPairList, level_pages_are_pages}
 use Rattle.store_model.proofs.PagesLemmasSplits.{level_list-there}
-use Rattle.skip_levels.specs.Groups.{IsNumbered}
-use Rattle.skip_levels.specs.GroupChanges.{AreApart, IsChange}
+use Rattle.skip_groups.specs.Groups.{IsNumbered}
+use Rattle.skip_groups.specs.GroupChanges.{AreApart, IsChange}
 use Rattle.skip_levels.specs.SearchPath.{leader_behind}
 use Rattle.skip_levels.proofs.Apart.{list_pages}
 use Rattle.skip_levels.proofs.Around.{first_cut}
-use Rattle.skip_levels.proofs.GroupLookups.{IsOther}
+use Rattle.skip_groups.proofs.GroupLookups.{IsOther}
 use Rattle.skip_levels.proofs.Parted.{pages_of_low, pages_below}
 use Rattle.skip_levels.proofs.PlaceChanges.{part, mid, here, there, pages_with_none, apart_both, here_apart, there_apart, less_numbered, led, group_is_numbered}
 use Rattle.skip_levels.proofs.PlaceGroups.{level_list-append, others_around, key_leads}

@@ -10,22 +10,23 @@ use Rattle.store_model.specs.PageMaps.{PageMap, map_of_pages}
 use Rattle.store_model.proofs.ListsLemmas.{rising_front, rising_back}
 use Rattle.store_model.proofs.PagesLemmasOrder.{cell_cmp}
 use Rattle.store_model.proofs.PagesLemmasSizes.{IsPairList}
-use Rattle.skip_levels.specs.Floors.{last_of, lead_from}
-use Rattle.skip_levels.specs.Groups.{HoldsGroup}
-use Rattle.skip_levels.specs.GroupCells.{AreCells, side, merged}
-use Rattle.skip_levels.specs.GroupChanges.{IsChange}
+use Rattle.skip_groups.specs.Floors.{last_of, lead_from}
+use Rattle.skip_groups.specs.Groups.{HoldsGroup}
+use Rattle.skip_groups.specs.GroupCells.{AreCells, side, merged}
+use Rattle.skip_groups.specs.GroupChanges.{IsChange}
 use Rattle.skip_levels.specs.CellChanges.{HasRoom, IsSetting, IsSplitting, IsJoining}
 use Rattle.skip_levels.specs.SearchPath.{leader_behind}
 use Rattle.skip_levels.proofs.Around.{last_part}
 use Rattle.skip_levels.proofs.Descents.{lead_of_last_part}
-use Rattle.skip_levels.proofs.GroupLookups.{holds_group}
+use Rattle.skip_groups.proofs.GroupLookups.{holds_group}
 use Rattle.skip_levels.proofs.LevelChanges.{pages_between, lower_pages, higher_pages, before_level, behind_level, lower_apart, higher_apart}
 use Rattle.skip_levels.proofs.PageCounts.{few_between}
 use Rattle.skip_levels.proofs.Parted.{pages_without, pages_below}
 use Rattle.skip_levels.proofs.PathLemmas.{few_in_group}
 use Rattle.skip_levels.proofs.PlaceChanges.{ChangesLevel, part, mid, here, there, around, put_on_its_level}
 use Rattle.skip_levels.proofs.PlaceGroups.{group_of_place}
-use Rattle.skip_levels.proofs.PlaceMerges.{AreAround, low_side, high_side, merged_are, side_all, around_key, rising_place, rising_with_one, are_cells}
+use Rattle.skip_groups.proofs.Sides.{AreAround, low_side, high_side, merged_are, side_all}
+use Rattle.skip_levels.proofs.PlaceMerges.{around_key, rising_place, rising_with_one, are_cells}
 use Rattle.skip_levels.proofs.PlaceSplits as splits
 
 -- the map holds a group whose pages stand between others
@@ -186,6 +187,7 @@ module _ (m : PageMap) (d : Draw) (level : ℕ) (low high : List Pair) (y : Pair
             first = subst (IsChange level lead (lowers ++ before) (behind ++ highers) (group_pages level lead cells)) (sym low_pages_are) first;
             second = subst (λ ps. IsChange level (Leader y.0) ((lowers ++ before) ++ ps) (behind ++ highers) [] (group_pages level (Leader y.0) (merged y.0 [] own cells))) (sym low_pages_are)
                 (subst (IsChange level (Leader y.0) ((lowers ++ before) ++ lp) (behind ++ highers) []) (sym high_pages_are) second);
+            sides = sym (ap₂ (λ xs ys. xs ++ ys) sides (high_side y.0 p [] q none_around));
             low_valid = subst (AreCells level) (sym low_are) (are_cells d level lead p low_valid (rising_front cell_cmp p (own ++ q) rising));
             high_valid = subst (AreCells level) (sym high_are) (are_cells d level (Leader y.0) (own ++ q) high_valid (rising_back cell_cmp p (own ++ q) rising));
             holds = holds;

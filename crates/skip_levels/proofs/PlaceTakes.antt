@@ -16,19 +16,20 @@ use Rattle.store_model.specs.PageMaps.{PageMap, map_of_pages}
 use Rattle.store_model.proofs.ListsLemmas.{all_append, all_map, all_filter, all_weaker, rising_back}
 use Rattle.store_model.proofs.PagesLemmasOrder.{cell_cmp}
 use Rattle.store_model.proofs.PagesLemmasSizes.{IsPairList}
-use Rattle.skip_levels.specs.Groups.{HoldsGroup}
-use Rattle.skip_levels.specs.GroupCells.{AreCells, side, merged}
-use Rattle.skip_levels.specs.GroupChanges.{AreApart, IsChange}
+use Rattle.skip_groups.specs.Groups.{HoldsGroup}
+use Rattle.skip_groups.specs.GroupCells.{AreCells, side, merged}
+use Rattle.skip_groups.specs.GroupChanges.{AreApart, IsChange}
 use Rattle.skip_levels.specs.SearchPath.{last_lead, leader_behind}
 use Rattle.skip_levels.proofs.Around.{last_lead-push}
-use Rattle.skip_levels.proofs.GroupLookups.{IsOther, holds_group}
+use Rattle.skip_groups.proofs.GroupLookups.{IsOther, holds_group}
 use Rattle.skip_levels.proofs.LevelChanges.{pages_between, lower_pages, higher_pages, before_level, behind_level, lower_apart, higher_apart}
 use Rattle.skip_levels.proofs.PageCounts.{few_between}
 use Rattle.skip_levels.proofs.Parted.{pages_without, pages_on_its_level, pages_below}
 use Rattle.skip_levels.proofs.PathLemmas.{few_in_group}
 use Rattle.skip_levels.proofs.PlaceChanges.{ChangesLevel, part, mid, here, there, around, less_numbered, more_numbered, group_changed, taken_on_its_level}
 use Rattle.skip_levels.proofs.PlaceGroups.{group_of_place, group_labels}
-use Rattle.skip_levels.proofs.PlaceMerges.{AreAround, low_side, high_side, merged_are, side_all, sides, around_key, rising_place, rising_with_one, are_cells}
+use Rattle.skip_groups.proofs.Sides.{AreAround, low_side, high_side, merged_are, side_all}
+use Rattle.skip_levels.proofs.PlaceMerges.{sides, around_key, rising_place, rising_with_one, are_cells}
 use Rattle.skip_levels.proofs.PlaceSplits as splits
 use Rattle.skip_levels.proofs.PlaceSteps.{AreFew, SetsAt, JoinsAt, holds_olds, next_of_part, sets_group}
 
@@ -138,6 +139,7 @@ module _ (m : PageMap) (d : Draw) (level : ℕ) (low high : List Pair) (y : Pair
         joining = record {
           first = splits.turned level (Leader y.0) (front ++ lp) back [] hp second;
           second = subst (IsChange level lead front back lp) news (splits.turned level lead front back joined lp first);
+          below = below;
           valid = subst (AreCells level) (sym made) (are_cells d level lead (p ++ q) (less_numbered d level low high y less f.narrow within).valid (rising_place d level low high y less));
           low_holds = low_holds;
           high_holds = high_holds;

@@ -27,7 +27,8 @@ use Rattle.skip_levels.proofs.NextPairs.{pair_leads}
 use Rattle.skip_levels.proofs.PairSides.{lacks_pair, has_pair}
 use Rattle.skip_levels.proofs.PathCosts.{path_within}
 use Rattle.skip_levels.proofs.PathLemmas.{all_kept}
-use Rattle.skip_levels.proofs.ValueLemmas.{same_count, leads_lowest}
+use Rattle.skip_groups.proofs.GroupSteps.{same_count}
+use Rattle.skip_levels.proofs.ValueLemmas.{leads_lowest}
 
 -- what holds of some keys holds of the last, which leads
 abbrev IsOfLead : (List ℕ → Type 0) → Lead → Type 0

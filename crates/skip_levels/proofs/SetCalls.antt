@@ -14,14 +14,14 @@ use Rattle.store_model.specs.PageMaps.{map_of_pages}
 use Rattle.node_pages.specs.Groups.{pages_from}
 use Rattle.node_pages.specs.PagesState.{PagesState, IsObservable, most_pages}
 use Rattle.node_pages.proofs.Runs.{length-pages_from}
-use Rattle.skip_levels.specs.declared.new_cells.NewCells.{NewCells}
-use Rattle.skip_levels.specs.GroupCells.{merged}
-use Rattle.skip_levels.specs.GroupChanges.{changed_pages, IsChange, IsRun, IsRunChange}
+use Rattle.skip_groups.specs.declared.new_cells.NewCells.{NewCells}
+use Rattle.skip_groups.specs.GroupCells.{merged}
+use Rattle.skip_groups.specs.GroupChanges.{changed_pages, IsChange, IsRun, IsRunChange}
 use Rattle.skip_levels.specs.CellChanges.{HasRoom, SetsCells}
-use Rattle.skip_levels.specs.NewCells.{IsMade, IsNewCellsRead}
-use Rattle.skip_levels.proofs.GroupReads.{few_group_pages}
-use Rattle.skip_levels.proofs.NewCellsSteps.{below_or_not}
-use Rattle.skip_levels.proofs.ValueLemmas.{same_count}
+use Rattle.skip_groups.specs.NewCells.{IsRenewed, IsNewCellsRead}
+use Rattle.skip_groups.proofs.GroupEnds.{few_group_pages}
+use Rattle.skip_groups.proofs.NewCellsSteps.{below_or_not}
+use Rattle.skip_groups.proofs.GroupSteps.{same_count}
 
 get_front : (xs ys : List Page) (i : ℕ) (page : Page) → slice_get xs i ≡ Some page → slice_get (xs ++ ys) i ≡ Some page
 get_front [] ys i page e = absurd (cc)
@@ -34,12 +34,12 @@ get_behind (x ∷ xs) ys k = let next : length (x ∷ xs) + k ≡ suc (length xs
 
 -- ---- the pages of the group
 
-module _ (level : ℕ) (lead : Lead) (key : List ℕ) (own cells : List Cell) (made : NewCells) (same : made.cells.level ≡ level) (within : made.kept + made.count ≤ length (group_pages level lead cells)) (m : IsMade level lead key own cells made) where
+module _ (level : ℕ) (lead : Lead) (cells others : List Cell) (made : NewCells) (same : made.cells.level ≡ level) (within : made.kept + made.count ≤ length (group_pages level lead cells)) (m : IsRenewed level lead cells others made) where
   abbrev olds : List Page
   olds = group_pages level lead cells
 
   abbrev news : List Page
-  news = group_pages level lead (merged key cells own cells)
+  news = group_pages level lead others
 
   abbrev fresh : List Page
   fresh = pages_from level lead made.kept made.cells.cells
@@ -117,8 +117,8 @@ module _ (old mid : PagesState) (level : ℕ) (lead : Lead) (key : List ℕ) (ow
         let news = group_pages level lead (merged key group own group) in
         let fills : length (runs (page_room made.cells.level) made.cells.cells) ≡ length (pages_from level lead made.kept made.cells.cells) = ap (λ k. length (runs (page_room k) made.cells.cells)) same ∙ sym (length-pages_from level lead made.kept made.cells.cells) in
         record {
-          pages_are = (write.observed r.observable).changed olds news front back (is_run level lead key own group made same n.within m) (subst (λ k. IsChange k lead front back olds news) (sym same) h.change) (r.unchanged ∙ h.pages_are)
-              ∙ ap (λ ps. map_of_pages (front ++ (ps ++ back))) (all_changed level lead key own group made same n.within m past (past_is ∙ ap (max made.count) fills));
+          pages_are = (write.observed r.observable).changed olds news front back (is_run level lead group (merged key group own group) made same n.within m.renewed) (subst (λ k. IsChange k lead front back olds news) (sym same) h.change) (r.unchanged ∙ h.pages_are)
+              ∙ ap (λ ps. map_of_pages (front ++ (ps ++ back))) (all_changed level lead group (merged key group own group) made same n.within m.renewed past (past_is ∙ ap (max made.count) fills));
           next_is = m.next;
         };
     lookups = λ o group holds. omega (arith, write.lookups, (read.observed o).lookups group holds);

@@ -2,7 +2,7 @@
 use Rattle.std.specs.Prelude.{◌≡◌, ℕ, ◌+◌, ◌≤◌, ◌<◌, List, [], ◌++◌, length, Result, IfOk}
 use Rattle.std.specs.FinMap as maps
 use Rattle.store_base.specs.declared.store_fault.Fault.{Fault}
-use Rattle.std.specs.declared.cmp.Ordering.TheVariants.{Less}
+use Rattle.std.specs.declared.cmp.Ordering.TheVariants.{Less, Greater}
 use Rattle.store_base.specs.declared.label.Lead as declared
 use Rattle.store_base.specs.Faults.{disk_faults_after}
 use Rattle.store_base.specs.Leads.{lead_of}
@@ -11,12 +11,11 @@ use Rattle.store_model.specs.Labels.Lead.{Leader}
 use Rattle.store_model.specs.Pages.{Cell, Page, group_pages}
 use Rattle.store_model.specs.PageMaps.{PageMap, map_of_pages}
 use Rattle.node_pages.specs.PagesState.{PagesState, IsObservable, most_pages}
-use Rattle.skip_levels.specs.Floors.{last_of, lead_from}
-use Rattle.skip_levels.specs.Groups.{HoldsGroup}
-use Rattle.skip_levels.specs.GroupCells.{AreCells, side, merged}
-use Rattle.skip_levels.specs.GroupChanges.{IsChange}
-use Rattle.skip_levels.specs.PairsState.{most_pairs}
-use Rattle.skip_levels.specs.SearchPath.{group_cost}
+use Rattle.skip_groups.specs.Floors.{last_of, lead_from}
+use Rattle.skip_groups.specs.Groups.{HoldsGroup, group_cost}
+use Rattle.skip_groups.specs.GroupCells.{AreCells, side, merged}
+use Rattle.skip_groups.specs.GroupChanges.{IsChange}
+use Rattle.ordered_pairs.specs.PairsState.{most_pairs}
 
 -- what holds of every call on pages, whatever it changes
 pub record IsPagesCall {T : Type 0} (old new : PagesState) (result : Result T Fault) : Type 0 where
@@ -61,6 +60,8 @@ pub record SetsCells (old new : PagesState) (level : ℕ) (lead : Lead) (key : L
 pub record IsSplitting (m : PageMap) (level : ℕ) (lead : Lead) (key : List ℕ) (own cells : List Cell) (front back : List Page) : Type 0 where
   pub first : IsChange level lead front back (group_pages level lead cells) (group_pages level lead (merged key cells [] []))
   pub second : IsChange level (Leader key) (front ++ group_pages level lead (merged key cells [] [])) back [] (group_pages level (Leader key) (merged key [] own cells))
+  -- each cell is below the key or above it
+  pub sides : cells ≡ side Less key cells ++ side Greater key cells
   pub low_valid : AreCells level (merged key cells [] [])
   pub high_valid : AreCells level (merged key [] own cells)
   pub holds : HoldsGroup m level lead cells
@@ -78,6 +79,7 @@ pub record SplitsGroup (old new : PagesState) (level : ℕ) (lead : Lead) (key :
 pub record IsJoining (m : PageMap) (level : ℕ) (lead : Lead) (key : List ℕ) (low high : List Cell) (front back : List Page) : Type 0 where
   pub first : IsChange level (Leader key) (front ++ group_pages level lead low) back (group_pages level (Leader key) high) []
   pub second : IsChange level lead front back (group_pages level lead low) (group_pages level lead (merged key low [] high))
+  pub below : side Less key low ≡ low
   pub valid : AreCells level (merged key low [] high)
   pub low_holds : HoldsGroup m level lead low
   pub high_holds : HoldsGroup m level (Leader key) high

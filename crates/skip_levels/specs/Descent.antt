@@ -6,7 +6,6 @@ use Rattle.store_base.specs.declared.label.Lead as declared
 use Rattle.store_base.specs.declared.label.Lead.TheVariants as leads
 use Rattle.skip_levels.specs.declared.search.PathEnd.{PathEnd}
 use Rattle.skip_levels.specs.declared.search.KeyPlace.{KeyPlace}
-use Rattle.store_base.specs.Faults.{disk_faults_after}
 use Rattle.store_base.specs.Leads.{lead_of}
 use Rattle.std.specs.Ordering.{is_le, is_lt}
 use Rattle.store_model.specs.Paths.{key_cmp}
@@ -14,11 +13,12 @@ use Rattle.store_model.specs.Labels.{Lead}
 use Rattle.store_model.specs.Labels.Lead.{Start, Leader}
 use Rattle.store_model.specs.Draws.{Draw, IsLawful}
 use Rattle.store_model.specs.Pairs.{Pair, IsPairs}
-use Rattle.store_model.specs.Pages.{pages_of_pairs}
+use Rattle.store_model.specs.Pages.{pages_of_pairs, Cell}
 use Rattle.store_model.specs.PageMaps.{PageMap, map_of_pages}
 use Rattle.node_pages.specs.PagesState.{PagesState, IsObservable}
-use Rattle.skip_levels.specs.PairsState.{most_pairs}
+use Rattle.ordered_pairs.specs.PairsState.{most_pairs}
 use Rattle.skip_levels.specs.SearchPath.{leader_behind, leader_ahead, not_above, above, levels_cost, path_cost}
+use Rattle.skip_groups.specs.Searches.{IsPagesRead}
 
 -- the map is that of the pages of a list of pairs
 pub record HoldsPairs (d : Draw) (s : List Pair) (m : PageMap) : Type 0 where
@@ -81,6 +81,13 @@ pub record IsWayFrom (d : Draw) (s : List Pair) (m : PageMap) (top : ℕ) (key :
   pub within : top < d.height
   pub place : IsPlace d s top key from
 
+-- of a place on the search path the cell that is not above the key becomes the lead, and the one above it what comes next
+abbrev pub led_by : Cell → PathEnd → PathEnd
+led_by cell end = record { lead = leads.Key cell.key; next = end.next }
+
+abbrev pub followed_by : Cell → PathEnd → PathEnd
+followed_by cell end = record { lead = end.lead; next = Some cell.key }
+
 -- what going down from one level to another leaves of observable pages
 pub record GoesDown (old new : PagesState) (top : ℕ) (from : PathEnd) (bottom : ℕ) (key : List ℕ) (result : Result PathEnd Fault) : Type 0 where
   pub observable : IsObservable new
@@ -89,11 +96,8 @@ pub record GoesDown (old new : PagesState) (top : ℕ) (from : PathEnd) (bottom 
   pub lookups : (d : Draw) (s : List Pair) → IsWayFrom d s old.pages top key from → new.lookups ≤ old.lookups + levels_cost d s key (suc bottom) (top - bottom)
 
 -- going down from one level to another on the search path of the key
-pub record IsWayDown (old new : PagesState) (top : ℕ) (from : PathEnd) (bottom : ℕ) (key : List ℕ) (result : Result PathEnd Fault) : Type 0 where
-  pub faults : new.faults ≡ disk_faults_after old.faults result
-  pub lookups_kept : old.lookups ≤ new.lookups
-  pub hidden : IsObservable new → IsObservable old
-  pub observed : IsObservable old → GoesDown old new top from bottom key result
+abbrev pub IsWayDown : (old new : PagesState) (top : ℕ) (from : PathEnd) (bottom : ℕ) (key : List ℕ) (result : Result PathEnd Fault) → Type 0
+IsWayDown old new top from bottom key result = IsPagesRead old new (GoesDown old new top from bottom key result) result
 
 -- a way that did not fail ends at a place
 abbrev pub ends_at : {T : Type 0} → Result T Fault → PathEnd → Result PathEnd Fault
@@ -119,11 +123,8 @@ pub record FindsLead (old new : PagesState) (height : ℕ) (known : Option PathE
   pub lookups : (d : Draw) (s : List Pair) → IsSearched d s old.pages height known → new.lookups ≤ old.lookups + levels_cost d s key 1 (height - 1)
 
 -- a search for what leads the group of a level, and for the place on level 0, on the search path of the key; at level 0 the answer leads the group that is then known
-pub record IsPlaceSearch (old new : PagesState) (height : ℕ) (known : Option PathEnd) (top : ℕ) (key : List ℕ) (behind : Option PathEnd) (result : Result declared.Lead Fault) : Type 0 where
-  pub faults : new.faults ≡ disk_faults_after old.faults result
-  pub lookups_kept : old.lookups ≤ new.lookups
-  pub hidden : IsObservable new → IsObservable old
-  pub observed : IsObservable old → FindsLead old new height known top key behind result
+abbrev pub IsPlaceSearch : (old new : PagesState) (height : ℕ) (known : Option PathEnd) (top : ℕ) (key : List ℕ) (behind : Option PathEnd) (result : Result declared.Lead Fault) → Type 0
+IsPlaceSearch old new height known top key behind result = IsPagesRead old new (FindsLead old new height known top key behind result) result
 
 -- the group of a level on the search path of a key, and its value
 pub record IsKeyPlace (d : Draw) (s : List Pair) (top : ℕ) (key : List ℕ) (place : KeyPlace) : Type 0 where
@@ -140,8 +141,5 @@ pub record FindsKeyPlace (old new : PagesState) (height : ℕ) (known : Option P
   pub lookups : (d : Draw) (s : List Pair) → IsSearched d s old.pages height known → new.lookups ≤ old.lookups + path_cost d s key
 
 -- a search for the place of a key, in pages of lists of this height
-pub record IsKeySearch (old new : PagesState) (height : ℕ) (known : Option PathEnd) (top : ℕ) (key : List ℕ) (behind : Option PathEnd) (result : Result KeyPlace Fault) : Type 0 where
-  pub faults : new.faults ≡ disk_faults_after old.faults result
-  pub lookups_kept : old.lookups ≤ new.lookups
-  pub hidden : IsObservable new → IsObservable old
-  pub observed : IsObservable old → FindsKeyPlace old new height known top key behind result
+abbrev pub IsKeySearch : (old new : PagesState) (height : ℕ) (known : Option PathEnd) (top : ℕ) (key : List ℕ) (behind : Option PathEnd) (result : Result KeyPlace Fault) → Type 0
+IsKeySearch old new height known top key behind result = IsPagesRead old new (FindsKeyPlace old new height known top key behind result) result

@@ -1,16 +1,8 @@
 pub mod CellChanges
 pub mod Descent
-pub mod Floors
-pub mod GroupCells
-pub mod GroupChanges
-pub mod Groups
 pub mod ListState
-pub mod NewCells
 pub mod NextSearch
 pub mod PagePairs
 pub mod PairChanges
-pub mod PairsState
 pub mod PutPlaces
-pub mod Searches
 pub mod SearchPath
-pub mod ValidPairs

@@ -1,30 +1,19 @@
 -- A search for the first pair whose key is not below a given one.
-use Rattle.std.specs.Prelude.{◌≡◌, ℕ, ◌+◌, ◌≤◌, List, Option, Some, None, Result, IfOk, slice_get, if◌then◌else◌}
-use Rattle.std.specs.Option.{option_map}
-use Rattle.std.specs.Ordering.{is_eq}
+use Rattle.std.specs.Prelude.{◌≡◌, ℕ, ◌+◌, ◌≤◌, List, Option, Result, IfOk, slice_get}
 use Rattle.store_base.specs.declared.store_fault.Fault.{Fault}
 use Rattle.store_base.specs.Faults.{disk_faults_after}
-use Rattle.store_model.specs.Paths.{key_cmp}
 use Rattle.store_model.specs.Draws.{Draw}
 use Rattle.store_model.specs.Labels.Lead.{Leader}
 use Rattle.store_model.specs.Pairs.{Pair}
 use Rattle.store_model.specs.Pages.{Cell}
 use Rattle.node_pages.specs.PagesState.{PagesState, IsObservable}
-use Rattle.skip_levels.specs.Groups.{HoldsGroup}
-use Rattle.skip_levels.specs.PairsState.{next_pair}
+use Rattle.skip_groups.specs.Groups.{HoldsGroup}
+use Rattle.ordered_pairs.specs.PairsState.{next_pair}
 use Rattle.skip_levels.specs.SearchPath.{path_cost}
+use Rattle.skip_groups.specs.Searches.{IsPagesRead}
 use Rattle.skip_levels.specs.Descent.{IsKnown, IsSearched}
 use Rattle.skip_levels.specs.declared.search.PathEnd.{PathEnd}
-
--- the pair of a cell of level 0
-abbrev pub pair_in : Option Cell → Option Pair
-pair_in None = None
-pair_in (Some cell) = option_map (λ value. (cell.key, value)) cell.value
-
--- the pair of a key in the cell that was found, if it is the key's
-abbrev pub pair_at : List ℕ → Option Cell → Option Pair
-pair_at key None = None
-pair_at key (Some cell) = if is_eq (key_cmp key cell.key) then pair_in (Some cell) else None
+use Rattle.skip_groups.specs.Floors.{pair_in}
 
 -- what asking for the first pair of a group makes of observable pages
 pub record FindsFirstPair (old new : PagesState) (leader : List ℕ) (result : Result (Option Pair) Fault) : Type 0 where
@@ -49,8 +38,5 @@ pub record FindsNext (old new : PagesState) (height : ℕ) (known : Option PathE
   pub lookups : (d : Draw) (s : List Pair) → IsSearched d s old.pages height known → new.lookups ≤ old.lookups + path_cost d s key + 1
 
 -- a search for the first pair whose key is not below the given one, in pages of lists of this height
-pub record IsNextSearch (old new : PagesState) (height : ℕ) (known : Option PathEnd) (key : List ℕ) (behind : Option PathEnd) (result : Result (Option Pair) Fault) : Type 0 where
-  pub faults : new.faults ≡ disk_faults_after old.faults result
-  pub lookups_kept : old.lookups ≤ new.lookups
-  pub hidden : IsObservable new → IsObservable old
-  pub observed : IsObservable old → FindsNext old new height known key behind result
+abbrev pub IsNextSearch : (old new : PagesState) (height : ℕ) (known : Option PathEnd) (key : List ℕ) (behind : Option PathEnd) (result : Result (Option Pair) Fault) → Type 0
+IsNextSearch old new height known key behind result = IsPagesRead old new (FindsNext old new height known key behind result) result

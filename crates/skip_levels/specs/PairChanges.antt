@@ -13,7 +13,7 @@ use Rattle.skip_levels.specs.CellChanges.{IsPagesCall}
 use Rattle.skip_levels.specs.Descent.{HoldsPairs, IsKnown}
 use Rattle.skip_levels.specs.declared.search.PathEnd.{PathEnd}
 use Rattle.skip_levels.specs.PagePairs.{pairs_of_map}
-use Rattle.skip_levels.specs.PairsState.{most_pairs, without}
+use Rattle.ordered_pairs.specs.PairsState.{most_pairs, without}
 use Rattle.skip_levels.specs.SearchPath.{leader_behind, not_above, levels_cost, path_cost, path_cost_below, low_cost}
 
 -- a new key is put on its level first

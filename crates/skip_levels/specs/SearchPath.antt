@@ -1,5 +1,5 @@
 -- The search path of a key: on each level the group in which it stands or would stand, and what reading these groups costs.
-use Rattle.std.specs.Prelude.{ℕ, suc, ◌+◌, ◌/◌, List, [], ◌∷◌, map, filter, length, nat_lt, not, unwrap_or, Option, slice_get}
+use Rattle.std.specs.Prelude.{ℕ, suc, List, [], ◌∷◌, map, filter, nat_lt, not, unwrap_or, Option, slice_get}
 use Rattle.std.specs.List.{sum, find}
 use Rattle.std.specs.Ordering.{is_le, is_lt}
 use Rattle.store_model.specs.Lists.{same_bytes, numbers_below, numbers_from}
@@ -8,7 +8,8 @@ use Rattle.store_model.specs.Labels.{Lead, lead_bytes}
 use Rattle.store_model.specs.Labels.Lead.{Start, Leader}
 use Rattle.store_model.specs.Pairs.{Pair}
 use Rattle.store_model.specs.Draws.{Draw}
-use Rattle.store_model.specs.Pages.{Cell, groups, lead_of, page_room}
+use Rattle.store_model.specs.Pages.{Cell, groups, lead_of}
+use Rattle.skip_groups.specs.Groups.{group_cost}
 
 -- the pairs whose keys are not above the key, and those whose keys are below it
 abbrev pub not_above : List ℕ → List Pair → List Pair
@@ -46,10 +47,6 @@ group_at_or_below d s level key = group_led_by d s level (leader_behind d level 
 -- the group of a level on the search path strictly below a key
 abbrev pub group_below : Draw → List Pair → ℕ → List ℕ → List Cell
 group_below d s level key = group_led_by d s level (leader_behind d level (below key s))
-
--- what reading a group costs: a lookup for each full page, and one that finds a page with room, or none
-abbrev pub group_cost : ℕ → List Cell → ℕ
-group_cost level cells = length cells / page_room level + 1
 
 -- what reading the groups of so many levels of the search path costs, from a level on, at or below the key
 abbrev pub levels_cost : Draw → List Pair → List ℕ → ℕ → ℕ → ℕ

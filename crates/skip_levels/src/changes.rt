@@ -6,17 +6,17 @@ ghost use Rattle.store_model.specs.Draws as draws;
 ghost use Rattle.store_model.specs.Pairs.{Pair};
 ghost use Rattle.store_model.specs.Pages as model;
 ghost use Rattle.node_pages.specs.PagesState.{IsObservable};
-ghost use Rattle.skip_levels.specs.PairsState.{most_pairs};
+ghost use Rattle.ordered_pairs.specs.PairsState.{most_pairs};
 ghost use Rattle.skip_levels.specs.Descent.{HoldsPairs, IsKnown};
 ghost use Rattle.skip_levels.specs.PagePairs.{pairs_of_map};
 ghost use Rattle.skip_levels.specs.PairChanges.{IsPutting, IsTaking, PutsPairFrom, TakesPairFrom, PutsPairIn, TakesPairIn};
 
 use crate::levels::{join_groups, set_cells, split_group};
-use crate::new_cells::NewCells;
 use crate::put_place::{PutPlace, know_behind, place_to_put};
 use crate::search::{KeyPlace, PathEnd, find_place, go_to, known_lead};
 use node_pages::{Cell, Pages};
 use seeded_draw::{Draw, Front};
+use skip_groups::NewCells;
 use std::alloc::Global;
 use store_base::{Fault, Key, Lead, NoMemory, Value};
 
@@ -74,7 +74,7 @@ pub fn put_from<P: Pages>(
     while level > 0 {
         level -= 1;
         let own = cell_on(level, key, value)?;
-        next = split_group(alloc, pages, level, &next, key, own)?;
+        next = split_group(alloc, pages, fresh, level, &next, key, own)?;
     }
     Ok(())
 }
@@ -97,7 +97,7 @@ pub fn take_from<P: Pages>(
     let mut level = top;
     while level > 0 {
         level -= 1;
-        next = join_groups(alloc, pages, level, &next, key)?;
+        next = join_groups(alloc, pages, fresh, level, &next, key)?;
     }
     Ok(())
 }

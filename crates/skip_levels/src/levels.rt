@@ -1,20 +1,20 @@
 //! A change of one key on one level of the list: the pages of one group, or of two that become one.
 
-ghost use Rattle.std.specs.Prelude.{◌≡◌, ◌+◌, ◌<◌, ◌≤◌, [], ◌∷◌, ◌++◌, length, take, IfOk};
-ghost use Rattle.std.specs.List.{flat_map};
+ghost use Rattle.std.specs.Prelude.{◌≡◌, ◌+◌, ◌<◌, ◌≤◌, [], ◌∷◌, length, map, cond};
+ghost use Rattle.std.specs.List.Sorted.{IsStrictlySortedBy};
+ghost use Rattle.std.specs.FinMap as maps;
 ghost use Rattle.store_base.specs.Leads.{lead_of};
 ghost use Rattle.store_model.specs.Labels.Lead.{Leader};
-ghost use Rattle.node_pages.specs.PagesState.{IsObservable};
-ghost use Rattle.skip_levels.specs.GroupCells.{AreCells, IsRisingList, IsMerged, AreKept, merged};
+ghost use Rattle.store_model.specs.Paths.{key_cmp};
+ghost use Rattle.node_pages.specs.PagesState.{IsObservable, most_pages};
 ghost use Rattle.skip_levels.specs.CellChanges.{HasRoom, SetsCells, SplitsGroup, JoinsGroups};
+ghost use Rattle.skip_groups.specs.GroupChanges.{IsRunChange};
+ghost use Rattle.skip_groups.specs.GroupParts.{run_past};
 
-use crate::cells::{Merged, merge_cells, merge_group};
-use crate::change::{read_group, replace_group};
-use crate::new_cells::NewCells;
-use crate::set_group::{change_run, read_new_cells};
-use node_pages::{Cell, Cells, Page, PageList, Pages};
+use node_pages::{Cell, Cells, Pages, room};
+use skip_groups::{NewCells, append_own, change_run, lead_behind, part_group, read_new_cells};
 use std::alloc::Global;
-use store_base::{Fault, Key, Lead, NoMemory};
+use store_base::{Fault, Key, Lead};
 
 /// Sets the key's cells, one or none, in the group that `lead` leads on the level, in the place of the cell that the key
 /// had there. `fresh` lends its memory. The answer is what leads the group of the next lower level, strictly below the key.
@@ -37,37 +37,31 @@ pub fn set_cells<P: Pages>(
     Ok(fresh.next)
 }
 
-/// What a group becomes by its cells below the key; and apart from it the key's own cells and those of the group that are
-/// above it.
-fn parted_cells(
-    alloc: Global,
-    level: u8,
+/// Changes the pages of the group that `lead` leads to those that come of it, unless all its cells are where they were.
+fn change_moved<P: Pages>(
+    pages: &mut P,
     lead: &Lead,
-    pages: &[Page],
-    key: &Key,
-    own: &[Cell],
-) -> Result<(Merged, Cells), NoMemory>
-    requires { length pages.now < 4294967296 }
-    ensures low_valid { IfOk result (λ made. IsRisingList level made.0.cells) }
-    ensures high_valid { IfOk result (λ made. IsRisingList level made.1) }
-    ensures kept { IfOk result (λ made. AreKept level key.now pages.now made.0.kept) }
-    ensures low { AreCells level (merged key.now (flat_map (λ page. page.cells) pages.now) [] [])
-        → IfOk result (λ made. IsMerged (lead_of lead.now) key.now (flat_map (λ page. page.cells) pages.now) [] [] (made.0.next, flat_map (λ page. page.cells) (take made.0.kept pages.now) ++ made.0.cells.cells)) }
-    ensures high { AreCells level (merged key.now [] own.now (flat_map (λ page. page.cells) pages.now))
-        → IfOk result (λ made. made.1.cells ≡ merged key.now [] own.now (flat_map (λ page. page.cells) pages.now)) }
-    ensures low_few { IfOk result (λ made. length made.0.cells.cells ≤ length (flat_map (λ page. page.cells) pages.now)) }
-    ensures high_few { IfOk result (λ made. length made.1.cells ≤ length own.now + length (flat_map (λ page. page.cells) pages.now)) }
+    made: &NewCells,
+    moved: bool,
+) -> Result<(), Fault>
+    requires rising { IsStrictlySortedBy key_cmp (map (λ c. c.key) made.now.cells.cells) }
+    requires room { IsObservable (P.state pages.old) → maps.len (P.state pages.old).pages + (made.now.count + length made.now.cells.cells) < most_pages }
+    ensures call { IsRunChange (P.state pages.old) (P.state pages.new) (lead_of lead.now) made.now.kept made.now.count made.now.cells (cond moved (run_past made.now) 0) result }
+    ensures follows { P.follows pages.old pages.new }
 {
-    let low = merge_group(alloc, level, lead, pages, key, &[], &[])?;
-    let (_, high) = merge_cells(alloc, level, lead, &[], key, own, pages)?;
-    Ok((low, high))
+    if !moved {
+        return Ok(());
+    }
+    change_run(pages, lead, made.kept, made.count, &made.cells)
 }
 
 /// Cuts the group that `lead` leads on the level in two: the cells below the key stay, and the key's own cell and those above
-/// it make the group that the key leads. The answer is what leads the group of the next lower level, strictly below the key.
+/// it make the group that the key leads. `fresh` lends its memory. The answer is what leads the group of the next lower level, strictly
+/// below the key.
 pub fn split_group<P: Pages>(
     alloc: Global,
     pages: &mut P,
+    fresh: &mut NewCells,
     level: u8,
     lead: &Lead,
     key: &Key,
@@ -77,19 +71,22 @@ pub fn split_group<P: Pages>(
     ensures call { SplitsGroup (P.state pages.old) (P.state pages.new) level (lead_of lead.now) key.now (own ∷ []) result }
     ensures follows { P.follows pages.old pages.new }
 {
-    let old = read_group(alloc, pages, level, lead)?;
-    let (low, high) = parted_cells(alloc, level, lead, old.as_slice(), key, &[own])?;
-    replace_group(pages, lead, &old, low.kept, &low.cells)?;
-    let none = PageList::new(alloc);
-    replace_group(pages, &Lead::Key(*key), &none, 0, &high)?;
-    Ok(low.next)
+    let mut high = Cells::with_room(alloc, level, u32::from(room(level)) + 1)?;
+    append_own(&mut high, &[own], key)?;
+    let first = high.len();
+    fresh.restart(level, lead);
+    part_group(pages, lead, key, fresh, &mut high)?;
+    change_moved(pages, lead, fresh, high.len() > first)?;
+    change_run(pages, &Lead::Key(*key), 0, 0, &high)?;
+    Ok(lead_behind(&fresh.cells, &fresh.next))
 }
 
 /// Joins the group that the key leads on the level to that of `lead`, which stands before it, and leaves out the key's own cell.
-/// The answer is what leads the group of the next lower level, strictly below the key.
+/// `fresh` lends its memory. The answer is what leads the group of the next lower level, strictly below the key.
 pub fn join_groups<P: Pages>(
     alloc: Global,
     pages: &mut P,
+    fresh: &mut NewCells,
     level: u8,
     lead: &Lead,
     key: &Key,
@@ -100,18 +97,16 @@ pub fn join_groups<P: Pages>(
     ensures follows { P.follows pages.old pages.new }
 {
     let leader = Lead::Key(*key);
-    let low = read_group(alloc, pages, level, lead)?;
-    let high = read_group(alloc, pages, level, &leader)?;
-    let new = merge_group(
-        alloc,
-        level,
-        lead,
-        low.as_slice(),
-        key,
-        &[],
-        high.as_slice(),
-    )?;
-    replace_group(pages, &leader, &high, 0, &Cells::new(alloc, level))?;
-    replace_group(pages, lead, &low, new.kept, &new.cells)?;
-    Ok(new.next)
+    fresh.restart(level, lead);
+    let mut none = Cells::new(alloc, level);
+    part_group(pages, lead, key, fresh, &mut none)?;
+    let next = lead_behind(&fresh.cells, &fresh.next);
+    let first = fresh.cells.len();
+    let mut gone = NewCells::new(alloc);
+    gone.restart(level, &leader);
+    part_group(pages, &leader, key, &mut gone, &mut fresh.cells)?;
+    let count = gone.kept + gone.count;
+    change_run(pages, &leader, 0, count, &Cells::new(alloc, level))?;
+    change_moved(pages, lead, fresh, fresh.cells.len() > first)?;
+    Ok(next)
 }

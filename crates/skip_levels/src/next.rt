@@ -4,10 +4,9 @@ ghost use Rattle.std.specs.Prelude.{◌≡◌, ◌≤◌};
 ghost use Rattle.skip_levels.specs.Descent.{next_known};
 ghost use Rattle.skip_levels.specs.NextSearch.{IsFirstPair, IsNextSearch};
 
-use crate::group::label_in_group;
-use crate::search::{PathEnd, go_to, known_lead, search_group};
-use crate::wanted::pair_of;
+use crate::search::{PathEnd, go_to, known_lead};
 use node_pages::Pages;
+use skip_groups::{label_in_group, pair_of, search_group};
 use store_base::{Fault, Key, Lead, Value};
 
 /// The first pair of the group of level 0 that a key leads; `None` where there is no such group. One page is asked for.

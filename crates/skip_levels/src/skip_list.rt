@@ -7,12 +7,12 @@ ghost use Rattle.skip_levels.specs.Descent.{HoldsPairs};
 ghost use Rattle.skip_levels.specs.PagePairs.{pairs_of_map, list_over};
 
 use crate::changes::{put_pair, take_pair};
-use crate::new_cells::NewCells;
 use crate::next::find_next;
-use crate::ordered::OrderedPairs;
 use crate::search::{PathEnd, find_value};
 use node_pages::Pages;
+use ordered_pairs::OrderedPairs;
 use seeded_draw::{Draw, Front};
+use skip_groups::NewCells;
 use std::alloc::Global;
 use std::marker::Model;
 use store_base::{Fault, Key, Value};
@@ -105,7 +105,7 @@ impl<P: Pages, W: Draw + Drop> SkipList<P, W> {
 impl<P: Pages, W: Draw + Drop> OrderedPairs for SkipList<P, W> {
     ghost use Rattle.std.specs.Prelude.{refl, ◌+◌, ◌<◌, ◌≤◌, length};
     ghost use Rattle.std.proofs.Common.{◌∙◌};
-    ghost use Rattle.skip_levels.specs.PairsState.{IsObservable, IsPairGet, IsPairPut, IsPairTake, IsNextPair, most_pairs};
+    ghost use Rattle.ordered_pairs.specs.PairsState.{IsObservable, IsPairGet, IsPairPut, IsPairTake, IsNextPair, most_pairs};
     ghost use Rattle.skip_levels.specs.SearchPath.{path_cost, path_cost_below, low_cost};
 
     ghost state = { λ list. list_over (W.drawn list.draw) list.is_whole (P.state list.pages) };

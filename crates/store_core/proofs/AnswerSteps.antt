@@ -17,7 +17,7 @@ use Rattle.script_lines.specs.declared.reply.Reply.{Reply}
 use Rattle.script_lines.specs.declared.reply.Reply.TheVariants as replies
 use Rattle.script_lines.specs.Replies.{reply_of}
 use Rattle.skip_levels.specs.Descent.{HoldsPairs}
-use Rattle.skip_levels.specs.PairsState.{PairsState}
+use Rattle.ordered_pairs.specs.PairsState.{PairsState}
 use Rattle.tree_pairs.specs.TreeCalls.{uncounted_step, CarriesOut}
 use Rattle.page_store.specs.StagedState.{StagedState, IsTold, Follows}
 use Rattle.store_core.specs.declared.fault.ApplyFault.{ApplyFault}

@@ -18,7 +18,7 @@ use Rattle.script_lines.specs.Replies.{reply_of}
 use Rattle.skip_levels.specs.declared.search.PathEnd.{PathEnd}
 use Rattle.skip_levels.specs.Descent.{HoldsPairs, IsKnown}
 use Rattle.skip_levels.specs.PagePairs.{pairs_of_map, list_over, IsHeld, KeepsList}
-use Rattle.skip_levels.specs.PairsState.{PairsState}
+use Rattle.ordered_pairs.specs.PairsState.{PairsState}
 use Rattle.skip_levels.proofs.PagePairsLemmas.{holds_own, holds_its_pairs}
 use Rattle.tree_pairs.specs.TreeCalls.{pairs_limit, uncounted_step, CarriesOut}
 use Rattle.page_store.specs.StagedState.{StagedState, IsTold, Follows, pages_state}

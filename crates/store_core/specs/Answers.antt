@@ -15,7 +15,7 @@ use Rattle.seeded_draw.specs.declared.any.AnyDraw.{AnyDraw}
 use Rattle.script_lines.specs.declared.reply.Reply.{Reply}
 use Rattle.script_lines.specs.declared.reply.Reply.TheVariants as replies
 use Rattle.script_lines.specs.Replies.{reply_of}
-use Rattle.skip_levels.specs.PairsState.{PairsState, IsObservable}
+use Rattle.ordered_pairs.specs.PairsState.{PairsState, IsObservable}
 use Rattle.skip_levels.specs.Descent.{HoldsPairs}
 use Rattle.tree_pairs.specs.TreeCalls.{HoldsTree, uncounted_step}
 use Rattle.page_store.specs.StagedState.{StagedState, Follows}

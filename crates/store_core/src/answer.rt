@@ -8,9 +8,9 @@ ghost use Rattle.store_core.specs.Answers.{is_look, AnswersBy};
 
 use dir_tree::list;
 use file_blocks::read_at;
+use ordered_pairs::OrderedPairs;
 use path_keys::Path;
 use script_lines::{Command, Reply};
-use skip_levels::OrderedPairs;
 use std::alloc::Global;
 use store_base::Fault;
 

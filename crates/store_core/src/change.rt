@@ -10,9 +10,9 @@ ghost use Rattle.store_core.specs.Answers.{is_change};
 
 use dir_tree::{make, remove};
 use file_blocks::{cut, write_at};
+use ordered_pairs::OrderedPairs;
 use path_keys::Path;
 use script_lines::Command;
-use skip_levels::OrderedPairs;
 use store_base::{Answer, Bytes, Fault, Refusal};
 use subtree_move::{prune, rename};
 use tree_pairs::{Kind, kind_of};

@@ -11,7 +11,7 @@ use Rattle.store_model.specs.Pairs.{Pair}
 use Rattle.store_model.proofs.PathsLemmas.{order_of_keys}
 use Rattle.store_model.proofs.TreesLemmasPaths.{same_from_tie}
 use Rattle.path_keys.proofs.PastBytes.{past_bytes, subtree_before_past, past_before_later}
-use Rattle.skip_levels.specs.PairsState.{without}
+use Rattle.ordered_pairs.specs.PairsState.{without}
 use Rattle.dir_tree.proofs.OrderLemmas.{same_key_from_test, reversed, at_itself, top_is_lowest}
 
 -- ---- the pairs whose keys pass a test

@@ -16,7 +16,7 @@ use Rattle.store_model.proofs.ListsLemmas.{nat_cmp-lt, all_with}
 use Rattle.store_model.proofs.PathsLemmas.{order_of_keys}
 use Rattle.store_model.proofs.TreesLemmasPaths.{path_cmp_total, same_from_tie}
 use Rattle.store_model.proofs.TreesLemmas.{find_from_all, node_at-find, entry_at, contents_of_tree, all_exist}
-use Rattle.skip_levels.specs.PairsState.{PairsState, IsObservable, most_pairs}
+use Rattle.ordered_pairs.specs.PairsState.{PairsState, IsObservable, most_pairs}
 use Rattle.tree_pairs.specs.Blocks.{block_value, tree_blocks}
 use Rattle.tree_pairs.specs.TreeCalls.{HoldsTree, KeepsPairs}
 use Rattle.tree_pairs.proofs.BlocksLemmas.{run_value-none, length-run_at, pairs_have_blocks}

@@ -9,8 +9,8 @@ ghost use Rattle.dir_tree.specs.RefusalCalls.{TellsRefusal};
 ghost use Rattle.subtree_move.specs.MoveCalls.{TellsGrowth, MovesBlock, MovesSubtree};
 
 use dir_tree::{Block, Kind, kind_of, next_within, refusal_to_make};
+use ordered_pairs::OrderedPairs;
 use path_keys::Path;
-use skip_levels::OrderedPairs;
 use store_base::{Answer, Fault, Refusal};
 
 /// Moves what stands at `from`, and all that lies below it, to `to`.

@@ -6,8 +6,8 @@ ghost use Rattle.tree_pairs.specs.TreeCalls.{CarriesOut};
 ghost use Rattle.dir_tree.specs.RefusalCalls.{TellsRefusal};
 
 use dir_tree::{Kind, kind_of, take_subtree};
+use ordered_pairs::OrderedPairs;
 use path_keys::Path;
-use skip_levels::OrderedPairs;
 use store_base::{Answer, Fault, Refusal};
 
 /// Removes what stands at the path and all that lies below it.

@@ -9,7 +9,7 @@ use Rattle.store_model.specs.Commands.{Command, Reply}
 use Rattle.store_model.specs.Commands.Reply.{Refused}
 use Rattle.store_model.specs.Pages.{page_count}
 use Rattle.store_model.specs.Steps.{refusal_of, next_tree, reply_of, may_fill, step, step_by}
-use Rattle.skip_levels.specs.PairsState.{PairsState}
+use Rattle.ordered_pairs.specs.PairsState.{PairsState}
 use Rattle.tree_pairs.specs.TreeCalls.{uncounted_by, uncounted_step, IsStepOf}
 
 -- a command that is not refused: its reply, and the pairs of the next tree

@@ -7,7 +7,7 @@ use Rattle.store_model.specs.Pairs.{directory_value, file_value}
 use Rattle.store_model.specs.Trees.{Tree, Node, node_at, contents_of, file_limit}
 use Rattle.store_model.specs.Trees.Node.{Directory, File}
 use Rattle.store_model.proofs.TreesLemmas.{node_at-find, contents_of_tree}
-use Rattle.skip_levels.specs.PairsState.{PairsState}
+use Rattle.ordered_pairs.specs.PairsState.{PairsState}
 use Rattle.tree_pairs.specs.declared.kind.Kind.{Kind}
 use Rattle.tree_pairs.specs.declared.kind.Kind.TheVariants as kinds
 use Rattle.tree_pairs.specs.Kinds.{kind_of_node}

@@ -11,7 +11,7 @@ use Rattle.store_model.specs.Paths.{key_cmp}
 use Rattle.store_model.specs.Pairs.{Pair}
 use Rattle.store_model.proofs.TreesLemmasPaths.{tie_from_test}
 use Rattle.store_model.proofs.ListsLemmas.{all_weaker, rising_head, rising_tail}
-use Rattle.skip_levels.specs.PairsState.{next_pair}
+use Rattle.ordered_pairs.specs.PairsState.{next_pair}
 use Rattle.tree_pairs.proofs.BlocksLemmas.{find_missing}
 
 -- the pair is the first from the key on

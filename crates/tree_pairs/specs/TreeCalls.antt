@@ -10,7 +10,7 @@ use Rattle.store_model.specs.Commands.Reply.{Refused}
 use Rattle.store_model.specs.Steps.{Step, refusal_of, next_tree, reply_of}
 use Rattle.store_base.specs.declared.store_fault.Fault.{Fault}
 use Rattle.store_base.specs.Faults.{disk_faults_after}
-use Rattle.skip_levels.specs.PairsState.{PairsState, IsObservable}
+use Rattle.ordered_pairs.specs.PairsState.{PairsState, IsObservable}
 use Rattle.tree_pairs.specs.declared.kind.Kind.{Kind}
 use Rattle.tree_pairs.specs.Kinds.{kind_of_node}
 

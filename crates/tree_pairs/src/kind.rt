@@ -2,13 +2,13 @@
 
 ghost use Rattle.std.specs.Prelude.{◌≡◌, ℕ, ◌<◌, ◌^◌};
 ghost use Rattle.store_model.specs.Pairs as model;
-ghost use Rattle.skip_levels.specs.PairsState.{IsObservable};
+ghost use Rattle.ordered_pairs.specs.PairsState.{IsObservable};
 ghost use Rattle.tree_pairs.specs.TreeCalls.{TellsKind};
 ghost use Rattle.tree_pairs.specs.declared.kind.Kind.TheVariants as kinds;
 
 use byteorder::{BigEndian, ByteOrder};
+use ordered_pairs::OrderedPairs;
 use path_keys::Path;
-use skip_levels::OrderedPairs;
 use store_base::{Fault, Value};
 
 /// The byte that a directory's value has.

@@ -3,24 +3,33 @@ use Rattle.store_model.specs.Trees.{node_at}
 use Rattle.dir_tree.proofs.RefusalLemmas.{dir_stands, no_dir_stands, nothing_stands, something_stands, remove_of_root, remove_of_none, remove_of_file, remove_of_directory, kept_itself, kept_on, still_holds, told_by_kind}
 use Rattle.dir_tree.proofs.changing.refusal_to_remove.Goals as goal
 
-pub returns-then-is_root-clause-call : goal.returns-then-is_root-clause-call
-returns-then-is_root-clause-call g c = record {
-  faults = refl;
-  keeps = kept_itself (g.P.OrderedPairs.state c.args.pairs.now);
-  told = λ seen t p holds. remove_of_root t c.args.path.now (sym c.is_root.ensures.value ∙ c.if-is_root.true);
+pub returns-then-is_root : goal.returns-then-is_root
+returns-then-is_root g c = record {
+  call = record {
+    faults = refl;
+    keeps = kept_itself (g.P.OrderedPairs.state c.args.pairs.now);
+    told = λ seen t p holds. remove_of_root t c.args.path.now (sym c.is_root.ensures.value ∙ c.if-is_root.true);
+  };
+  follows = g.met.P.OrderedPairs.follows_refl _;
 }
 
-pub returns-in-Absent-clause-call : goal.returns-in-Absent-clause-call
-returns-in-Absent-clause-call g c =
-    told_by_kind _ c.args.path.now c.in_ok-kind_of.field-0 _ _ _ c.in_ok-kind_of.ensures.call
-    (λ t told. remove_of_none t c.args.path.now (sym c.is_root.ensures.value ∙ c.if-is_root.false) (nothing_stands (node_at t c.args.path.now) c.in_ok-kind_of.field-0 told c.in-Absent.is))
+pub returns-in-Absent : goal.returns-in-Absent
+returns-in-Absent g c = record {
+  call =
+      told_by_kind _ c.args.path.now c.in_ok-kind_of.field-0 _ _ _ c.in_ok-kind_of.ensures.call
+      (λ t told. remove_of_none t c.args.path.now (sym c.is_root.ensures.value ∙ c.if-is_root.false) (nothing_stands (node_at t c.args.path.now) c.in_ok-kind_of.field-0 told c.in-Absent.is));
+  follows = c.kind_of.ensures.follows;
+}
 
-pub returns-in-File-clause-call : goal.returns-in-File-clause-call
-returns-in-File-clause-call g c =
-    let is = c.in-File.is in
-    told_by_kind _ c.args.path.now c.in_ok-kind_of.field-0 _ _ _ c.in_ok-kind_of.ensures.call (λ t told.
-    let stands = something_stands (node_at t c.args.path.now) c.in_ok-kind_of.field-0 told (λ none. cc) in
-    remove_of_file t c.args.path.now (sym c.is_root.ensures.value ∙ c.if-is_root.false) stands.0 stands.1 (no_dir_stands (node_at t c.args.path.now) c.in_ok-kind_of.field-0 told (λ dir. cc)))
+pub returns-in-File : goal.returns-in-File
+returns-in-File g c = record {
+  call =
+      let is = c.in-File.is in
+      told_by_kind _ c.args.path.now c.in_ok-kind_of.field-0 _ _ _ c.in_ok-kind_of.ensures.call (λ t told.
+      let stands = something_stands (node_at t c.args.path.now) c.in_ok-kind_of.field-0 told (λ none. cc) in
+      remove_of_file t c.args.path.now (sym c.is_root.ensures.value ∙ c.if-is_root.false) stands.0 stands.1 (no_dir_stands (node_at t c.args.path.now) c.in_ok-kind_of.field-0 told (λ dir. cc)));
+  follows = c.kind_of.ensures.follows;
+}
 
 pub returns-in_ok-has_child-in-Dir-clause-call : goal.returns-in_ok-has_child-in-Dir-clause-call
 returns-in_ok-has_child-in-Dir-clause-call g c =
@@ -36,17 +45,8 @@ returns-in_ok-has_child-in-Dir-clause-call g c =
           c.then_some.ensures ∙ remove_of_directory t c.args.path.now (sym c.is_root.ensures.value ∙ c.if-is_root.false) dir c.in_ok-has_child-in-Dir.field-0 (child.told (at.keeps.observable seen) t p (still_holds old between t p at.keeps seen holds) dir);
     }
 
-pub returns-then-is_root-clause-follows : goal.returns-then-is_root-clause-follows
-returns-then-is_root-clause-follows g c = g.met.P.OrderedPairs.follows_refl _
-
 pub returns-in_err-kind_of-clause-follows : goal.returns-in_err-kind_of-clause-follows
 returns-in_err-kind_of-clause-follows g c = c.kind_of.ensures.follows
-
-pub returns-in-Absent-clause-follows : goal.returns-in-Absent-clause-follows
-returns-in-Absent-clause-follows g c = c.kind_of.ensures.follows
-
-pub returns-in-File-clause-follows : goal.returns-in-File-clause-follows
-returns-in-File-clause-follows g c = c.kind_of.ensures.follows
 
 pub returns-in_err-has_child-in-Dir-clause-follows : goal.returns-in_err-has_child-in-Dir-clause-follows
 returns-in_err-has_child-in-Dir-clause-follows g c = g.met.P.OrderedPairs.follows_trans _ _ _ c.kind_of.ensures.follows c.has_child.ensures.follows

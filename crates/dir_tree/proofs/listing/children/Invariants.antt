@@ -1,7 +1,7 @@
 use Rattle.std.proofs.Common.{◌≡◌, true}
 use Rattle.store_model.specs.Parameters.{Parameters}
 use Rattle.store_model.specs.Trees.{Tree, is_directory}
-use Rattle.skip_levels.specs.PairsState.{IsObservable}
+use Rattle.ordered_pairs.specs.PairsState.{IsObservable}
 use Rattle.tree_pairs.specs.TreeCalls.{HoldsTree, KeepsPairs}
 use Rattle.dir_tree.proofs.ListingLemmas.{IsPartListed}
 use Rattle.dir_tree.proofs.listing.children.Given as goal

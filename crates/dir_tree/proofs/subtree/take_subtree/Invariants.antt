@@ -1,5 +1,5 @@
 use Rattle.std.proofs.Common.{◌≡◌}
-use Rattle.skip_levels.specs.PairsState.{IsObservable}
+use Rattle.ordered_pairs.specs.PairsState.{IsObservable}
 use Rattle.tree_pairs.specs.Blocks.{BlockMap}
 use Rattle.dir_tree.specs.SubtreeCalls.{HasPathBlocks}
 use Rattle.dir_tree.proofs.TakingLemmas.{IsPartTaken}

@@ -11,10 +11,14 @@ use Rattle.file_blocks.specs.Refusals.{cut_conditions, size_of}
 use Rattle.file_blocks.proofs.CarryLemmas.{carries_fault, refused_by_kind, refusal-cut, size_of-node, cut_fits, cut_allowed, has_contents, pairs-cut, pairs-uncut}
 use Rattle.file_blocks.proofs.cutting.cut.Goals as goal
 
-pub returns-in-Err-clause-call : goal.returns-in-Err-clause-call
-returns-in-Err-clause-call g c =
-    refused_by_kind (λ _. Acknowledged) (Cut c.args.path.now c.args.len) c.args.path.now c.in_ok-kind.kind c.in-Err.refusal (λ kind. cut_conditions kind c.args.len)
-    (g.P.OrderedPairs.state c.args.pairs.now) (g.P.OrderedPairs.state c.kind_of.new.pairs) c.in_ok-kind.ensures.call (λ seen t p holds. refusal-cut t c.args.path.now c.args.len) c.in-Err.ensures
+pub returns-in-Err : goal.returns-in-Err
+returns-in-Err g c = record {
+  call =
+      refused_by_kind (λ _. Acknowledged) (Cut c.args.path.now c.args.len) c.args.path.now c.in_ok-kind.kind c.in-Err.refusal (λ kind. cut_conditions kind c.args.len)
+      (g.P.OrderedPairs.state c.args.pairs.now) (g.P.OrderedPairs.state c.kind_of.new.pairs) c.in_ok-kind.ensures.call (λ seen t p holds. refusal-cut t c.args.path.now c.args.len) c.in-Err.ensures;
+  hidden = c.kind_of.ensures.hidden;
+  follows = c.kind_of.ensures.follows;
+}
 
 pub returns-then-size-len-clause-call : goal.returns-then-size-len-clause-call
 unfolding reply_of
@@ -65,12 +69,6 @@ returns-in_err-kind-clause-hidden g c seen = c.kind_of.ensures.hidden seen
 
 pub returns-in_err-kind-clause-follows : goal.returns-in_err-kind-clause-follows
 returns-in_err-kind-clause-follows g c = c.kind_of.ensures.follows
-
-pub returns-in-Err-clause-hidden : goal.returns-in-Err-clause-hidden
-returns-in-Err-clause-hidden g c seen = c.kind_of.ensures.hidden seen
-
-pub returns-in-Err-clause-follows : goal.returns-in-Err-clause-follows
-returns-in-Err-clause-follows g c = c.kind_of.ensures.follows
 
 pub returns-then-size-len-clause-hidden : goal.returns-then-size-len-clause-hidden
 returns-then-size-len-clause-hidden g c seen = c.kind_of.ensures.hidden seen

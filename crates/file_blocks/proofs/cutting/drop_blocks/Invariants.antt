@@ -1,5 +1,5 @@
 use Rattle.std.proofs.Common.{length, ◌-◌, ◌*◌, ◌≤◌, Ok}
-use Rattle.skip_levels.specs.PairsState.{IsObservable}
+use Rattle.ordered_pairs.specs.PairsState.{IsObservable}
 use Rattle.file_blocks.specs.FileCalls.{CutsBytes}
 use Rattle.file_blocks.proofs.cutting.drop_blocks.Given as goal
 

@@ -1,5 +1,5 @@
 use Rattle.std.proofs.Common.{length, ◌-◌, ◌≤◌, Ok}
-use Rattle.skip_levels.specs.PairsState.{IsObservable}
+use Rattle.ordered_pairs.specs.PairsState.{IsObservable}
 use Rattle.file_blocks.specs.FileCalls.{ReadsBytes}
 use Rattle.file_blocks.proofs.reading.read_bytes.Given as goal
 

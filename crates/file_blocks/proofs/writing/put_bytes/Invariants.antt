@@ -1,5 +1,5 @@
 use Rattle.std.proofs.Common.{length, ◌-◌, ◌≤◌, take, Ok}
-use Rattle.skip_levels.specs.PairsState.{IsObservable}
+use Rattle.ordered_pairs.specs.PairsState.{IsObservable}
 use Rattle.file_blocks.specs.FileCalls.{PutsBytes}
 use Rattle.file_blocks.proofs.writing.put_bytes.Given as goal
 

@@ -11,13 +11,17 @@ use Rattle.file_blocks.specs.Refusals.{write_conditions, size_of}
 use Rattle.file_blocks.proofs.CarryLemmas.{carries_fault, refusal-write, size_of-node, write_fits, written, refused_by_kind, pairs-write, pairs-write_within}
 use Rattle.file_blocks.proofs.writing.write_at.Goals as goal
 
-pub returns-in-Err-clause-call : goal.returns-in-Err-clause-call
-returns-in-Err-clause-call g c =
-    let bytes = c.args.bytes.now in
-    refused_by_kind (λ _. Acknowledged) (Write c.args.path.now c.args.at bytes) c.args.path.now c.in_ok-kind.kind c.in-Err.refusal (λ kind. write_conditions kind c.args.at (length c.as_slice.result.now))
-    (g.P.OrderedPairs.state c.args.pairs.now) (g.P.OrderedPairs.state c.kind_of.new.pairs) c.in_ok-kind.ensures.call
-    (λ seen t p holds. refusal-write t c.args.path.now c.args.at bytes (c.requires.parent seen t p holds) ∙ ap (λ n. first_refusal (write_conditions (kind_of_node (node_at t c.args.path.now)) c.args.at n)) (sym (ap length c.as_slice.ensures.value)))
-    c.in-Err.ensures
+pub returns-in-Err : goal.returns-in-Err
+returns-in-Err g c = record {
+  call =
+      let bytes = c.args.bytes.now in
+      refused_by_kind (λ _. Acknowledged) (Write c.args.path.now c.args.at bytes) c.args.path.now c.in_ok-kind.kind c.in-Err.refusal (λ kind. write_conditions kind c.args.at (length c.as_slice.result.now))
+      (g.P.OrderedPairs.state c.args.pairs.now) (g.P.OrderedPairs.state c.kind_of.new.pairs) c.in_ok-kind.ensures.call
+      (λ seen t p holds. refusal-write t c.args.path.now c.args.at bytes (c.requires.parent seen t p holds) ∙ ap (λ n. first_refusal (write_conditions (kind_of_node (node_at t c.args.path.now)) c.args.at n)) (sym (ap length c.as_slice.ensures.value)))
+      c.in-Err.ensures;
+  hidden = c.kind_of.ensures.hidden;
+  follows = c.kind_of.ensures.follows;
+}
 
 pub put_bytes-requires-clause-fits : goal.put_bytes-requires-clause-fits
 put_bytes-requires-clause-fits g c =
@@ -76,12 +80,6 @@ returns-in_err-kind-clause-hidden g c seen = c.kind_of.ensures.hidden seen
 
 pub returns-in_err-kind-clause-follows : goal.returns-in_err-kind-clause-follows
 returns-in_err-kind-clause-follows g c = c.kind_of.ensures.follows
-
-pub returns-in-Err-clause-hidden : goal.returns-in-Err-clause-hidden
-returns-in-Err-clause-hidden g c seen = c.kind_of.ensures.hidden seen
-
-pub returns-in-Err-clause-follows : goal.returns-in-Err-clause-follows
-returns-in-Err-clause-follows g c = c.kind_of.ensures.follows
 
 pub returns-in_err-put_bytes-clause-hidden : goal.returns-in_err-put_bytes-clause-hidden
 returns-in_err-put_bytes-clause-hidden g c seen = c.kind_of.ensures.hidden (c.put_bytes.ensures.hidden seen)

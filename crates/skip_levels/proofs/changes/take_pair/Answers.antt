@@ -2,7 +2,7 @@ use Rattle.std.proofs.Common.{sym, subst, arith}
 use Rattle.std.proofs.lemmas.Result.{err_from_is_err_and}
 use Rattle.skip_levels.specs.Descent.{IsKnown}
 use Rattle.skip_levels.specs.PagePairs.{pairs_of_map}
-use Rattle.skip_levels.specs.PairsState.{without}
+use Rattle.ordered_pairs.specs.PairsState.{without}
 use Rattle.skip_levels.proofs.PairCalls.{not_found, none_to_take, pair_taken, pair_not_taken, known_still}
 use Rattle.skip_levels.proofs.changes.take_pair.Goals.{then-top-gt0, else-top-gt0}
 use Rattle.skip_levels.proofs.changes.take_pair.Goals as goal

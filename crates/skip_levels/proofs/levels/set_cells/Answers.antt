@@ -1,7 +1,7 @@
 use Rattle.std.proofs.Common.{Ok, Err, refl, ◌∙◌, subst}
 use Rattle.std.proofs.lemmas.Result.{err_from_is_err_and}
 use Rattle.store_base.specs.Leads.{lead_of}
-use Rattle.skip_levels.specs.NewCells.{IsNewCellsRead}
+use Rattle.skip_groups.specs.NewCells.{IsNewCellsRead}
 use Rattle.skip_levels.proofs.SetCalls.{room_to_change, cells_set, cells_not_read, cells_not_set}
 use Rattle.skip_levels.proofs.levels.set_cells.Goals as goal
 

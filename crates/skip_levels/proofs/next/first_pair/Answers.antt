@@ -1,5 +1,5 @@
 use Rattle.skip_levels.proofs.NextLemmas.{first_none, first_some}
-use Rattle.skip_levels.proofs.Looks.{looked_none, looked_some}
+use Rattle.skip_groups.proofs.Looks.{looked_none, looked_some}
 use Rattle.skip_levels.proofs.next.first_pair.Goals as goal
 
 pub returns-in_default-clause-call : goal.returns-in_default-clause-call

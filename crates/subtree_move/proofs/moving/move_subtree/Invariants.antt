@@ -4,7 +4,7 @@ use Rattle.store_model.specs.Parameters.{Parameters}
 use Rattle.store_model.specs.Trees.{Tree}
 use Rattle.store_model.specs.Commands.Command.{Rename}
 use Rattle.store_model.specs.Steps.{refusal_of}
-use Rattle.skip_levels.specs.PairsState.{IsObservable}
+use Rattle.ordered_pairs.specs.PairsState.{IsObservable}
 use Rattle.tree_pairs.specs.TreeCalls.{HoldsTree}
 use Rattle.subtree_move.proofs.PartLemmas.{IsPartMoved}
 use Rattle.subtree_move.proofs.moving.move_subtree.Given as goal

@@ -1,6 +1,6 @@
 use Rattle.store_model.specs.Parameters.{Parameters}
 use Rattle.store_model.specs.Trees.{Tree}
-use Rattle.skip_levels.specs.PairsState.{IsObservable}
+use Rattle.ordered_pairs.specs.PairsState.{IsObservable}
 use Rattle.tree_pairs.specs.TreeCalls.{HoldsTree}
 use Rattle.subtree_move.proofs.TestLemmas.{IsPartTested, HasWalked}
 use Rattle.subtree_move.proofs.moving.outgrows.Given as goal

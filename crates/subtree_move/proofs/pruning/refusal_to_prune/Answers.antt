@@ -3,17 +3,23 @@ use Rattle.store_model.specs.Trees.{node_at}
 use Rattle.dir_tree.proofs.RefusalLemmas.{nothing_stands, something_stands, prune_of_root, prune_of_none, prune_of_one, kept_itself, told_by_kind}
 use Rattle.subtree_move.proofs.pruning.refusal_to_prune.Goals as goal
 
-pub returns-then-is_root-clause-call : goal.returns-then-is_root-clause-call
-returns-then-is_root-clause-call g c = record {
-  faults = refl;
-  keeps = kept_itself (g.P.OrderedPairs.state c.args.pairs.now);
-  told = λ seen t p holds. prune_of_root t c.args.path.now (sym c.is_root.ensures.value ∙ c.if-is_root.true);
+pub returns-then-is_root : goal.returns-then-is_root
+returns-then-is_root g c = record {
+  call = record {
+    faults = refl;
+    keeps = kept_itself (g.P.OrderedPairs.state c.args.pairs.now);
+    told = λ seen t p holds. prune_of_root t c.args.path.now (sym c.is_root.ensures.value ∙ c.if-is_root.true);
+  };
+  follows = g.met.P.OrderedPairs.follows_refl _;
 }
 
-pub returns-in-Absent-clause-call : goal.returns-in-Absent-clause-call
-returns-in-Absent-clause-call g c =
-    told_by_kind _ c.args.path.now c.in_ok-kind_of.field-0 _ _ _ c.in_ok-kind_of.ensures.call
-    (λ t told. prune_of_none t c.args.path.now (sym c.is_root.ensures.value ∙ c.if-is_root.false) (nothing_stands (node_at t c.args.path.now) c.in_ok-kind_of.field-0 told c.in-Absent.is))
+pub returns-in-Absent : goal.returns-in-Absent
+returns-in-Absent g c = record {
+  call =
+      told_by_kind _ c.args.path.now c.in_ok-kind_of.field-0 _ _ _ c.in_ok-kind_of.ensures.call
+      (λ t told. prune_of_none t c.args.path.now (sym c.is_root.ensures.value ∙ c.if-is_root.false) (nothing_stands (node_at t c.args.path.now) c.in_ok-kind_of.field-0 told c.in-Absent.is));
+  follows = c.kind_of.ensures.follows;
+}
 
 pub returns-in_default : goal.returns-in_default
 returns-in_default g c = record {
@@ -23,11 +29,5 @@ returns-in_default g c = record {
   follows = c.in_ok-kind_of.ensures.follows;
 }
 
-pub returns-then-is_root-clause-follows : goal.returns-then-is_root-clause-follows
-returns-then-is_root-clause-follows g c = g.met.P.OrderedPairs.follows_refl _
-
 pub returns-in_err-kind_of-clause-follows : goal.returns-in_err-kind_of-clause-follows
 returns-in_err-kind_of-clause-follows g c = c.kind_of.ensures.follows
-
-pub returns-in-Absent-clause-follows : goal.returns-in-Absent-clause-follows
-returns-in-Absent-clause-follows g c = c.kind_of.ensures.follows

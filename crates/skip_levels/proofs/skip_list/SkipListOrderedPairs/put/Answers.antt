@@ -1,7 +1,7 @@
 use Rattle.std.proofs.Common.{◌<◌, length, true, Ok, sym, subst}
 use Rattle.skip_levels.specs.ListState.{ListState}
 use Rattle.skip_levels.specs.PagePairs.{pairs_of_map, list_over, IsHeld}
-use Rattle.skip_levels.specs.PairsState.{IsPairPut, most_pairs}
+use Rattle.ordered_pairs.specs.PairsState.{IsPairPut, most_pairs}
 use Rattle.skip_levels.proofs.ListCalls.{whole_behind_put, known_behind_put, list_put}
 use Rattle.skip_levels.proofs.skip_list.SkipListOrderedPairs.put.Goals as goal
 

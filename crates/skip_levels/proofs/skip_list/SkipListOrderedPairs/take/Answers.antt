@@ -1,7 +1,7 @@
 use Rattle.std.proofs.Common.{true, Ok, subst}
 use Rattle.skip_levels.specs.ListState.{ListState}
 use Rattle.skip_levels.specs.PagePairs.{list_over}
-use Rattle.skip_levels.specs.PairsState.{IsPairTake}
+use Rattle.ordered_pairs.specs.PairsState.{IsPairTake}
 use Rattle.skip_levels.proofs.ListCalls.{whole_behind_take, known_behind_take, list_taken}
 use Rattle.skip_levels.proofs.skip_list.SkipListOrderedPairs.take.Goals as goal
 

@@ -1,0 +1,2 @@
+pub mod PairsState
+pub mod ValidPairs

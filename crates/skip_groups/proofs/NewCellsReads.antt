@@ -1,0 +1,212 @@
+-- The pages of a group read for the cells of a key that are set there.
+use Rattle.std.proofs.Common.{◌≡◌, ◌⊎◌, inl, inr, ℕ, ◌+◌, ◌-◌, ◌<◌, ◌≤◌, List, [], ◌∷◌, ◌++◌, length, take, drop, Option, Some, None, Ok, Err, Less, Equal, Greater, refl, sym, ap, ap₂, subst, ◌∙◌, append_assoc, arith}
+use Rattle.std.specs.List.{slice_get}
+use Rattle.std.proofs.lemmas.List.{length-append, append-nil, take_all, take-append-drop}
+use Rattle.store_base.specs.declared.store_fault.Fault.{Fault}
+use Rattle.store_base.specs.declared.store_fault.Fault.TheVariants.{NoMemory}
+use Rattle.store_base.specs.Leads as leads
+use Rattle.store_model.specs.Labels.{Lead}
+use Rattle.store_model.specs.Pages.{Cell, Page, page_room, group_pages}
+use Rattle.node_pages.specs.Cells.{CellList}
+use Rattle.node_pages.specs.Groups.{pages_from}
+use Rattle.node_pages.specs.PagesState.{PagesState, IsPageGet, most_pages}
+use Rattle.node_pages.proofs.Joined.{cells_of_group, take_next}
+use Rattle.node_pages.proofs.Runs.{next_page, no_page}
+use Rattle.skip_groups.specs.declared.new_cells.NewCells.{NewCells}
+use Rattle.skip_groups.specs.Groups.{label_of}
+use Rattle.skip_groups.specs.declared.new_cells.Step.TheVariants.{Done, Same}
+use Rattle.skip_groups.specs.GroupCells.{AreCells, side, merged}
+use Rattle.skip_groups.specs.NewCells.{cells_in, ComeIn, IsSet, IsAlone, IsStep, IsEnd, IsMade, AreNew, IsNewCellsRead}
+use Rattle.skip_groups.proofs.CellLists.{front_cells, back_cells}
+use Rattle.skip_groups.proofs.GroupEnds.{last_page, within_room}
+use Rattle.skip_groups.proofs.GroupSteps.{WalksTo, begins, breaks, ends, goes_on, is_over, same_count}
+use Rattle.skip_groups.proofs.MapChanges.{nothing_behind}
+use Rattle.skip_groups.proofs.NewCellsMade.{cells_both, are_above, news_valid, made_to_end, made_alone, made_same, made_behind}
+use Rattle.skip_groups.proofs.NewCellsSteps.{page_at_end, below_or_not}
+
+-- new cells whose parts are the same
+same_made : (a b : NewCells) → b.next ≡ a.next → b.kept ≡ a.kept → b.count ≡ a.count → b.cells ≡ a.cells → a ≡ b
+same_made a b next kept count cells =
+    ap (λ x. record { next = x; kept = a.kept; count = a.count; cells = a.cells }) (sym next)
+    ∙ ap (λ x. record { next = b.next; kept = x; count = a.count; cells = a.cells }) (sym kept)
+    ∙ ap (λ x. record { next = b.next; kept = b.kept; count = x; cells = a.cells }) (sym count)
+    ∙ ap (λ x. record { next = b.next; kept = b.kept; count = b.count; cells = x }) (sym cells)
+
+module _ (level : ℕ) (lead : Lead) (key : List ℕ) (own cells : List Cell) where
+  abbrev group : List Page
+  group = group_pages level lead cells
+
+  module _ (made : NewCells) (seen behind : List Page) (is : group ≡ seen ++ behind) (h : IsSet level lead key own seen made) where
+    counted : made.kept + made.count ≡ length seen
+    counted = omega (arith, h.kept_is, h.count_is, ap length h.parts, length-append h.stay h.gone)
+
+    some_within : made.kept + made.count ≤ length group
+    some_within = omega (arith, counted, ap length is, length-append seen behind)
+
+    are_few : length made.cells.cells ≤ length own + (length cells + length cells)
+    are_few =
+        let all : cells ≡ (cells_in h.stay ++ cells_in h.gone) ++ cells_in behind =
+        sym (cells_of_group level lead cells) ∙ ap cells_in (is ∙ ap (λ ps. ps ++ behind) h.parts) ∙ cells_both (h.stay ++ h.gone) behind ∙ ap (λ xs. xs ++ cells_in behind) (cells_both h.stay h.gone) in
+        omega (arith, h.few, ap length all, length-append (cells_in h.stay ++ cells_in h.gone) (cells_in behind), length-append (cells_in h.stay) (cells_in h.gone))
+
+    parted : (first : Page) (rest : List Page) → h.gone ≡ first ∷ rest → group ≡ h.stay ++ first ∷ (rest ++ behind)
+    parted first rest e = is ∙ ap (λ ps. ps ++ behind) (h.parts ∙ ap (λ ps. h.stay ++ ps) e) ∙ append_assoc h.stay (first ∷ rest) behind
+
+    comes : (first : Page) (rest : List Page) → h.gone ≡ first ∷ rest → ComeIn level lead key own h.stay (first ∷ rest) made
+    comes first rest e = subst (λ ps. ComeIn level lead key own h.stay ps made) e h.come
+
+    -- the last pages gave way
+    pub new_to_end : 1 ≤ made.count → behind ≡ [] → AreNew level lead key own cells made
+    new_to_end some none = record { within = some_within; few = are_few; become = λ rising valid. by_gone rising valid h.gone refl }
+      where
+        by_gone : AreCells level cells → AreCells level (merged key cells own cells) → (ps : List Page) → h.gone ≡ ps → IsMade level lead key own cells made
+        by_gone rising valid [] e = absurd (omega (arith, some, h.count_is, ap length e))
+        by_gone rising valid (first ∷ rest) e =
+            let come = comes first rest e in
+            let parts = parted first rest e in
+            let above = are_above level lead key own cells h.stay first (rest ++ behind) parts come.0 rising in
+            made_to_end level lead key own cells h.stay first rest behind parts h.kept above made h.kept_is (come.1 (news_valid level lead key own cells h.stay first rest behind parts h.kept above valid)) (h.count_is ∙ ap length e) none
+
+    -- none gives way behind those that were read
+    pub new_behind : (other : NewCells) → IsEnd level key own made other → behind ≡ [] → AreNew level lead key own cells other
+    new_behind other e none = by_gone h.gone refl
+      where
+        by_gone : (ps : List Page) → h.gone ≡ ps → AreNew level lead key own cells other
+        by_gone [] gone =
+            let count_is : made.count ≡ 0 = h.count_is ∙ ap length gone in
+            let come = subst (λ ps. ComeIn level lead key own h.stay ps made) gone h.come in
+            let all : group ≡ h.stay = is ∙ ap₂ (λ ps qs. ps ++ qs) (h.parts ∙ ap (λ ps. h.stay ++ ps) gone ∙ append-nil h.stay) none ∙ append-nil h.stay in
+            record {
+              within = omega (arith, some_within, e.kept, e.count);
+              few = omega (arith, e.few, ap length come.1);
+              become = λ rising valid.
+                  let lows = side Less key cells in
+                  let same = side Equal key own in
+                  let own_valid : AreCells level same = back_cells level lows same (front_cells level (lows ++ same) (side Greater key cells) valid) in
+                  made_behind level lead key own cells other h.stay all (e.kept ∙ h.kept_is) (e.count ∙ count_is) h.kept (ap leads.lead_of e.next ∙ come.0) (e.none count_is come.1 own_valid);
+            }
+        by_gone (first ∷ rest) gone =
+            let some : 1 ≤ made.count = omega (arith, h.count_is, ap length gone) in
+            subst (AreNew level lead key own cells) (same_made made other e.next e.kept e.count (e.some some)) (new_to_end some none)
+
+    -- one page alone gave way
+    module _ (before : List Page) (page : Page) (at_end : seen ≡ before ++ page ∷ []) (alone : IsAlone page made) where
+      first_is : (first : Page) → h.gone ≡ first ∷ [] → page ≡ first
+      first_is first e =
+          let both : before ++ page ∷ [] ≡ h.stay ++ first ∷ [] = sym at_end ∙ h.parts ∙ ap (λ ps. h.stay ++ ps) e in
+          same_page (sym (page_at_end before page) ∙ ap (λ ps. slice_get ps (length ps - 1)) both ∙ page_at_end h.stay first)
+        where
+          same_page : {a b : Page} → Some a ≡ Some b → a ≡ b
+          same_page e = cc
+
+      pub new_alone : page_room level ≤ length page.cells → AreNew level lead key own cells made
+      new_alone full = record { within = some_within; few = are_few; become = λ rising valid. by_gone rising valid h.gone refl }
+        where
+          by_gone : AreCells level cells → AreCells level (merged key cells own cells) → (ps : List Page) → h.gone ≡ ps → IsMade level lead key own cells made
+          by_gone rising valid [] e = absurd (omega (arith, alone.one, h.count_is, ap length e))
+          by_gone rising valid (first ∷ []) e =
+              let come = comes first [] e in
+              let parts = parted first [] e in
+              let above = are_above level lead key own cells h.stay first behind parts come.0 rising in
+              let long = ap (λ (p : Page). length p.cells) (first_is first e) in
+              made_alone level lead key own cells h.stay first [] behind parts h.kept above made h.kept_is (come.1 (news_valid level lead key own cells h.stay first [] behind parts h.kept above valid)) refl
+              (omega (arith, full, long)) (alone.long ∙ long) alone.one
+          by_gone rising valid (first ∷ next ∷ rest) e = absurd (omega (arith, alone.one, h.count_is, ap length e))
+
+      -- and became what it was
+      pub new_same : slice_get (pages_from level lead made.kept made.cells.cells) 0 ≡ Some page → (none : CellList) → none.cells ≡ [] → AreNew level lead key own cells (record { next = made.next; kept = made.kept; count = 0; cells = none })
+      new_same there none empty = record { within = omega (arith, some_within); few = omega (arith, ap length empty); become = λ rising valid. by_gone rising valid h.gone refl }
+        where
+          cells_are : (cs : List Cell) → made.cells.cells ≡ cs → length page.cells ≤ page_room level → cs ≡ page.cells
+          cells_are [] e room = absurd (let gone = ap (λ ps. slice_get ps 0) (no_page level lead made.kept made.cells.cells e) in let clash : Some page ≡ None = sym there ∙ gone in cc)
+          cells_are (x ∷ xs) e room =
+              let first = ap (λ cs. slice_get (pages_from level lead made.kept cs) 0) e ∙ ap (λ ps. slice_get ps 0) (next_page level lead made.kept (x ∷ xs) (omega arith)) in
+              let run : take (page_room level) (x ∷ xs) ≡ page.cells = run_is (sym first ∙ there) in
+              sym (take_all (page_room level) (x ∷ xs) (omega (arith, ap length e, alone.long, room))) ∙ run
+            where
+              run_is : {a : Page} → Some a ≡ Some page → a.cells ≡ page.cells
+              run_is {a} f = let same : a ≡ page = cc in ap (λ (p : Page). p.cells) same
+
+          by_gone : AreCells level cells → AreCells level (merged key cells own cells) → (ps : List Page) → h.gone ≡ ps → IsMade level lead key own cells (record { next = made.next; kept = made.kept; count = 0; cells = none })
+          by_gone rising valid [] e = absurd (omega (arith, alone.one, h.count_is, ap length e))
+          by_gone rising valid (first ∷ []) e =
+              let come = comes first [] e in
+              let parts = parted first [] e in
+              let above = are_above level lead key own cells h.stay first behind parts come.0 rising in
+              let same = first_is first e in
+              let room = subst (λ (p : Page). length p.cells ≤ page_room level) (sym same) (within_room level lead (length h.stay) cells first (ap (λ ps. slice_get ps (length h.stay)) parts ∙ seam h.stay)) in
+              made_same level lead key own cells h.stay first [] behind parts h.kept above made h.kept_is (come.1 (news_valid level lead key own cells h.stay first [] behind parts h.kept above valid)) refl
+              (cells_are made.cells.cells refl room ∙ ap (λ (p : Page). p.cells) same) none empty
+            where
+              seam : (xs : List Page) → slice_get (xs ++ first ∷ behind) (length xs) ≡ Some first
+              seam [] = refl
+              seam (x ∷ xs) = seam xs
+          by_gone rising valid (first ∷ next ∷ rest) e = absurd (omega (arith, alone.one, h.count_is, ap length e))
+
+-- ---- page after page
+
+module _ (old : PagesState) (level : ℕ) (lead : Lead) (key : List ℕ) (own : List Cell) where
+  -- so many pages of the group were read
+  abbrev Sees : NewCells → ℕ → List Cell → Type 0
+  Sees made index cells = IsSet level lead key own (take index (group_pages level lead cells)) made
+
+  abbrev pub AreSeen : PagesState → ℕ → NewCells → Type 0
+  AreSeen now index made = WalksTo old level lead now index (Sees made index)
+
+  pub seen_none : (made : NewCells) → IsSet level lead key own [] made → AreSeen old 0 made
+  seen_none made h = begins old level lead (Sees made 0) (λ cells. h)
+
+  -- the pages that were read, and those behind them
+  first_pages : (index : ℕ) (cells : List Cell) → group_pages level lead cells ≡ take index (group_pages level lead cells) ++ drop index (group_pages level lead cells)
+  first_pages index cells = sym (take-append-drop index (group_pages level lead cells))
+
+  module _ (now next : PagesState) (index : ℕ) (made : NewCells) (w : AreSeen now index made) where
+    pub seen_fails : (other : NewCells) (fault : Fault) → IsPageGet now next (label_of level lead index) (Err fault) → IsNewCellsRead {T = Unit {0}} old next level lead key own other (Err fault)
+    seen_fails other fault get = breaks old level lead now next index (Sees made index) w (Err fault) fault (λ cells. Unit {0}) (λ cells. tt) (same_count (Option Page) (Unit {0}) old.faults fault) get
+
+    -- memory ran out for what was found
+    pub seen_lacks_memory : (other : NewCells) (page : Option Page) → IsPageGet now next (label_of level lead index) (Ok page) → IsNewCellsRead {T = Unit {0}} old next level lead key own other (Err NoMemory)
+    seen_lacks_memory other page get = breaks old level lead now next index (Sees made index) w (Ok page) NoMemory (λ cells. Unit {0}) (λ cells. tt) refl get
+
+    seen_to : (other : NewCells) (page : Option Page) → index < 4294967296 → IsPageGet now next (label_of level lead index) (Ok page)
+        → ((cells : List Cell) → Sees made index cells → slice_get (group_pages level lead cells) index ≡ page → AreNew level lead key own cells other) → IsNewCellsRead old next level lead key own other (Ok (tt {0}))
+    seen_to other page below get found = ends old level lead now next index (Sees made index) w page (tt {0}) (λ cells. AreNew level lead key own cells other) below get found
+
+    -- there is no further page
+    pub seen_ends : (other : NewCells) → IsEnd level key own made other → index < 4294967296 → IsPageGet now next (label_of level lead index) (Ok None) → IsNewCellsRead old next level lead key own other (Ok (tt {0}))
+    seen_ends other e below get = seen_to other None below get (λ cells seen none.
+        new_behind level lead key own cells made (take index (group_pages level lead cells)) (drop index (group_pages level lead cells)) (first_pages index cells) seen other e (nothing_behind index (group_pages level lead cells) none))
+
+    -- a page was taken in
+    module _ (page : Page) (other : NewCells) (set : (pages : List Page) → IsSet level lead key own pages made → IsSet level lead key own (pages ++ page ∷ []) other) (below : index < 4294967296) (get : IsPageGet now next (label_of level lead index) (Ok (Some page))) where
+      with_page : (cells : List Cell) → Sees made index cells → slice_get (group_pages level lead cells) index ≡ Some page → Sees other (index + 1) cells
+      with_page cells seen there = subst (λ ps. IsSet level lead key own ps other) (sym (take_next (group_pages level lead cells) index page there)) (set (take index (group_pages level lead cells)) seen)
+
+      pub seen_more : page_room level ≤ length page.cells → AreSeen next (index + 1) other
+      seen_more full = goes_on old level lead now next index (Sees made index) w page (Sees other (index + 1)) full below get with_page
+
+      pub seen_done : IsStep level lead page other Done → IsNewCellsRead old next level lead key own other (Ok (tt {0}))
+      seen_done step = seen_to other (Some page) below get (λ cells seen there. by_step cells (with_page cells seen there) there step.1)
+        where
+          to_end : (cells : List Cell) → Sees other (index + 1) cells → slice_get (group_pages level lead cells) index ≡ Some page → length page.cells < page_room level → AreNew level lead key own cells other
+          to_end cells h there short =
+              let group = group_pages level lead cells in
+              new_to_end level lead key own cells other (take (index + 1) group) (drop (index + 1) group) (first_pages (index + 1) cells) h step.0 (nothing_behind (index + 1) group (last_page level lead index cells page there short))
+
+          by_step : (cells : List Cell) → Sees other (index + 1) cells → slice_get (group_pages level lead cells) index ≡ Some page → (length page.cells < page_room level) ⊎ IsAlone page other → AreNew level lead key own cells other
+          by_step cells h there (inl short) = to_end cells h there short
+          by_step cells h there (inr alone) =
+              let group = group_pages level lead cells in
+              elim (below_or_not (length page.cells) (page_room level)) [
+                | inl short ↦ to_end cells h there short
+                | inr full ↦ new_alone level lead key own cells other (take (index + 1) group) (drop (index + 1) group) (first_pages (index + 1) cells) h (take index group) page (take_next group index page there) alone full
+              ]
+
+      -- nothing changes
+      pub seen_same : IsStep level lead page other Same → (none : CellList) → none.cells ≡ [] → IsNewCellsRead old next level lead key own (record { next = other.next; kept = other.kept; count = 0; cells = none }) (Ok (tt {0}))
+      seen_same step none empty = seen_to (record { next = other.next; kept = other.kept; count = 0; cells = none }) (Some page) below get (λ cells seen there.
+          let group = group_pages level lead cells in
+          new_same level lead key own cells other (take (index + 1) group) (drop (index + 1) group) (first_pages (index + 1) cells) (with_page cells seen there) (take index group) page (take_next group index page there) step.0 step.1 none empty)
+
+  pub seen_all : (now : PagesState) (index : ℕ) (made : NewCells) → AreSeen now index made → most_pages ≤ index → IsNewCellsRead old now level lead key own made (Ok (tt {0}))
+  seen_all now index made w far = is_over old level lead now index (Sees made index) (tt {0}) (λ cells. AreNew level lead key own cells made) w far

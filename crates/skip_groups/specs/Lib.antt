@@ -1,0 +1,7 @@
+pub mod Floors
+pub mod GroupCells
+pub mod GroupChanges
+pub mod GroupParts
+pub mod Groups
+pub mod NewCells
+pub mod Searches

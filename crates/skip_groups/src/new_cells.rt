@@ -1,0 +1,180 @@
+//! What setting the cells of a key, or parting all cells by it, makes of the pages of its group.
+
+ghost use Rattle.std.specs.Prelude.{◌≡◌, ◌+◌, ◌<◌, ◌≤◌, [], ◌∷◌, ◌++◌, List, length, IfOk, OnOk, ℕ};
+ghost use Rattle.store_base.specs.Leads.{lead_of};
+ghost use Rattle.store_model.specs.Labels as labels;
+ghost use Rattle.store_model.specs.Pages as model;
+ghost use Rattle.skip_groups.specs.GroupCells.{IsFirst, IsRisingList, AreCells};
+
+use crate::cells::{append_above, append_own, merge_page, part_page, stays};
+use crate::group::is_last;
+use node_pages::{Cell, Cells, Page};
+use std::alloc::Global;
+use store_base::{Key, Lead, NoMemory};
+
+/// The cells that come into a group where those of a key are set, or which the key parts, in the place of the cells of some of its pages.
+#[derive(Drop)]
+pub struct NewCells {
+    /// Where cells are set, what leads the next lower group of the search path; where they are parted, the last key of the pages that
+    /// stay, or else what leads the group.
+    pub next: Lead,
+    /// How many of the first pages stay as they are.
+    pub kept: u32,
+    /// How many pages behind them give way; any others stay.
+    pub count: u32,
+    /// The cells that come in their place.
+    pub cells: Cells,
+}
+
+/// What is known behind a page of the group.
+#[derive(Clone, Copy)]
+pub enum Step {
+    /// Pages behind it may give way as well.
+    More,
+    /// None does.
+    Done,
+    /// Nothing changes.
+    Same,
+}
+
+impl NewCells {
+    ghost use Rattle.skip_groups.specs.GroupParts.{IsParted};
+    ghost use Rattle.skip_groups.specs.NewCells.{IsSet, IsStep, IsStepBehind, IsEnd};
+
+    /// What is known behind a page that others may follow.
+    fn step_behind(level: u8, page: &Page) -> Step
+        ensures { IsStepBehind level page.now result }
+    {
+        if is_last(level, page) {
+            Step::Done
+        } else {
+            Step::More
+        }
+    }
+
+    /// Those of no group yet. They take no memory.
+    pub fn new(alloc: Global) -> Self {
+        NewCells {
+            next: Lead::Start,
+            kept: 0,
+            count: 0,
+            cells: Cells::new(alloc, 0),
+        }
+    }
+
+    /// Those of the group that `lead` leads on the level, before its first page. The memory of the former ones is kept.
+    pub fn restart(&mut self, level: u8, lead: &Lead)
+        ensures valid { IsRisingList level self.new.cells }
+        ensures empty { self.new.cells.cells ≡ [] }
+        ensures set { (key : List ℕ) (own : List model.Cell) → IsSet level (lead_of lead.now) key own [] self.new }
+        ensures parted { (key : List ℕ) (start : List model.Cell) → IsParted level (lead_of lead.now) key [] start self.new start }
+    {
+        self.next = *lead;
+        self.kept = 0;
+        self.count = 0;
+        self.cells.restart(level);
+    }
+
+    /// Goes on with a page behind one that gives way.
+    fn append(&mut self, page: &Page, key: &Key) -> Result<Step, NoMemory>
+        requires valid { AreCells self.old.cells.level self.old.cells.cells }
+        requires some { 0 < self.old.count }
+        requires number { self.old.kept + self.old.count < 4294967295 }
+        ensures valid { OnOk result (IsRisingList self.old.cells.level self.new.cells) }
+        ensures some { OnOk result (0 < self.new.count) }
+        ensures counted { OnOk result (self.new.kept + self.new.count ≡ self.old.kept + self.old.count + 1) }
+        ensures set { (lead : labels.Lead) (own : List model.Cell) (pages : List model.Page) → IsSet self.old.cells.level lead key.now own pages self.old → OnOk result (IsSet self.old.cells.level lead key.now own (pages ++ page.now ∷ []) self.new) }
+        ensures step { (lead : labels.Lead) → IfOk result (λ step. IsStep self.old.cells.level lead page.now self.new step) }
+    {
+        let level = self.cells.level();
+        append_above(&mut self.cells, page, key)?;
+        self.count += 1;
+        Ok(NewCells::step_behind(level, page))
+    }
+
+    /// Goes on with the first page that gives way. Where the key's cells take the place of as many, none behind it does.
+    fn begin(&mut self, lead: &Lead, page: &Page, key: &Key, own: &[Cell]) -> Result<Step, NoMemory>
+        requires none { self.old.count ≡ 0 }
+        requires empty { self.old.cells.cells ≡ [] }
+        requires first { IsFirst self.old.cells.level key.now page.now }
+        requires number { self.old.kept < 4294967295 }
+        ensures valid { OnOk result (IsRisingList self.old.cells.level self.new.cells) }
+        ensures some { OnOk result (0 < self.new.count) }
+        ensures counted { OnOk result (self.new.kept + self.new.count ≡ self.old.kept + self.old.count + 1) }
+        ensures set { (pages : List model.Page) → IsSet self.old.cells.level (lead_of lead.now) key.now own.now pages self.old → OnOk result (IsSet self.old.cells.level (lead_of lead.now) key.now own.now (pages ++ page.now ∷ []) self.new) }
+        ensures step { IfOk result (λ step. IsStep self.old.cells.level (lead_of lead.now) page.now self.new step) }
+    {
+        let level = self.cells.level();
+        self.next = merge_page(&mut self.cells, &self.next, page, key, own)?;
+        self.count = 1;
+        if self.cells.len() != page.len() {
+            return Ok(NewCells::step_behind(level, page));
+        }
+        if self.cells.is_page(lead, self.kept, 0, page) {
+            Ok(Step::Same)
+        } else {
+            Ok(Step::Done)
+        }
+    }
+
+    /// Goes on with the next page of the group that `lead` leads, and answers what is known behind it.
+    pub(crate) fn go_on(
+        &mut self,
+        lead: &Lead,
+        page: &Page,
+        key: &Key,
+        own: &[Cell],
+    ) -> Result<Step, NoMemory>
+        requires valid { AreCells self.old.cells.level self.old.cells.cells }
+        requires empty { self.old.count ≡ 0 → self.old.cells.cells ≡ [] }
+        requires number { self.old.kept + self.old.count < 4294967295 }
+        ensures valid { OnOk result (IsRisingList self.old.cells.level self.new.cells) }
+        ensures empty { OnOk result (self.new.count ≡ 0 → self.new.cells.cells ≡ []) }
+        ensures counted { OnOk result (self.new.kept + self.new.count ≡ self.old.kept + self.old.count + 1) }
+        ensures set { (pages : List model.Page) → IsSet self.old.cells.level (lead_of lead.now) key.now own.now pages self.old → OnOk result (IsSet self.old.cells.level (lead_of lead.now) key.now own.now (pages ++ page.now ∷ []) self.new) }
+        ensures step { IfOk result (λ step. IsStep self.old.cells.level (lead_of lead.now) page.now self.new step) }
+    {
+        if self.count > 0 {
+            return self.append(page, key);
+        }
+        if !stays(self.cells.level(), page, key) {
+            return self.begin(lead, page, key, own);
+        }
+        self.next = Lead::Key(page.key(page.len() - 1));
+        self.kept += 1;
+        Ok(Step::More)
+    }
+
+    /// Goes on with the next page of a group that is parted by the key: the cells below the key of each page that gives way come behind
+    /// one another, and those above it behind `above`. After `NoMemory` nothing is promised of either.
+    pub fn part(&mut self, page: &Page, key: &Key, above: &mut Cells) -> Result<(), NoMemory>
+        requires low { AreCells self.old.cells.level self.old.cells.cells }
+        requires high { IsRisingList self.old.cells.level above.old }
+        requires number { self.old.kept + self.old.count < 4294967295 }
+        ensures low { OnOk result (IsRisingList self.old.cells.level self.new.cells) }
+        ensures high { OnOk result (IsRisingList self.old.cells.level above.new) }
+        ensures counted { OnOk result (self.new.kept + self.new.count ≡ self.old.kept + self.old.count + 1) }
+        ensures parted { (lead : labels.Lead) (start : List model.Cell) (pages : List model.Page) → IsParted self.old.cells.level lead key.now pages start self.old above.old.cells → OnOk result (IsParted self.old.cells.level lead key.now (pages ++ page.now ∷ []) start self.new above.new.cells) }
+    {
+        if self.count == 0 && stays(self.cells.level(), page, key) {
+            self.next = Lead::Key(page.key(page.len() - 1));
+            self.kept += 1;
+            return Ok(());
+        }
+        part_page(&mut self.cells, above, page, key)?;
+        self.count += 1;
+        Ok(())
+    }
+
+    /// The key's cells come behind all others where no page gives way.
+    pub(crate) fn end(&mut self, key: &Key, own: &[Cell]) -> Result<(), NoMemory>
+        requires valid { AreCells self.old.cells.level self.old.cells.cells }
+        ensures valid { OnOk result (IsRisingList self.old.cells.level self.new.cells) }
+        ensures ends { OnOk result (IsEnd self.old.cells.level key.now own.now self.old self.new) }
+    {
+        if self.count > 0 {
+            return Ok(());
+        }
+        append_own(&mut self.cells, own, key)
+    }
+}

@@ -1,0 +1,119 @@
+//! Reading and changing the pages of a group in which the cells of a key are set, or which a key parts.
+
+ghost use Rattle.std.specs.Prelude.{◌≡◌, ◌+◌, ◌<◌, [], max, map, length, OnOk};
+ghost use Rattle.std.specs.List.Sorted.{IsStrictlySortedBy};
+ghost use Rattle.std.specs.FinMap as maps;
+ghost use Rattle.store_model.specs.Lists.{runs};
+ghost use Rattle.store_model.specs.Paths.{key_cmp};
+ghost use Rattle.store_model.specs.Pages.{page_room};
+ghost use Rattle.store_base.specs.Leads.{lead_of};
+ghost use Rattle.node_pages.specs.PagesState.{IsObservable, most_pages};
+ghost use Rattle.skip_groups.specs.GroupCells.{AreCells, IsRisingList};
+ghost use Rattle.skip_groups.specs.GroupChanges.{IsRunChange};
+ghost use Rattle.skip_groups.specs.GroupParts.{IsParted, IsGroupParted};
+ghost use Rattle.skip_groups.specs.NewCells.{IsSet, IsNewCellsRead};
+
+use crate::group::{is_last, label_in_group};
+use crate::new_cells::{NewCells, Step};
+use node_pages::{Cell, Cells, Pages};
+use store_base::{Fault, Key, Lead};
+
+/// Reads the group that `lead` leads on the level, as far as it changes where the key's cells are set in it: each page is asked for
+/// once at most, and none behind a page with room. After a fault the pages are as they were.
+pub fn read_new_cells<P: Pages>(
+    pages: &mut P,
+    lead: &Lead,
+    key: &Key,
+    own: &[Cell],
+    made: &mut NewCells,
+) -> Result<(), Fault>
+    requires valid { AreCells made.old.cells.level made.old.cells.cells }
+    requires empty { made.old.cells.cells ≡ [] }
+    requires none { IsSet made.old.cells.level (lead_of lead.now) key.now own.now [] made.old }
+    ensures call { IsNewCellsRead (P.state pages.old) (P.state pages.new) made.old.cells.level (lead_of lead.now) key.now own.now made.new result }
+    ensures valid { OnOk result (IsRisingList made.old.cells.level made.new.cells) }
+    ensures follows { P.follows pages.old pages.new }
+{
+    let level = made.cells.level();
+    for index in 0..u32::MAX {
+        let found = pages.look(&label_in_group(level, lead, index))?;
+        let Some(page) = found else {
+            made.end(key, own)?;
+            return Ok(());
+        };
+        match made.go_on(lead, page, key, own)? {
+            Step::More => {}
+            Step::Done => return Ok(()),
+            Step::Same => {
+                made.count = 0;
+                made.cells.restart(level);
+                return Ok(());
+            }
+        }
+    }
+    Ok(())
+}
+
+/// Reads the group that `lead` leads on the level, and parts its cells by the key: the first full pages of cells below it stay, of the
+/// others the cells below the key are taken together, and those above it come behind `above`. Each page is asked for once, and none
+/// behind a page with room. After a fault the pages are as they were.
+pub fn part_group<P: Pages>(
+    pages: &mut P,
+    lead: &Lead,
+    key: &Key,
+    made: &mut NewCells,
+    above: &mut Cells,
+) -> Result<(), Fault>
+    requires valid { AreCells made.old.cells.level made.old.cells.cells }
+    requires above { IsRisingList made.old.cells.level above.old }
+    requires none { IsParted made.old.cells.level (lead_of lead.now) key.now [] above.old.cells made.old above.old.cells }
+    ensures call { IsGroupParted (P.state pages.old) (P.state pages.new) made.old.cells.level (lead_of lead.now) key.now above.old.cells made.new above.new.cells result }
+    ensures valid { OnOk result (IsRisingList made.old.cells.level made.new.cells) }
+    ensures above { OnOk result (IsRisingList made.old.cells.level above.new) }
+    ensures number { OnOk result (made.new.kept + made.new.count < 4294967296) }
+    ensures follows { P.follows pages.old pages.new }
+{
+    let level = made.cells.level();
+    for index in 0..u32::MAX {
+        let found = pages.look(&label_in_group(level, lead, index))?;
+        let Some(page) = found else {
+            return Ok(());
+        };
+        made.part(page, key, above)?;
+        if is_last(level, page) {
+            return Ok(());
+        }
+    }
+    Ok(())
+}
+
+/// Changes so many pages of the group that `lead` leads, from page `first` on, to those of these cells: pages for which there
+/// are no cells are dropped. `Fault::NoMemory` comes where the group would have 2^32 pages or more. After a fault a part of
+/// the pages is changed.
+pub fn change_run<P: Pages>(
+    pages: &mut P,
+    lead: &Lead,
+    first: u32,
+    count: u32,
+    cells: &Cells,
+) -> Result<(), Fault>
+    requires rising { IsStrictlySortedBy key_cmp (map (λ c. c.key) cells.now.cells) }
+    requires room { IsObservable (P.state pages.old) → maps.len (P.state pages.old).pages + (count + length cells.now.cells) < most_pages }
+    ensures call { IsRunChange (P.state pages.old) (P.state pages.new) (lead_of lead.now) first count cells.now (max count (length (runs (page_room cells.now.level) cells.now.cells))) result }
+    ensures follows { P.follows pages.old pages.new }
+{
+    let level = cells.level();
+    let filled = cells.page_count();
+    let all = count.max(filled);
+    if all > u32::MAX - first {
+        return Err(Fault::NoMemory);
+    }
+    for i in 0..all {
+        if i < filled {
+            cells.put_page(pages, lead, first, i)?;
+        } else {
+            pages.drop_page(&label_in_group(level, lead, first + i))?;
+        }
+    }
+    Ok(())
+}
