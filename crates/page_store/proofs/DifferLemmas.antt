@@ -1,5 +1,5 @@
 -- Lemmas on the slots in which two tables differ.
-use Rattle.std.proofs.Common.{◌≡◌, ◌≢◌, ◌⊎◌, ℕ, zero, suc, ◌+◌, ◌-◌, ◌<◌, ◌≤◌, List, [], ◌∷◌, ◌++◌, length, get_or, Bool, true, false, cond, not, refl, sym, ap, ap₂, subst, ◌∙◌, inl, inr, arith, ⊎_elim, length-append}
+use Rattle.std.proofs.Common.{◌≡◌, ◌≢◌, ℕ, zero, suc, ◌+◌, ◌-◌, ◌<◌, ◌≤◌, List, [], ◌∷◌, ◌++◌, length, get_or, Bool, true, false, cond, not, refl, sym, ap, ap₂, subst, ◌∙◌, inl, inr, arith, ⊎_elim, length-append}
 use Rattle.std.specs.List.{sum_by}
 use Rattle.std.specs.Cmp.Lexicographic.{bytes_decides}
 use Rattle.std.proofs.lemmas.Bool.{cases_Bool, cases_lt}
@@ -8,7 +8,9 @@ use Rattle.std.proofs.lemmas.List.Sums.{sum_by-cons}
 use Rattle.store_model.specs.Lists.{numbers_from, same_bytes}
 use Rattle.gate_journal.specs.Changes.{Changes, AreChanges}
 use Rattle.gate_journal.proofs.Counting.{sum_split, sum_one, sum_same}
-use Rattle.page_store.specs.Differences.{differing, changes_of, AreDifferences}
+use Rattle.slot_cache.specs.Caches.{changes_of}
+use Rattle.slot_cache.proofs.CacheLemmas.{last_or_below}
+use Rattle.page_store.specs.Differences.{differing, AreDifferences}
 
 -- what a slot counts
 abbrev differs : (ℕ → List ℕ) → (ℕ → List ℕ) → ℕ → ℕ
@@ -84,10 +86,6 @@ differences_later old new n m changes less same differ = record {
   others = λ i low none. elim (cases_lt i n) [ inl before ↦ differ.others i before none | inr behind ↦ same i behind low ];
   count_is = differ.count_is ∙ sym (differing-same old new n m less same);
 }
-
--- a number below n + 1
-pub last_or_below : (n i : ℕ) → i < n + 1 → (i < n) ⊎ (i ≡ n)
-last_or_below n i h = grind arith
 
 -- one of the slots found
 abbrev item : List (ℕ × List ℕ) → ℕ → ℕ × List ℕ

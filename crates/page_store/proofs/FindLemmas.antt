@@ -16,15 +16,15 @@ use Rattle.gate_journal.specs.Changes.{AreChanges}
 use Rattle.gate_journal.specs.Phases.{table_slot}
 use Rattle.gate_journal.specs.ViewState.{KeepsView}
 use Rattle.page_store.specs.declared.changed.ChangedSlots.{ChangedSlots}
-use Rattle.page_store.specs.Carrying.{CarriesOut}
-use Rattle.page_store.specs.Differences.{changes_of, AreDifferences}
-use Rattle.page_store.specs.OverlayState.{slot_over, overlaid}
+use Rattle.slot_cache.specs.Carrying.{CarriesOut}
+use Rattle.page_store.specs.Differences.{AreDifferences}
+use Rattle.slot_cache.specs.OverlayState.{slot_over, overlaid}
 use Rattle.page_store.specs.PageImages.{table_slots, placed_slot}
-use Rattle.page_store.specs.Caches.{Kept}
+use Rattle.slot_cache.specs.Caches.{Kept, changes_of}
 use Rattle.page_store.specs.Preparing.{FindsChanges, FindsSlots}
-use Rattle.page_store.specs.Staging.{Changes, with_changes}
+use Rattle.slot_cache.specs.Staging.{Changes, with_changes}
 use Rattle.page_store.proofs.DifferLemmas.{differences_as}
-use Rattle.page_store.proofs.OverlayLemmas.{get_number}
+use Rattle.slot_cache.proofs.OverlayLemmas.{get_number}
 
 -- the bytes of slots that hold a map are those of its placement
 pub placed : (d : Draw) (slots : ℕ) (f : ℕ → List ℕ) (m : PageMap) → HoldsPages d (map f (numbers_below slots)) m → (i : ℕ) → i < slots → f i ≡ placed_slot d m i

@@ -1,16 +1,6 @@
-pub mod CacheLemmas
-pub mod CarriedLemmas
-pub mod CarryLemmas
-pub mod ChangeLemmas
 pub mod CommitLemmas
 pub mod DifferLemmas
 pub mod FindLemmas
-pub mod LayingLemmas
-pub mod LookupLemmas
-pub mod MapLemmas
-pub mod MemoLemmas
-pub mod StartLemmas
-pub mod OverlayLemmas
 pub mod ScanLemmas
 pub mod SettleLemmas
 pub mod SlotLemmas

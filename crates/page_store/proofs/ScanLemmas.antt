@@ -19,12 +19,13 @@ use Rattle.gate_journal.specs.Places.{AreCalls, ReadsOnly}
 use Rattle.gate_journal.proofs.Calls.{AreCalls-none, AreCalls-answered, AreCalls-then, observable_after}
 use Rattle.gate_journal.proofs.Reading.{ReadsOnly-refl, ReadsOnly-trans}
 use Rattle.page_store.specs.declared.changed.ChangedSlots.{ChangedSlots}
-use Rattle.page_store.specs.Caches.{Kept, IsCacheOf, TellsOfSlot}
-use Rattle.page_store.specs.Differences.{changes_of, AreDifferences}
-use Rattle.page_store.specs.OverlayState.{touched_at, bytes_or, slot_over}
+use Rattle.slot_cache.specs.Caches.{Kept, IsCacheOf, changes_of, TellsOfSlot}
+use Rattle.page_store.specs.Differences.{AreDifferences}
+use Rattle.slot_cache.specs.OverlayState.{touched_at, bytes_or, slot_over}
 use Rattle.page_store.specs.Preparing.{FindsChanges}
-use Rattle.page_store.proofs.OverlayLemmas.{at_itself, at_other}
-use Rattle.page_store.proofs.DifferLemmas.{last_or_below, rising_none, rising_later, rising_more, differences_none, differences_later, differences_more}
+use Rattle.slot_cache.proofs.CacheLemmas.{last_or_below}
+use Rattle.slot_cache.proofs.OverlayLemmas.{at_itself, at_other}
+use Rattle.page_store.proofs.DifferLemmas.{rising_none, rising_later, rising_more, differences_none, differences_later, differences_more}
 
 -- whether a slot has just these bytes
 abbrev pub IsSameAs : List ℕ → List ℕ → Bool → Type 0

@@ -21,18 +21,19 @@ use Rattle.gate_journal.proofs.Phases.{recovered_empty}
 use Rattle.page_store.specs.declared.changed.ChangedSlots.{ChangedSlots}
 use Rattle.page_store.specs.declared.fault.SettleFault.{SettleFault}
 use Rattle.page_store.specs.declared.fault.SettleFault.TheVariants as causes
-use Rattle.page_store.specs.Differences.{changes_of, AreDifferences}
+use Rattle.page_store.specs.Differences.{AreDifferences}
 use Rattle.page_store.specs.Faults.{settle_faults_after, settle_fault_of}
-use Rattle.page_store.specs.Memos.{Remembered, IsMemoOf, Renews}
-use Rattle.page_store.specs.OverlayState.{overlaid}
+use Rattle.slot_cache.specs.Caches.{changes_of}
+use Rattle.slot_cache.specs.Memos.{Remembered, IsMemoOf, Renews}
+use Rattle.slot_cache.specs.OverlayState.{overlaid}
 use Rattle.page_store.specs.PageImages.{table_slots, pages_in_table, placed_slot, IsLayoutOf, StandsAt, RepresentsPages, slots_between}
 use Rattle.page_store.specs.Preparing.{FindsSlots}
 use Rattle.page_store.specs.Settling.{AnswersFull, SettlesDisk, Settles}
 use Rattle.page_store.specs.StagedState.{StagedState, staged_state, IsCounted, IsStaged}
-use Rattle.page_store.specs.Staging.{Changes, with_changes}
+use Rattle.slot_cache.specs.Staging.{Changes, with_changes}
 use Rattle.page_store.proofs.CommitLemmas.{becomes, either, counts_commit}
 use Rattle.page_store.proofs.DifferLemmas.{differing-itself}
-use Rattle.page_store.proofs.MemoLemmas.{renewed}
+use Rattle.slot_cache.proofs.MemoLemmas.{renewed}
 use Rattle.page_store.proofs.SlotLemmas.{pages_in_held}
 use Rattle.page_store.proofs.StagedLemmas.{IsReadLater, read_later, staged_later, memo_later}
 

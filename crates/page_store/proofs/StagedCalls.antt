@@ -14,14 +14,14 @@ use Rattle.store_base.specs.declared.store_fault.Fault.TheVariants as causes
 use Rattle.store_base.specs.Faults.{disk_faults_after}
 use Rattle.disk_model.specs.DiskState.{DiskState, IsObservable}
 use Rattle.gate_journal.specs.ViewState.{KeepsView}
-use Rattle.node_pages.specs.PagesState.{PagesState, IsPageGet, IsPagePut, most_pages}
-use Rattle.page_store.specs.OverlayState.{overlaid}
+use Rattle.node_pages.specs.PagesState.{IsPageGet, IsPagePut, most_pages}
+use Rattle.slot_cache.specs.OverlayState.{overlaid}
 use Rattle.page_store.specs.PageImages.{pages_in_table}
-use Rattle.page_store.specs.Staging.{Changes, with_change, with_changes, used_after}
-use Rattle.page_store.specs.Lookups.{Finds}
-use Rattle.page_store.specs.StagedState.{staged_state, IsStaged, IsTold, Follows, pages_state}
+use Rattle.slot_cache.specs.Staging.{Changes, with_change, with_changes, used_after}
+use Rattle.slot_cache.specs.Lookups.{Finds}
+use Rattle.page_store.specs.StagedState.{StagedState, staged_state, IsStaged, IsTold, Follows, pages_state}
 use Rattle.page_store.specs.Stagings.{Stages}
-use Rattle.page_store.proofs.StagedLemmas.{IsReadLater, staged_later, staged_change, changed_map, same_table}
+use Rattle.page_store.proofs.StagedLemmas.{IsReadLater, read_later, staged_later, staged_change, changed_map, same_table}
 
 -- ---- the count of pages
 
@@ -47,8 +47,32 @@ in_u32 None used false within few = omega arith
 
 -- ---- the calls
 
+-- calls that keep the view follow, whatever they stage
+pub view_follows : {D W : Type 0} (state : D → DiskState) (draw : W) (p q : Parameters) (disk after : D) (changes next : Changes) (lookups n : ℕ) (is_spent : Bool) (was : StagedState D W) → staged_state state p draw disk changes lookups is_spent ≡ was → KeepsView p q (state disk) (state after)
+    → Follows state was (staged_state state q draw after next n is_spent)
+view_follows {D} {W} state draw p q disk after changes next lookups n is_spent was is view = subst (λ (x : StagedState D W). Follows state x (staged_state state q draw after next n is_spent)) is (record {
+  disk = view;
+  draw = refl;
+  runs = refl;
+  table = λ observable. ap₂ (λ (r : Parameters) (bytes : List ℕ). pages_in_table r.slots bytes) view.params (view.reads observable).bytes;
+})
+
+-- there was no memory for a page
+pub put_refused : {D W : Type 0} (state : D → DiskState) (now was : StagedState D W) (page : Page) → now ≡ was → IsPagePut {T = Unit {0}} (pages_state state was) (pages_state state now) page (Err causes.NoMemory)
+put_refused {D} {W} state now was page is = subst (λ (x : StagedState D W). IsPagePut {T = Unit {0}} (pages_state state x) (pages_state state now) page (Err causes.NoMemory)) is (record {
+  faults = refl;
+  lookups = refl;
+  hidden = λ observable. observable;
+  observed = λ observable. record { observable = observable; changed = tt; unchanged = refl };
+})
+
+-- slots over the disk were read
 module _ {D W : Type 0} (state : D → DiskState) (draw : W) (d : Draw) (p q : Parameters) (disk after : D) (touched later : List (ℕ × List ℕ)) (changes : Changes) (used settled lookups : ℕ) (is_spent : Bool)
-    (staged : IsStaged d p (state disk) touched changes used settled is_spent) (read : IsReadLater p q (state disk) (state after) touched later) where
+    (staged : IsStaged d p (state disk) touched changes used settled is_spent) (view : KeepsView p q (state disk) (state after)) (slots : IsObservable (state disk) → (overlaid q.slots later (state after)).slots ≡ (overlaid p.slots touched (state disk)).slots)
+    (was : StagedState D W) (view_is : staged_state state p draw disk changes lookups is_spent ≡ was) where
+  read : IsReadLater p q (state disk) (state after) touched later
+  read = read_later p q (state disk) (state after) touched later view slots
+
   told_before : (next : Changes) (n : ℕ) → IsTold state (staged_state state q draw after next n is_spent) → IsTold state (staged_state state p draw disk changes lookups is_spent)
   told_before next n told =
       let before = sym read.observable ∙ told.disk in
@@ -62,60 +86,66 @@ module _ {D W : Type 0} (state : D → DiskState) (draw : W) (d : Draw) (p q : P
   same_map : IsObservable (state disk) → with_changes (pages_in_table q.slots (state after).bytes) changes ≡ with_changes (pages_in_table p.slots (state disk).bytes) changes
   same_map observable = ap (λ (m : PageMap). with_changes m changes) (same_table d p q (state disk) (state after) touched later changes used settled is_spent staged read observable)
 
-  just_read : IsStaged d q (state after) later changes used settled is_spent
-  just_read = staged_later d p q (state disk) (state after) touched later changes used settled is_spent staged read
+  -- all is as it was
+  pub read_staged : (next : Changes) → next ≡ changes → IsStaged d q (state after) later next used settled is_spent
+  read_staged next same =
+      subst (λ (es : Changes). IsStaged d q (state after) later es used settled is_spent) (sym same)
+      (staged_later d p q (state disk) (state after) touched later changes used settled is_spent staged read)
 
   -- a page was asked for, and is shown
-  pub page_looked : KeepsView p q (state disk) (state after) → (l : Label) (n : ℕ) (shown : Result (Option Page) Fault) → lookups ≤ n → n ≤ lookups + 1 → (state after).faults ≡ disk_faults_after (state disk).faults shown
+  pub page_looked : (l : Label) (n : ℕ) (shown : Result (Option Page) Fault) → lookups ≤ n → n ≤ lookups + 1 → (state after).faults ≡ disk_faults_after (state disk).faults shown
       → (IsTold state (staged_state state q draw after changes n is_spent) → IfOk shown (λ page. page ≡ page_at (with_changes (pages_in_table q.slots (state after).bytes) changes) l))
-      → IsPageGet (pages_state state (staged_state state p draw disk changes lookups is_spent)) (pages_state state (staged_state state q draw after changes n is_spent)) l shown
-      × Follows state (staged_state state p draw disk changes lookups is_spent) (staged_state state q draw after changes n is_spent)
-  page_looked view l n shown kept most faults found = (
-    record {
+      → IsPageGet (pages_state state was) (pages_state state (staged_state state q draw after changes n is_spent)) l shown × Follows state was (staged_state state q draw after changes n is_spent)
+  page_looked l n shown kept most faults found = (
+    subst (λ (x : StagedState D W). IsPageGet (pages_state state x) (pages_state state (staged_state state q draw after changes n is_spent)) l shown) view_is (record {
       faults = faults;
       lookups_kept = kept;
       lookups_most = most;
       hidden = told_before changes n;
       observed = λ told.
-          let now = told_later changes n used just_read told in
+          let now = told_later changes n used (read_staged changes refl) told in
           record {
             observable = now;
             found = subst (λ (m : PageMap). IfOk shown (λ page. page ≡ page_at m l)) (same_map told.disk) (found now);
             unchanged = same_map told.disk;
           };
-    },
-    record { disk = view; draw = refl; runs = refl; table = same_table d p q (state disk) (state after) touched later changes used settled is_spent staged read },
+    }),
+    view_follows state draw p q disk after changes changes lookups n is_spent was view_is view,
   )
 
   -- a change was not staged
   pub stage_failed : (l : Label) (change : Option Page) (fault : Fault) (next : Changes) → next ≡ changes → (state after).faults ≡ disk_faults_after {T = Unit {0}} (state disk).faults (Err fault)
-      → Stages {T = Unit {0}} (pages_state state (staged_state state p draw disk changes lookups is_spent)) (pages_state state (staged_state state q draw after next lookups is_spent)) l change (Err fault)
+      → Stages {T = Unit {0}} (pages_state state was) (pages_state state (staged_state state q draw after next lookups is_spent)) l change (Err fault)
   stage_failed l change fault next same faults =
-      subst (λ (es : Changes). Stages {T = Unit {0}} (pages_state state (staged_state state p draw disk changes lookups is_spent)) (pages_state state (staged_state state q draw after es lookups is_spent)) l change (Err fault)) (sym same) (record {
+      subst (λ (x : StagedState D W). Stages {T = Unit {0}} (pages_state state x) (pages_state state (staged_state state q draw after next lookups is_spent)) l change (Err fault)) view_is
+      (subst (λ (es : Changes). Stages {T = Unit {0}} (pages_state state (staged_state state p draw disk changes lookups is_spent)) (pages_state state (staged_state state q draw after es lookups is_spent)) l change (Err fault)) (sym same) (record {
         faults = faults;
         lookups = refl;
         hidden = told_before changes lookups;
-        observed = λ told. record { observable = told_later changes lookups used just_read told; changed = tt; unchanged = same_map told.disk };
-      })
+        observed = λ told. record { observable = told_later changes lookups used (read_staged changes refl) told; changed = tt; unchanged = same_map told.disk };
+      }))
 
   -- a change was staged
   module _ (l : Label) (change : Option Page) (is_there : Bool) (next : Changes) (used_now : ℕ) (found : Finds d (overlaid p.slots touched (state disk)) (overlaid q.slots later (state after)) changes l (Ok is_there)) (put : next ≡ insert_entry label_cmp changes l change)
       (keeps : (m : PageMap) → IsPageMap m → IsPageMap (with_change m l change)) (in_range : used ≤ most_pages)
-      (few : IsSome change → IsTold state (staged_state state p draw disk changes lookups is_spent) → maps.len (with_changes (pages_in_table p.slots (state disk).bytes) changes) < most_pages)
+      (few : IsSome change → IsTold state was → maps.len was.map < most_pages)
       (counted : used_now ≡ min most_pages (used_after used is_there (is_some change))) where
+    few_pages : IsSome change → IsTold state (staged_state state p draw disk changes lookups is_spent) → maps.len (with_changes (pages_in_table p.slots (state disk).bytes) changes) < most_pages
+    few_pages = subst (λ (x : StagedState D W). IsSome change → IsTold state x → maps.len x.map < most_pages) (sym view_is) few
+
     counts : IsObservable (state disk) → is_spent ≡ false → used ≡ maps.len (with_changes (pages_in_table p.slots (state disk).bytes) changes) → is_there ≡ maps.contains_key (with_changes (pages_in_table p.slots (state disk).bytes) changes) (label_bytes l)
         → used_now ≡ maps.len (with_change (with_changes (pages_in_table p.slots (state disk).bytes) changes) l change)
     counts observable runs is there =
         let told : IsTold state (staged_state state p draw disk changes lookups is_spent) = record { disk = observable; runs = runs; valid = (staged.counted observable runs).valid } in
         counted
-        ∙ in_u32 change used is_there in_range (λ some. subst (λ (n : ℕ). n < most_pages) (sym is) (few some told))
+        ∙ in_u32 change used is_there in_range (λ some. subst (λ (n : ℕ). n < most_pages) (sym is) (few_pages some told))
         ∙ len_after (with_changes (pages_in_table p.slots (state disk).bytes) changes) l change used is_there is there
 
     pub stage_staged : IsStaged d q (state after) later next used_now settled is_spent
     stage_staged = staged_change d p q (state disk) (state after) touched later changes used settled is_spent staged read l change is_there next used_now found put keeps counts
 
-    pub stage_done : Stages {T = Unit {0}} (pages_state state (staged_state state p draw disk changes lookups is_spent)) (pages_state state (staged_state state q draw after next lookups is_spent)) l change (Ok tt)
-    stage_done = record {
+    pub stage_done : Stages {T = Unit {0}} (pages_state state was) (pages_state state (staged_state state q draw after next lookups is_spent)) l change (Ok tt)
+    stage_done = subst (λ (x : StagedState D W). Stages {T = Unit {0}} (pages_state state x) (pages_state state (staged_state state q draw after next lookups is_spent)) l change (Ok tt)) view_is (record {
       faults = found.calls.faults;
       lookups = refl;
       hidden = told_before next lookups;
@@ -124,18 +154,4 @@ module _ {D W : Type 0} (state : D → DiskState) (draw : W) (d : Draw) (p q : P
         changed = changed_map d p q (state disk) (state after) touched later changes used settled is_spent staged read l change is_there next used_now found put keeps counts told.disk;
         unchanged = tt;
       };
-    }
-
--- there was no memory for a page
-pub put_refused : (pages : PagesState) (page : Page) → IsPagePut {T = Unit {0}} pages pages page (Err causes.NoMemory)
-put_refused pages page = record { faults = refl; lookups = refl; hidden = λ observable. observable; observed = λ observable. record { observable = observable; changed = tt; unchanged = refl } }
-
--- calls that keep the view follow, whatever they stage
-pub view_follows : {D W : Type 0} (state : D → DiskState) (draw : W) (p q : Parameters) (disk after : D) (changes next : Changes) (lookups n : ℕ) (is_spent : Bool) → KeepsView p q (state disk) (state after)
-    → Follows state (staged_state state p draw disk changes lookups is_spent) (staged_state state q draw after next n is_spent)
-view_follows state draw p q disk after changes next lookups n is_spent view = record {
-  disk = view;
-  draw = refl;
-  runs = refl;
-  table = λ observable. ap₂ (λ (r : Parameters) (bytes : List ℕ). pages_in_table r.slots bytes) view.params (view.reads observable).bytes;
-}
+    })

@@ -1,5 +1,5 @@
 -- The slots in which two tables differ, each table by the bytes of its slots.
-use Rattle.std.specs.Prelude.{◌≡◌, ◌≢◌, ℕ, ◌<◌, List, [], length, not, slice_index_or}
+use Rattle.std.specs.Prelude.{◌≡◌, ◌≢◌, ℕ, ◌<◌, List, not}
 use Rattle.std.specs.List.{count_by}
 use Rattle.store_model.specs.Lists.{numbers_below, same_bytes}
 use Rattle.gate_journal.specs.Changes as journal
@@ -7,10 +7,6 @@ use Rattle.gate_journal.specs.Changes as journal
 -- how many of the first slots have other bytes in the one table than in the other
 abbrev pub differing : (ℕ → List ℕ) → (ℕ → List ℕ) → ℕ → ℕ
 differing old new slots = count_by (λ i. not (same_bytes (old i) (new i))) (numbers_below slots)
-
--- slots with their new bytes, as a commit takes them
-abbrev pub changes_of : List (ℕ × List ℕ) → journal.Changes
-changes_of items = record { count = length items; slot = λ k. (slice_index_or items k (0, [])).0; bytes = λ k. (slice_index_or items k (0, [])).1 }
 
 -- the changes are just those of the first slots whose bytes differ, with their new bytes
 pub record AreDifferences (old new : ℕ → List ℕ) (slots : ℕ) (changes : journal.Changes) : Type 0 where

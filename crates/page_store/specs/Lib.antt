@@ -1,17 +1,9 @@
-pub mod Caches
-pub mod Carrying
 pub mod Codes
 pub mod Committing
 pub mod Differences
 pub mod Faults
-pub mod Lookups
-pub mod Memos
-pub mod Starts
-pub mod OverlayState
-pub mod Overlays
 pub mod PageImages
 pub mod Preparing
 pub mod Settling
-pub mod Staging
 pub mod StagedState
 pub mod Stagings

@@ -1,12 +1,9 @@
 -- Images that hold pages in their table.
 use Rattle.std.specs.Prelude.{◌≡◌, ℕ, List, [], ◌==◌, if◌then◌else◌, Option, Some, None, map, length, take, drop, slice_get, slice_index}
-use Rattle.std.specs.Int.{w32, from_be_bytes}
 use Rattle.std.specs.List.{filter_map}
 use Rattle.std.specs.Option.{option_map_or}
 use Rattle.store_model.specs.Lists.{numbers_below}
 use Rattle.store_model.specs.Parameters.{Parameters, block_len, image_len}
-use Rattle.store_model.specs.Labels.{Lead, Label}
-use Rattle.store_model.specs.Labels.Lead.{Start, Leader}
 use Rattle.store_model.specs.Draws.{Draw}
 use Rattle.store_model.specs.Pages.{Page}
 use Rattle.store_model.specs.Placement.{place}
@@ -15,15 +12,8 @@ use Rattle.store_model.specs.Images.{header, recovered, slot_bytes}
 use Rattle.node_pages.specs.Cells.{page_in}
 use Rattle.disk_model.specs.DiskState.{DiskState, IsDurable}
 use Rattle.gate_journal.specs.Phases.{table_slot, HasEmptyJournal}
+use Rattle.slot_cache.specs.Spelled.{label_in}
 use Rattle.page_store.specs.Differences.{differing}
-
--- the lead that 125 bytes of a label spell
-abbrev pub lead_in : List ℕ → Lead
-lead_in bytes = if slice_index bytes 0 == 0 then Start else Leader (drop 1 bytes)
-
--- the label that 130 bytes spell
-abbrev pub label_in : List ℕ → Label
-label_in bytes = record { level = slice_index bytes 0; lead = lead_in (take 125 (drop 1 bytes)); index = from_be_bytes w32 (take 4 (drop 126 bytes)) }
 
 -- the page that the bytes of a slot spell, and none in a slot whose byte 0 is not 1
 unfoldable pub page_in_slot : List ℕ → Option Page

@@ -11,12 +11,12 @@ use Rattle.gate_journal.specs.Changes.{AreChanges}
 use Rattle.gate_journal.specs.Disks.{KeepsDisk}
 use Rattle.gate_journal.specs.Phases.{table_slot}
 use Rattle.gate_journal.specs.Places.{ReadsOnly}
-use Rattle.page_store.specs.Caches.{Kept, IsCacheOf}
+use Rattle.slot_cache.specs.Caches.{Kept, IsCacheOf, changes_of}
 use Rattle.page_store.specs.declared.changed.ChangedSlots.{ChangedSlots}
-use Rattle.page_store.specs.Differences.{changes_of, AreDifferences}
-use Rattle.page_store.specs.OverlayState.{slot_over, overlaid}
+use Rattle.page_store.specs.Differences.{AreDifferences}
+use Rattle.slot_cache.specs.OverlayState.{slot_over, overlaid}
 use Rattle.page_store.specs.PageImages.{table_slots, placed_slot}
-use Rattle.page_store.specs.Staging.{Changes, with_changes}
+use Rattle.slot_cache.specs.Staging.{Changes, with_changes}
 
 -- Slots that were written are compared with the table of a disk, and with what is kept of it.
 pub record FindsChanges (slots : ℕ) (written : List (ℕ × List ℕ)) (old new : DiskState) (cache : Kept) (result : Result ChangedSlots Fault) : Type 0 where

@@ -5,7 +5,7 @@ use Rattle.store_base.specs.Faults.{disk_faults_after}
 use Rattle.store_model.specs.Labels.{Label}
 use Rattle.store_model.specs.Pages.{Page}
 use Rattle.node_pages.specs.PagesState.{PagesState, IsObservable}
-use Rattle.page_store.specs.Staging.{with_change}
+use Rattle.slot_cache.specs.Staging.{with_change}
 
 -- what it does to observable pages; one that fails leaves them
 pub record StagesChange {T : Type 0} (old new : PagesState) (l : Label) (change : Option Page) (result : Result T Fault) : Type 0 where

@@ -1,10 +1,10 @@
 //! Slots of a table that a settle commits.
 
 ghost use Rattle.std.specs.Prelude.{◌≡◌, ◌<◌, length};
-ghost use Rattle.page_store.specs.Differences.{changes_of};
+ghost use Rattle.slot_cache.specs.Caches.{changes_of};
 
-use crate::boxed::Boxed;
 use gate_journal::SlotChanges;
+use slot_cache::Boxed;
 use store_base::Slot;
 
 /// Slots of a table, each with its new bytes.

@@ -3,21 +3,17 @@
 ghost use Rattle.std.specs.Prelude.{◌≡◌, ◌<◌, ◌≤◌, ℕ, List, length, Some};
 ghost use Rattle.store_model.specs.Parameters.{image_len, block_len, slots_limit};
 ghost use Rattle.gate_journal.specs.ViewState.{KeepsView};
-ghost use Rattle.page_store.specs.Caches.{IsCacheOf};
-ghost use Rattle.page_store.specs.Overlays.{disk_of, params_of, touched_of};
-ghost use Rattle.page_store.specs.OverlayState.{touched_at};
+ghost use Rattle.slot_cache.specs.Caches.{IsCacheOf};
+ghost use Rattle.slot_cache.specs.Overlays.{disk_of, params_of, touched_of};
+ghost use Rattle.slot_cache.specs.OverlayState.{touched_at};
 ghost use Rattle.page_store.specs.Preparing.{FindsChanges, FindsSlots};
-ghost use Rattle.page_store.specs.Starts.{AreStarts};
+ghost use Rattle.slot_cache.specs.Starts.{AreStarts};
 
-use crate::boxed::Boxed;
-use crate::cache::{SlotCache, tell_slot};
-use crate::carry::carry_out;
 use crate::changed::ChangedSlots;
-use crate::hints::Hints;
-use crate::overlay::Overlay;
 use disk_model::Disk;
 use node_pages::Page;
 use seeded_draw::Draw;
+use slot_cache::{Boxed, Hints, Overlay, SlotCache, carry_out, tell_slot};
 use std::alloc::Global;
 use std::collections::BTreeMap;
 use store_base::{Fault, Label, Slot};

@@ -4,27 +4,15 @@
 //! is written. A settle carries the changes out on an overlay of the slots that they touch, and commits the slots whose
 //! bytes differ, so that the table is again the placement of the pages; a crash leaves the old pages or the new ones.
 //!
-//! Up to 64 slots that were read last are kept in memory (`SlotCache`), each as the table of the disk has it, and are not
-//! read again. What was found under up to 227 labels is remembered too (`PageMemo`), and is not looked up again. The slot
-//! where a page was found last is looked at first (`Hints`), so that for most pages no start is drawn; and the starts that
-//! were drawn last are kept.
+//! What is kept in memory of the table, so that it is not read again, is `slot_cache`'s.
 #![tactic(auto)]
 
-mod boxed;
-mod cache;
-mod carry;
 mod changed;
+mod commit;
 mod compare;
 mod fault;
-mod hints;
-mod maps;
-mod memo;
-mod overlay;
-mod search;
-mod spares;
 mod staged;
-mod told;
 
-pub use cache::SlotCache;
 pub use fault::SettleFault;
+pub use slot_cache::SlotCache;
 pub use staged::Staged;

@@ -11,27 +11,24 @@ ghost use Rattle.sha2.specs.Sha256.{sha256};
 ghost use Rattle.gate_journal.specs.Places.{AreCalls, ReadsOnly};
 ghost use Rattle.store_model.specs.PageMaps.{PageMap, IsPageMap, page_at};
 ghost use Rattle.node_pages.specs.PagesState.{IsPageGet, IsPagePut, IsPageDrop, looked_at, most_pages};
-ghost use Rattle.page_store.specs.Memos.{place_of, IsMemoOf};
-ghost use Rattle.page_store.specs.Starts.{AreStarts};
-ghost use Rattle.page_store.specs.OverlayState.{overlaid};
+ghost use Rattle.slot_cache.specs.Memos.{place_of, IsMemoOf};
+ghost use Rattle.slot_cache.specs.Starts.{AreStarts};
+ghost use Rattle.slot_cache.specs.OverlayState.{overlaid};
 ghost use Rattle.page_store.specs.PageImages.{pages_in_table, StandsAt};
-ghost use Rattle.page_store.specs.Staging.{with_change, used_after};
+ghost use Rattle.slot_cache.specs.Staging.{with_change, used_after};
 ghost use Rattle.page_store.specs.Settling.{Settles};
 
-use crate::boxed::{Boxed, behind};
-use crate::cache::{SlotCache, commit_slots};
+use crate::commit::commit_slots;
 use crate::compare::find_slots;
 use crate::fault::SettleFault;
-use crate::hints::Hints;
-use crate::maps::empty;
-use crate::memo::{PageMemo, place_of};
-use crate::overlay::Overlay;
-use crate::search::{has_page, known, learn};
-use crate::spares::Spares;
 use disk_model::Disk;
 use gate_journal::Journal;
 use node_pages::{Page, Pages};
 use seeded_draw::Draw;
+use slot_cache::{
+    Boxed, Hints, Overlay, PageMemo, SlotCache, Spares, behind, empty, has_page, known, learn,
+    place_of,
+};
 use std::alloc::Global;
 use std::collections::BTreeMap;
 use std::marker::Model;

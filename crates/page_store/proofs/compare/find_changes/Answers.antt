@@ -1,9 +1,9 @@
 use Rattle.std.proofs.Common.{ℕ, List, Ok, Err, sym, ap, subst, ◌∙◌}
 use Rattle.std.proofs.lemmas.Result.{err_from_is_err_and}
-use Rattle.page_store.proofs.MapLemmas.{none_left}
+use Rattle.slot_cache.proofs.MapLemmas.{none_left}
 use Rattle.page_store.proofs.ScanLemmas.{IsScanning, IsSameAs, scanning_begins, next_below, scanning_passes, scanning_finds, left_over, left_after, found_all, none_reserved, none_found}
-use Rattle.page_store.specs.Caches.{TellsOfSlot}
-use Rattle.page_store.specs.OverlayState.{touched_at}
+use Rattle.slot_cache.specs.Caches.{TellsOfSlot}
+use Rattle.slot_cache.specs.OverlayState.{touched_at}
 use Rattle.page_store.specs.Preparing.{FindsChanges}
 use Rattle.page_store.proofs.compare.find_changes.Goals as goal
 

@@ -1,5 +1,5 @@
 use Rattle.std.proofs.Common.{length}
-use Rattle.page_store.specs.Caches.{IsCacheOf}
+use Rattle.slot_cache.specs.Caches.{IsCacheOf}
 use Rattle.page_store.proofs.ScanLemmas.{IsScanning}
 use Rattle.page_store.proofs.compare.find_changes.Given as goal
 

@@ -1,7 +1,7 @@
-use Rattle.std.proofs.Common.{refl, ap, subst, ◌∙◌}
-use Rattle.page_store.specs.PageImages.{pages_in_table}
-use Rattle.page_store.specs.StagedState.{StagedState, staged_state, Follows}
-use Rattle.page_store.proofs.CacheLemmas.{cache_read}
+use Rattle.std.proofs.Common.{refl, ◌∙◌}
+use Rattle.slot_cache.proofs.CacheLemmas.{cache_read}
+use Rattle.slot_cache.proofs.OverlayLemmas.{view_read}
+use Rattle.page_store.proofs.StagedCalls.{view_follows}
 use Rattle.page_store.proofs.StagedLemmas.{read_below, staged_later, memo_later}
 use Rattle.page_store.proofs.staged.Staged.digest.Goals as goal
 
@@ -24,11 +24,5 @@ pub returns-clause-follows : goal.returns-clause-follows
 returns-clause-follows g c =
     let s = c.self.inside in
     let state = g.D.Disk.state in
-    let calls = c.digest.ensures.calls in
-    let new = staged_state state s.overlay.params s.draw c.digest.new.disk s.changes.entries s.lookups s.is_spent in
-    subst (λ (x : StagedState g.row.D.Denot g.row.W.Denot). Follows state x new) c.self.view_is (record {
-      disk = record { params = refl; size = calls.size; observable = calls.observable; rise = calls.rise; writes = calls.writes; syncs = calls.syncs; reads = c.digest.ensures.reads };
-      draw = refl;
-      runs = refl;
-      table = λ observable. ap (pages_in_table s.overlay.params.slots) (c.digest.ensures.reads observable).bytes;
-    })
+    let view = view_read s.overlay.params (state s.overlay.disk) (state c.digest.new.disk) c.digest.result c.digest.ensures.calls c.digest.ensures.reads in
+    view_follows state s.draw s.overlay.params s.overlay.params s.overlay.disk c.digest.new.disk s.changes.entries s.changes.entries s.lookups s.lookups s.is_spent _ c.self.view_is view

@@ -1,14 +1,13 @@
-use Rattle.std.proofs.Common.{Some, Err, sym, subst}
+use Rattle.std.proofs.Common.{Some, sym, subst}
 use Rattle.std.proofs.lemmas.Result.{err_from_is_err_and}
-use Rattle.store_base.specs.declared.store_fault.Fault.TheVariants as causes
 use Rattle.store_model.specs.Labels.{Label}
 use Rattle.store_model.specs.Pages.{Page}
 use Rattle.store_model.specs.PageMaps.{IsPageMap}
 use Rattle.store_model.proofs.PageMapsLemmas.{IsPageMap-with_page}
-use Rattle.node_pages.specs.PagesState.{IsPagePut}
-use Rattle.page_store.specs.StagedState.{StagedState, staged_state, pages_state, Follows, Follows-refl}
-use Rattle.page_store.specs.Staging.{with_change}
-use Rattle.page_store.proofs.StagedCalls.{put_refused}
+use Rattle.gate_journal.specs.ViewState.{KeepsView-refl}
+use Rattle.slot_cache.specs.Staging.{with_change}
+use Rattle.page_store.specs.StagedState.{staged_state}
+use Rattle.page_store.proofs.StagedCalls.{put_refused, view_follows}
 use Rattle.page_store.proofs.staged.StagedPages.put.Goals as goal
 
 pub stage-requires-clause-fits : goal.stage-requires-clause-fits
@@ -19,14 +18,11 @@ stage-requires-clause-fits g c = λ m is.
 pub returns-in_err-kept-clause-call : goal.returns-in_err-kept-clause-call
 returns-in_err-kept-clause-call g c =
     let s = c.self.inside in
-    let state = g.D.Disk.state in
-    let now = staged_state state s.overlay.params s.draw s.overlay.disk s.changes.entries s.lookups s.is_spent in
+    let now = staged_state g.D.Disk.state s.overlay.params s.draw s.overlay.disk s.changes.entries s.lookups s.is_spent in
     let p = err_from_is_err_and c.from_residual.result c.from_residual.ensures.1 in
-    rw (p.1, p.2) (subst (λ (x : StagedState g.row.D.Denot g.row.W.Denot). IsPagePut {T = Unit {0}} (pages_state state x) (pages_state state now) c.args.page (Err causes.NoMemory)) c.self.view_is (put_refused (pages_state state now) c.args.page))
+    rw (p.1, p.2) (put_refused g.D.Disk.state now c.args.self.now c.args.page c.self.view_is)
 
 pub returns-in_err-kept-clause-follows : goal.returns-in_err-kept-clause-follows
 returns-in_err-kept-clause-follows g c =
     let s = c.self.inside in
-    let state = g.D.Disk.state in
-    let now = staged_state state s.overlay.params s.draw s.overlay.disk s.changes.entries s.lookups s.is_spent in
-    subst (λ (x : StagedState g.row.D.Denot g.row.W.Denot). Follows state x now) c.self.view_is (Follows-refl state now (g.met.D.Disk.sound s.overlay.disk))
+    view_follows g.D.Disk.state s.draw s.overlay.params s.overlay.params s.overlay.disk s.overlay.disk s.changes.entries s.changes.entries s.lookups s.lookups s.is_spent _ c.self.view_is (KeepsView-refl s.overlay.params (g.D.Disk.state s.overlay.disk) (g.met.D.Disk.sound s.overlay.disk))

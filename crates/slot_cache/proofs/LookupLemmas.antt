@@ -1,0 +1,84 @@
+-- Lemmas on what is found of a label.
+use Rattle.std.proofs.Common.{◌≡◌, ◌↔◌, ℕ, ◌<◌, Bool, true, false, List, Option, Some, None, IsNone, Result, Ok, Err, is_some, slice_get, refl, sym, ap, subst, ◌∙◌}
+use Rattle.std.proofs.lemmas.Option.{same_Some, none-some}
+use Rattle.std.specs.Map.{lookup}
+use Rattle.std.specs.BTreeMap.{is_at}
+use Rattle.store_model.specs.Labels.{Label, label_bytes, label_cmp}
+use Rattle.store_model.specs.Draws.{Draw}
+use Rattle.store_model.specs.Pages.{Page, IsPage}
+use Rattle.store_model.specs.Images.{page_bytes, slot_bytes}
+use Rattle.store_model.specs.PageMaps.{PageMap, page_at, HoldsPages}
+use Rattle.store_base.specs.declared.store_fault.Fault.{Fault}
+use Rattle.store_base.specs.SlotsState.{SlotsState, IsObservable, IsGet}
+use Rattle.store_base.proofs.SlotsCalls.{AreSlotCalls-none, AreSlotCalls-then, AreSlotCalls-value, IsObservable-later}
+use Rattle.ordered_table.specs.Tables.{IsSlotOf}
+use Rattle.slot_cache.specs.Staging.{Changes, with_changes}
+use Rattle.slot_cache.specs.Lookups.{Locates, Reads, ReadsChanged, Finds}
+use Rattle.slot_cache.proofs.ChangeLemmas.{page_or, page_at-with_changes}
+
+-- the page in the slot that was found
+pub page_read : (d : Draw) (old mid new : SlotsState) (l : Label) (at : ℕ) (buffer : List ℕ) (page : Option Page) → Locates d old mid l (Ok (Some at)) → IsGet {T = Unit {0}} mid new at buffer (Ok tt)
+    → ((p : Page) → IsPage p → page_bytes p ≡ buffer → page ≡ Some p) → Reads d old new l (Ok page)
+unfolding slot_bytes
+page_read d old mid new l at buffer page located got only = record {
+  calls = AreSlotCalls-then old mid new (Some at) (Ok page) located.calls (AreSlotCalls-value mid new tt page got.calls);
+  reads = λ observable. (got.observed (IsObservable-later old mid (Ok (Some at)) located.calls observable)).slots ∙ located.reads observable;
+  found = λ m observable holds.
+      let there = (located.found m observable holds).slot in
+      let shows = (got.observed (IsObservable-later old mid (Ok (Some at)) located.calls observable)).got in
+      let bytes : slot_bytes (Some there.page) ≡ buffer = same_Some (slot_bytes (Some there.page)) buffer (sym there.in_slot ∙ ap (λ (ss : List (List ℕ)). slice_get ss at) (sym (located.reads observable)) ∙ shows) in
+      only there.page (holds.pages (label_bytes l) there.page there.in_map).valid bytes ∙ sym there.in_map;
+}
+
+-- no slot was found
+pub none_read : (d : Draw) (old new : SlotsState) (l : Label) → Locates d old new l (Ok None) → Reads d old new l (Ok None)
+none_read d old new l located = record {
+  calls = AreSlotCalls-value old new None None located.calls;
+  reads = located.reads;
+  found = λ m observable holds. sym ((located.found m observable holds).absent.0 refl);
+}
+
+-- the slot that was found is where it was behind the search
+pub still_located : (d : Draw) (old new : SlotsState) (l : Label) (at : ℕ) → Locates d old new l (Ok (Some at)) → Locates d new new l (Ok (Some at))
+still_located d old new l at located = record {
+  calls = AreSlotCalls-none new (Some at);
+  reads = λ observable. refl;
+  within = subst (λ (n : ℕ). at < n) (sym located.calls.count) located.within;
+  found = λ m observable holds.
+      let before : IsObservable old = sym located.calls.observable ∙ observable in
+      let was = located.found m before (subst (λ (slots : List (List ℕ)). HoldsPages d slots m) (located.reads before) holds) in
+      record { absent = was.absent; slot = subst (λ (slots : List (List ℕ)). IsSlotOf slots m l at) (sym (located.reads before)) was.slot };
+}
+
+-- where something is staged under the label
+staged_is : (m : PageMap) (changes : Changes) (l : Label) (page : Option Page) → Some page ≡ lookup (is_at (label_cmp l)) changes → page ≡ page_at (with_changes m changes) l
+staged_is m changes l page staged = ap (λ (o : Option (Option Page)). page_or o (page_at m l)) staged ∙ sym (page_at-with_changes m changes l)
+
+pub staged_read : (d : Draw) (slots : SlotsState) (changes : Changes) (l : Label) (page : Option Page) → Some page ≡ lookup (is_at (label_cmp l)) changes → ReadsChanged d slots slots changes l (Ok page)
+staged_read d slots changes l page staged = record { calls = AreSlotCalls-none slots page; reads = λ observable. refl; found = λ m observable holds. staged_is m changes l page staged }
+
+-- where nothing is
+settled_is : (m : PageMap) (changes : Changes) (l : Label) → None ≡ lookup (is_at (label_cmp l)) changes → page_at m l ≡ page_at (with_changes m changes) l
+settled_is m changes l none = ap (λ (o : Option (Option Page)). page_or o (page_at m l)) none ∙ sym (page_at-with_changes m changes l)
+
+pub settled_read : (d : Draw) (old new : SlotsState) (changes : Changes) (l : Label) (result : Result (Option Page) Fault) → None ≡ lookup (is_at (label_cmp l)) changes → Reads d old new l result → ReadsChanged d old new changes l result
+settled_read d old new changes l (Ok page) none read = record { calls = read.calls; reads = read.reads; found = λ m observable holds. read.found m observable holds ∙ settled_is m changes l none }
+settled_read d old new changes l (Err fault) none read = record { calls = read.calls; reads = read.reads; found = λ m observable holds. tt }
+
+-- whether there is a page, by the page that was read
+pub found_by_read : (d : Draw) (old new : SlotsState) (changes : Changes) (l : Label) (page : Option Page) (is_there : Bool) → ReadsChanged d old new changes l (Ok page) → is_there ≡ is_some page → Finds d old new changes l (Ok is_there)
+found_by_read d old new changes l page is_there read is = record { calls = AreSlotCalls-value old new page is_there read.calls; reads = read.reads; found = λ m observable holds. is ∙ ap is_some (read.found m observable holds) }
+
+-- or by the place where it stands
+same_found : (at : Option ℕ) (page : Option Page) → (IsNone at ↔ (page ≡ None)) → is_some at ≡ is_some page
+same_found None None both = refl
+same_found None (Some page) both = absurd (none-some page (sym (both.0 refl)))
+same_found (Some at) None both = let none : true ≡ false = both.1 refl in absurd (cc)
+same_found (Some at) (Some page) both = refl
+
+pub found_by_place : (d : Draw) (old new : SlotsState) (changes : Changes) (l : Label) (at : Option ℕ) (is_there : Bool) → None ≡ lookup (is_at (label_cmp l)) changes → Locates d old new l (Ok at) → is_there ≡ is_some at → Finds d old new changes l (Ok is_there)
+found_by_place d old new changes l at is_there none located is = record {
+  calls = AreSlotCalls-value old new at is_there located.calls;
+  reads = located.reads;
+  found = λ m observable holds. is ∙ same_found at (page_at m l) (located.found m observable holds).absent ∙ ap is_some (settled_is m changes l none);
+}
