@@ -1,11 +1,17 @@
-//! The tests, a module for each kind of what is tested, and pairs that count their calls.
+//! The tests, a module for each kind of what is tested.
 
-mod counted_pairs;
+mod base_types;
+mod disks;
+mod draws;
+mod faults;
 mod files;
 mod journals;
 mod layouts;
 mod listed_pages;
 mod moves;
+mod page_slots;
+mod paths;
+mod scripts;
 mod skip_lists;
 mod staged_pages;
 mod staged_slots;

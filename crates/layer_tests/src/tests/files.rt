@@ -1,83 +1,16 @@
 //! Files, with the calls on their pairs counted. The counts are worked out by hand: what stands at the path is asked once,
 //! a block that the bytes fill is put, another one is read and put, and the first pair is put where the length changes.
 
-use super::counted_pairs::CountedPairs;
-use super::moves::path;
-use file_blocks::{cut, read_at, write_at};
+use super::paths::path;
+use file_blocks::{cut, write_at};
 use path_keys::Path;
 use std::process::Abort;
 use store_base::{Answer, Bytes, Fault, Refusal};
-use tree_pairs::{Kind, kind_of};
-
-/// A call on a file, and its answer.
-enum Call {
-    /// These bytes are written from a place on.
-    Write(u32, &'static [u8], Answer<()>),
-    /// So many bytes are asked for from a place on, and these are read.
-    Read(u32, u32, &'static [u8]),
-    /// So many bytes are asked for from a place on, and refused.
-    Unread(u32, u32, Refusal),
-    /// So many bytes are left.
-    Cut(u32, Answer<()>),
-    /// This is what stands at the path.
-    Stands(Kind),
-}
-
-/// Calls on one file, one behind the other.
-static CALLS: [Call; 12] = [
-    Call::Stands(Kind::Absent),
-    Call::Write(1, &[0], Err(Refusal::Gap)),
-    Call::Write(0, &[], Ok(())),
-    Call::Stands(Kind::File(0)),
-    Call::Write(0, &[1, 2, 3], Ok(())),
-    Call::Write(1, &[0xff], Ok(())),
-    Call::Read(0, 10, &[1, 0xff, 3]),
-    Call::Read(3, 1, &[]),
-    Call::Unread(4, 1, Refusal::Gap),
-    Call::Unread(0, 4097, Refusal::Big),
-    Call::Cut(1, Ok(())),
-    Call::Stands(Kind::File(1)),
-];
+use test_samples::CountedPairs;
 
 /// The byte string with these bytes, as many as it has room for.
 fn bytes_of(bytes: &[u8]) -> Bytes {
     Bytes::new(&bytes[..bytes.len().min(Bytes::MAX_LEN)])
-}
-
-/// Whether the call on the file at the path is answered so.
-fn is_answered(list: &mut CountedPairs, path: &Path, call: &Call) -> Result<bool, Fault> {
-    match call {
-        Call::Write(at, bytes, answer) => {
-            Ok(write_at(list, path, *at, &bytes_of(*bytes))? == *answer)
-        }
-        Call::Read(at, len, bytes) => {
-            Ok(read_at(list, path, *at, *len)? == Ok(bytes_of(*bytes)))
-        }
-        Call::Unread(at, len, refusal) => { Ok(read_at(list, path, *at, *len)? == Err(*refusal)) }
-        Call::Cut(len, answer) => Ok(cut(list, path, *len)? == *answer),
-        Call::Stands(kind) => Ok(kind_of(list, path)? == *kind),
-    }
-}
-
-/// Looks whether the calls on the file at the path are answered so.
-fn are_answered(rt: &impl Abort, list: &mut CountedPairs, path: &Path) {
-    for (at, call) in CALLS.iter().enumerate() {
-        assert!(rt; is_answered(list, path, call) == Ok(true), "call {at}");
-    }
-}
-
-/// Looks whether the root is a directory, and is not cut.
-fn is_root_kept(rt: &impl Abort, list: &mut CountedPairs) {
-    assert!(rt; kind_of(list, &Path::root()) == Ok(Kind::Dir));
-    assert!(rt; cut(list, &Path::root(), 0) == Ok(Err(Refusal::Kind)));
-}
-
-#[test]
-fn small_files(rt: HostRuntime) {
-    let mut list = CountedPairs::new(rt.alloc());
-    are_answered(&rt, &mut list, &path(&rt, "/f"));
-    assert!(rt; list.len() == 2);
-    is_root_kept(&rt, &mut list);
 }
 
 /// A change of a file.
@@ -133,7 +66,7 @@ fn are_made(rt: &impl Abort, list: &mut CountedPairs, path: &Path, rows: &[Count
 fn file_of_one_block(rt: HostRuntime) {
     let mut list = CountedPairs::new(rt.alloc());
     are_made(&rt, &mut list, &path(&rt, "/g"), &ONE_BLOCK);
-    assert_eq!(rt; list.len(), 2);
+    assert!(rt; list.len() == 2);
 }
 
 /// Fills a file that is absent to the greatest length.

@@ -1,15 +1,16 @@
 //! Lists of pairs and their pages, which were worked out by hand or come from another program.
 
 use super::listed_pages::{RULER, SHA256};
-use super::moves::path;
-use base_tests::CountedPages;
+use super::paths::path;
 use node_pages::{Page, Pages};
+use ordered_pairs::{MapPairs, OrderedPairs};
 use seeded_draw::AnyDraw;
-use skip_levels::{MapPairs, OrderedPairs, SkipList};
+use skip_levels::SkipList;
 use std::alloc::Global;
 use std::process::Abort;
 use std::str::SplitWhitespace;
 use store_base::{DrawKind, Fault, Key, Label, Lead, Params, Value};
+use test_samples::CountedPages;
 
 /// The key that a word spells: its path, and the block number 1 where `#1` stands behind it.
 fn key_of(rt: &impl Abort, word: &str) -> Key {
@@ -267,11 +268,16 @@ fn is_next(rt: &impl Abort, pairs: &mut MapPairs) -> bool {
     next == Ok(Some((key_of(rt, "/b"), value_of(2))))
 }
 
+/// A list of the pairs of this one, which are taken out of it by themselves.
+fn rebuilt(rt: &impl Abort, list: &MapPairs) -> MapPairs {
+    MapPairs::from_pairs(list.pairs().expect(rt, "memory"))
+}
+
 #[test]
 fn list_in_memory_and_a_copy(rt: HostRuntime) {
     let mut pairs = two_pairs(&rt, rt.alloc()).expect(&rt, "memory");
     let mut other = pairs.copy().expect(&rt, "memory");
     assert!(rt; is_taken(&rt, &mut other, "/a"));
     assert!(rt; has(&rt, &mut pairs, "/a", 1));
-    assert!(rt; is_next(&rt, &mut pairs));
+    assert!(rt; is_next(&rt, &mut rebuilt(&rt, &pairs)));
 }

@@ -1,16 +1,11 @@
 //! A slot of the table that was read is not read from the disk again, and a settle keeps it with its new bytes.
 
-use super::unseen_disk::{UnseenDisk, is_long};
-use base_tests::samples::{ONE_DIRECTORY, key, slot_with, start_label};
+use super::unseen_disk::{TestedPages, settle, stage};
 use node_pages::{Cell, Page, Pages};
-use page_store::{SlotCache, Staged};
-use seeded_draw::RulerDraw;
 use std::alloc::Global;
 use std::process::Abort;
 use store_base::{DrawKind, Params, Value};
-
-/// Pages over a disk in memory.
-type TestedPages = Staged<UnseenDisk, RulerDraw>;
+use test_samples::{ONE_DIRECTORY, key, slot_with, start_label};
 
 /// The image of one slot and one level that has the directory /a: its header, an empty journal, and the slot of its page.
 fn image_of_one_directory(rt: &impl Abort, alloc: Global) -> Vec<u8> {
@@ -23,19 +18,10 @@ fn image_of_one_directory(rt: &impl Abort, alloc: Global) -> Vec<u8> {
     image
 }
 
-/// The pages of the image on this disk.
-fn staged_on(rt: &impl Abort, alloc: Global, disk: UnseenDisk) -> TestedPages {
-    let params = Params::new(1, 1, DrawKind::Ruler, [0; 32]).expect(rt, "parameters");
-    assert!(rt; is_long(&disk, &params));
-    let cache = SlotCache::new(alloc).expect(rt, "memory");
-    Staged::new(alloc, disk, &params, RulerDraw::new(&params), 1, cache)
-}
-
 /// The pages of that image.
 fn staged(rt: &impl Abort, alloc: Global) -> TestedPages {
-    let image = image_of_one_directory(rt, alloc);
-    let disk = UnseenDisk::new(alloc, &image).expect(rt, "memory");
-    staged_on(rt, alloc, disk)
+    let params = Params::new(1, 1, DrawKind::Ruler, [0; 32]).expect(rt, "parameters");
+    stage(rt, alloc, &params, &image_of_one_directory(rt, alloc), 1)
 }
 
 /// The page of the directory /a with this value.
@@ -55,12 +41,6 @@ fn reads(rt: &impl Abort, pages: &mut TestedPages, value: u8) -> bool {
 /// Puts the page with this value.
 fn put(rt: &impl Abort, pages: &mut TestedPages, value: u8) {
     pages.put(page(value)).expect(rt, "the page");
-}
-
-/// Settles the pages.
-fn settle(rt: &impl Abort, pages: &mut TestedPages) {
-    assert!(rt; !pages.is_spent());
-    pages.settle().expect(rt, "the pages");
 }
 
 /// Looks whether the slot is read once, and not behind a put and a settle.

@@ -1,11 +1,10 @@
 //! Tables that were worked out by hand with the draw `ruler`, under which a label starts at its bytes' sum, round the
-//! table; and calls of the slots that fail.
+//! table, with the reads and writes that each call makes; and slots that fail at one of them.
 
 ghost use Rattle.std.specs.Prelude.{◌≡◌, ◌<◌};
 ghost use Rattle.ordered_table.specs.MemSlots.{mem_state};
 
 use super::journals::is_zero;
-use base_tests::samples::{key, led, start_label};
 use node_pages::{Cell, Page};
 use ordered_table::{MemSlots, Steps, find, insert, overwrite};
 use seeded_draw::{Draw, RulerDraw};
@@ -15,12 +14,13 @@ use std::marker::Brand;
 use std::process::Abort;
 use std::sync::ledger::{Blank, Ledger};
 use store_base::{DrawKind, Fault, Label, Params, Slot, Value};
+use test_samples::{key, led, start_label};
 
 /// The name of the page (1, start, 0); any other name is that of a page of level 0 which its key leads.
-pub(crate) const TOP: [u8; 2] = [0; 2];
+const TOP: [u8; 2] = [0; 2];
 
 /// The label of the page of this name.
-pub(crate) fn label(name: [u8; 2]) -> Label {
+fn label(name: [u8; 2]) -> Label {
     if name == TOP {
         start_label(1, 0)
     } else {
@@ -29,7 +29,7 @@ pub(crate) fn label(name: [u8; 2]) -> Label {
 }
 
 /// The page of this name, with one cell.
-pub(crate) fn page(name: [u8; 2], value: u8) -> Page {
+fn page(name: [u8; 2], value: u8) -> Page {
     if name == TOP {
         return Page::new(start_label(1, 0), Cell::bare(key(&name)));
     }
@@ -47,7 +47,7 @@ fn is_slot_of(slot: &Slot, name: Option<[u8; 2]>) -> bool {
 
 /// Looks whether the slots hold the pages of these names, with the value 1.
 fn holds(rt: &impl Abort, slots: &MemSlots, wanted: &[Option<[u8; 2]>]) {
-    assert_eq!(rt; slots.slots().len(), wanted.len());
+    assert!(rt; slots.slots().len() == wanted.len());
     for (slot, name) in slots.slots().iter().zip(wanted) {
         assert!(rt; is_slot_of(slot, *name));
     }
@@ -231,46 +231,34 @@ fn page_that_starts_past_the_hole(rt: HostRuntime) {
     lead_so(&rt, rt.alloc(), 8, &PAST_THE_HOLE);
 }
 
-/// Over two slots: inserts the pages `Ua` and `TOP`, searches for `TOP` in slot 0, overwrites `Ua` in slot 1 and
-/// removes it. Answers how many of these five calls came before the first that answered a fault of the slots.
-fn calls_before_fault<L: Ledger>(slots: &mut MemSlots, draw: &RulerDraw, blank: Blank) -> u32
-    requires name { blank.name ≡ L.name }
-    requires parts { blank.parts ≡ L.parts }
-    requires some { 0 < L.parts }
-    requires count { (mem_state slots.old).count ≡ draw.now.slots }
-    requires two { draw.now.slots ≡ 2 }
+/// Puts the page of `Ua` in, by a read and a write.
+static FIRST: Call = Call::Insert(*b"Ua", 1);
+
+/// Calls on two slots, of which the second has that page.
+static REFUSED: [Call; 3] = [
+    Call::Insert(TOP, 1),
+    Call::Find(*b"Ua", Some(1)),
+    Call::Remove(1),
+];
+
+/// Whether the call, behind the first one, fails at its first read, and is carried out when it is made again.
+fn is_refused_once(slots: &mut MemSlots, draw: &RulerDraw, call: &Call) -> bool
+    requires { (mem_state slots.old).count ≡ draw.now.slots }
 {
-    let first = page(*b"Ua", 1);
-    if insert(slots, draw, &first) == Err(Fault::Disk) {
-        return 0;
-    }
-    if insert(slots, draw, &page(TOP, 1)) == Err(Fault::Disk) {
-        return 1;
-    }
-    if look_for::<L>(slots, draw, TOP, blank) == Err(Fault::Disk) {
-        return 2;
-    }
-    if overwrite(slots, draw, 1, &first) == Err(Fault::Disk) {
-        return 3;
-    }
-    if remove(slots, draw, 1) == Err(Fault::Disk) {
-        return 4;
-    }
-    5
+    make(slots, draw, &FIRST).is_ok()
+        && make(slots, draw, call) == Err(Fault::Disk)
+        && slots.calls() == 3
+        && make(slots, draw, call).is_ok()
 }
 
 #[test]
-fn each_call_of_the_slots_fails_in_turn(rt: HostRuntime) {
-    let draw = RulerDraw::new(&Params::new(2, 2, DrawKind::Ruler, [0; 32]).expect(
-        &rt,
-        "parameters",
-    ));
-    // The calls that the five make: 2 and 3 to insert, 2 to search, 1 to overwrite, 3 to remove; and none.
-    for (call, wanted) in [0, 0, 1, 1, 1, 2, 2, 3, 4, 4, 4, 5].iter().enumerate() {
-        let failing = vec![in rt.alloc(); call as u64].expect(&rt, "memory");
-        let mut slots = MemSlots::new(rt.alloc(), 2, failing).expect(&rt, "memory");
-        let done = calls_before_fault::<Brand>(&mut slots, &draw, Blank::new(1));
-        assert_eq!(rt; done, *wanted, "at call {call}");
-        assert_eq!(rt; slots.calls(), (call as u64 + 1).min(11), "at call {call}");
+fn a_call_of_the_slots_fails(rt: HostRuntime) {
+    let params = Params::new(2, 2, DrawKind::Ruler, [0; 32]).expect(&rt, "parameters");
+    let draw = RulerDraw::new(&params);
+    for call in &REFUSED {
+        let failing = vec![in rt.alloc(); 2].expect(&rt, "memory");
+        let slots = MemSlots::new(rt.alloc(), draw.slots(), failing);
+        let mut slots = slots.expect(&rt, "memory");
+        assert!(rt; is_refused_once(&mut slots, &draw, call));
     }
 }

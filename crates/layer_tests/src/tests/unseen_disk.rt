@@ -1,14 +1,17 @@
-//! A disk in memory below staged pages, of whose bytes contracts know nothing.
+//! A disk in memory of whose bytes contracts know nothing, and the pages in the table on it.
 
 ghost use Rattle.std.specs.Prelude.{◌≡◌, IsTrue};
 ghost use Rattle.store_model.specs.Parameters as model;
 
-use disk_model::{Disk, MemDisk};
+use disk_model::{Disk, FailingDisk, MemDisk};
+use page_store::{SlotCache, Staged};
+use seeded_draw::RulerDraw;
 use std::alloc::Global;
+use std::process::Abort;
 use store_base::{DiskFault, NoMemory, Params, image_len};
 
 /// The room of its record, in bytes.
-pub(crate) const ROOM: usize = 400_000;
+const ROOM: usize = 400_000;
 
 /// A disk in memory of whose bytes contracts know nothing, so that pages are staged on it without a proof of what they are.
 #[derive(Drop)]
@@ -18,7 +21,7 @@ pub(crate) struct UnseenDisk {
 
 impl UnseenDisk {
     /// A disk with these bytes.
-    pub(crate) fn new(alloc: Global, bytes: &[u8]) -> Result<UnseenDisk, NoMemory> {
+    fn new(alloc: Global, bytes: &[u8]) -> Result<UnseenDisk, NoMemory> {
         Ok(UnseenDisk {
             disk: MemDisk::new(alloc, bytes, ROOM)?,
         })
@@ -56,4 +59,47 @@ pub(crate) fn is_long<D: Disk>(disk: &D, params: &Params) -> bool
     ensures { IsTrue result → (D.state disk.now).size ≡ model.image_len params.now.slots }
 {
     disk.len() == image_len(params.slots())
+}
+
+/// Pages in the table on such a disk.
+pub(crate) type TestedPages = Staged<UnseenDisk, RulerDraw>;
+
+/// The pages of this image, and so many.
+pub(crate) fn stage(
+    rt: &impl Abort,
+    alloc: Global,
+    params: &Params,
+    image: &[u8],
+    used: u32,
+) -> TestedPages {
+    let disk = UnseenDisk::new(alloc, image).expect(rt, "memory");
+    assert!(rt; is_long(&disk, params));
+    let cache = SlotCache::new(alloc).expect(rt, "memory");
+    Staged::new(alloc, disk, params, RulerDraw::new(params), used, cache)
+}
+
+/// Pages in the table on such a disk that fails on purpose.
+pub(crate) type FailingPages = Staged<FailingDisk<UnseenDisk>, RulerDraw>;
+
+/// The pages of this image, and so many, where this call of the disk fails, and no other.
+pub(crate) fn stage_failing(
+    rt: &impl Abort,
+    alloc: Global,
+    params: &Params,
+    image: &[u8],
+    used: u32,
+    call: u64,
+) -> FailingPages {
+    let below = UnseenDisk::new(alloc, image).expect(rt, "memory");
+    let calls = vec![in alloc; call].expect(rt, "memory");
+    let disk = FailingDisk::new(below, calls, None);
+    assert!(rt; is_long(&disk, params));
+    let cache = SlotCache::new(alloc).expect(rt, "memory");
+    Staged::new(alloc, disk, params, RulerDraw::new(params), used, cache)
+}
+
+/// Settles the pages.
+pub(crate) fn settle(rt: &impl Abort, pages: &mut TestedPages) {
+    assert!(rt; !pages.is_spent());
+    pages.settle().expect(rt, "the pages");
 }

@@ -2,7 +2,7 @@
 
 use super::support::{CALM, Machine, Outside, disk_of, expect};
 use disk_model::{FailingDisk, MemDisk};
-use script_lines::{Command, parse_command};
+use script_lines::{Command, Reply, parse_command};
 use std::alloc::Global;
 use std::process::Abort;
 use store_core::{ApplyFault, Store};
@@ -107,4 +107,31 @@ fn a_store_stops_at_a_fault_behind_a_write(rt: HostRuntime) {
     assert!(rt; fault_of(&mut store, &list) == Some(ApplyFault::Stopped));
     // A block, its mark, the flag, and the slot.
     assert!(rt; store.into_disk().into_disk().write_count() == 4);
+}
+
+/// How many calls of the disk it takes to open the image of one directory.
+const OPENING: u64 = 9;
+
+/// A store in the image of the directory `/a`, where the next call of the disk fails, and no other.
+fn store_that_fails_once(rt: &impl Abort, alloc: Global) -> FailingStore {
+    let mut machine = Machine::new(alloc);
+    machine.make(rt, "1 1 ruler", "make /a\n");
+    let below = MemDisk::new(alloc, machine.image(), CALM.disk_room).expect(rt, "memory");
+    let calls = vec![in alloc; OPENING].expect(rt, "memory");
+    let attached = Store::attach(alloc, FailingDisk::new(below, calls, None));
+    attached.ok().expect(rt, "a store")
+}
+
+/// Whether the store answers the listing with the directory `/a`.
+fn lists_a(store: &mut FailingStore, list: &Command) -> bool {
+    matches!(store.apply(list), Ok(Reply::Listing(entries)) if entries.len() == 1 && entries.get(0) == (b"a".as_slice(), None))
+}
+
+#[test]
+fn a_store_goes_on_behind_a_read_that_fails(rt: HostRuntime) {
+    let list = parse_command(b"list /").ok().expect(&rt, "a command");
+    let mut store = store_that_fails_once(&rt, rt.alloc());
+    assert!(rt; fault_of(&mut store, &list) == Some(ApplyFault::Disk));
+    assert!(rt; !store.is_stopped() && lists_a(&mut store, &list));
+    assert!(rt; store.into_disk().into_disk().write_count() == 0);
 }

@@ -1,6 +1,6 @@
 //! Words of the command line: the file that they need, and how a call ends that refuses or wipes.
 
-use super::support::{Machine, NOT_IMAGE, ZEROS, expect, fields, number, wanted_of};
+use super::support::{CALM, Machine, NOT_IMAGE, Outside, ZEROS, expect, fields, number, wanted_of};
 use std::alloc::Global;
 use std::process::Abort;
 use store_top::Wanted;
@@ -132,10 +132,11 @@ fn there_is_memory_for_a_thousand_words(rt: HostRuntime) {
     assert!(rt; wanted_of(&rt, rt.alloc(), &texts) == Wanted::Usage);
 }
 
-/// Looks whether formatting the disk as the least image ends so: it makes one, or changes nothing.
-fn expect_format(rt: &impl Abort, machine: &mut Machine, status: u8, row: &str) {
+/// Looks whether formatting the disk as the least image, where the outside is so, ends so: it makes one, or changes nothing.
+fn expect_format(rt: &impl Abort, machine: &mut Machine, outside: &Outside, status: u8, row: &str) {
     let before = machine.copy(rt);
-    machine.call(rt, &["format", "1", "1", "ruler", ZEROS], "");
+    let words = ["format", "1", "1", "ruler", ZEROS];
+    machine.call_in(rt, &words, b"", outside);
     let is_made = status == 0;
     expect(
         rt,
@@ -153,16 +154,28 @@ fn expect_format(rt: &impl Abort, machine: &mut Machine, status: u8, row: &str) 
     );
 }
 
+/// The first read of a disk fails, with all calls behind it.
+const FAILING: Outside = Outside {
+    from: Some(0),
+    ..CALM
+};
+
 // An image is refused by its first byte, and one of another length by the length.
 #[test]
 fn format_takes_blank_disks_of_the_right_length(rt: HostRuntime) {
     let mut machine = Machine::new(rt.alloc());
     machine.clear(&rt, 20_480);
-    expect_format(&rt, &mut machine, 0, "zeros");
+    expect_format(&rt, &mut machine, &FAILING, 5, "a disk that fails");
+    expect_format(&rt, &mut machine, &CALM, 0, "zeros");
     machine.make(&rt, "1 1 ruler", "make /a\n");
-    expect_format(&rt, &mut machine, 10, "an image");
+    expect_format(&rt, &mut machine, &CALM, 10, "an image");
     machine.format(&rt, "4 2 ruler");
-    expect_format(&rt, &mut machine, 11, "an image of four slots");
+    expect_format(&rt, &mut machine, &CALM, 11, "an image of four slots");
+    machine.clear(&rt, 20_480);
+    machine.put(0, 0xEE);
+    machine.put(20_479, 0xEE);
+    expect_format(&rt, &mut machine, &CALM, 0, "other bytes");
+    assert!(rt; machine.image().ends_with(&[0]));
 }
 
 /// Looks whether a wipe leaves zeros, and no image, by so many writes and syncs.

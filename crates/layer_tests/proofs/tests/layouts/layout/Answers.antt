@@ -12,9 +12,9 @@ placed_len : {E : Type 0} (d : Draw) (pages : List Page) (r : Result Table E) â†
 placed_len d pages (Ok table) is = ap length is âˆ™ length-place d pages
 placed_len d pages (Err fault) is = tt
 
-pub loop-letter-init : goal.loop-letter-init
+pub loop-key-init : goal.loop-key-init
 unfolding IsDistinct
-loop-letter-init g c = subst HasDistinctKeys (sym c.new-pairs.ensures) tt
+loop-key-init g c = subst HasDistinctKeys (sym c.new-pairs.ensures) tt
 
 pub returns : goal.returns
 unfolding draw_of

@@ -1,5 +1,5 @@
 use Rattle.layout_scratch.specs.Sorting.{HasDistinctKeys}
 use Rattle.layer_tests.proofs.tests.layouts.layout.Given as goal
 
-abbrev pub invariant-loop-letter : goal.invariant-loop-letter
-invariant-loop-letter g l = HasDistinctKeys l.pairs
+abbrev pub invariant-loop-key : goal.invariant-loop-key
+invariant-loop-key g l = HasDistinctKeys l.pairs

@@ -11,17 +11,6 @@ use store_base::{BLOCK, Key, Label, Lead, Slot};
 /// The bytes other than zeros of the slot of page (0, start, 0) with the directory /a alone.
 pub const ONE_DIRECTORY: [(usize, u8); 5] = [(0, 1), (131, 1), (132, 0x61), (257, 1), (258, 1)];
 
-/// The bytes other than zeros of the slot of page (1, start, 0) with the keys of /UU and /Ua.
-pub const TWO_KEYS: [(usize, u8); 7] = [
-    (0, 1),
-    (1, 1),
-    (131, 2),
-    (132, 0x55),
-    (133, 0x55),
-    (256, 0x55),
-    (257, 0x61),
-];
-
 /// The key that begins with these bytes, at most 124, and has zeros behind them.
 pub fn key(front: &[u8]) -> Key
     requires { length front.now ≤ 124 }

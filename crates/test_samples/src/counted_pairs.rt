@@ -1,21 +1,22 @@
-//! A list of pairs that counts the calls on it.
+//! Pairs in memory that count the calls on them.
 
 ghost use Rattle.std.specs.Prelude.{◌≡◌, ◌≤◌, length};
 
-use skip_levels::OrderedPairs;
+use ordered_pairs::OrderedPairs;
 use std::alloc::Global;
 use store_base::{Fault, Key, Value};
 
-/// A list of pairs that counts the calls on it. Contracts know nothing of its pairs.
+/// Pairs in memory by rising key, found by halving as in `MapPairs`, that count the calls on them. Contracts know nothing of
+/// them, so that every call may be made.
 #[derive(Drop)]
-pub(crate) struct CountedPairs {
+pub struct CountedPairs {
     pairs: Vec<(Key, Value)>,
     calls: u32,
 }
 
 impl CountedPairs {
     /// No pairs, and no calls.
-    pub(crate) fn new(alloc: Global) -> Self {
+    pub fn new(alloc: Global) -> Self {
         CountedPairs {
             pairs: Vec::new(alloc),
             calls: 0,
@@ -23,12 +24,12 @@ impl CountedPairs {
     }
 
     /// How many pairs there are.
-    pub(crate) fn len(&self) -> usize {
+    pub fn len(&self) -> usize {
         self.pairs.len()
     }
 
-    /// The calls since this was asked last.
-    pub(crate) fn calls(&mut self) -> u32 {
+    /// How many calls were made since this was asked last.
+    pub fn calls(&mut self) -> u32 {
         let calls = self.calls;
         self.calls = 0;
         calls

@@ -1,0 +1,29 @@
+//! Starts and levels by SHA-256 with a seed of zeros, as another program worked them out.
+
+use seeded_draw::{AnyDraw, Draw};
+use std::process::Abort;
+use store_base::{DrawKind, Label, Params};
+use test_samples::{key, led, start_label};
+
+/// The draw of so many slots, and two levels.
+fn draw_of(rt: &impl Abort, slots: u32) -> AnyDraw {
+    AnyDraw::new(&Params::new(slots, 2, DrawKind::Sha256, [0; 32]).expect(rt, "parameters"))
+}
+
+/// Whether the label starts there among 4 and among 16,384 slots.
+fn starts_at(rt: &impl Abort, label: &Label, [few, many]: [u32; 2]) -> bool {
+    draw_of(rt, 4).start(label) == few && draw_of(rt, 16384).start(label) == many
+}
+
+/// Whether the key that begins with this byte has this level.
+fn stands_on(rt: &impl Abort, front: &[u8; 1], level: u8) -> bool {
+    draw_of(rt, 4).level(&key(front)) == level
+}
+
+#[test]
+fn sha256_with_a_seed_of_zeros(rt: HostRuntime) {
+    assert!(rt; starts_at(&rt, &start_label(1, 0), [1, 14921]));
+    assert!(rt; starts_at(&rt, &led(key(b"UU")), [3, 10487]));
+    assert!(rt; stands_on(&rt, b"a", 0));
+    assert!(rt; stands_on(&rt, b"f", 1));
+}

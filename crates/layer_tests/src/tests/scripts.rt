@@ -1,0 +1,187 @@
+//! Scripts up to a limit, replies of many lines and the longest one, and streams of std that fail in the middle.
+
+use script_lines::{
+    Line, LineFault, LineReader, MAX_SCRIPT, MemSink, Reply, Sink, Source, StdSink, StdSource,
+    write_reply,
+};
+use std::alloc::Global;
+use std::io;
+use std::io::{Read, Write};
+use std::process::Abort;
+use store_base::Entries;
+
+/// Whether this is the reader's next answer: a line, or words in capitals for another one.
+fn tells<R: Source>(reader: &mut LineReader<R>, want: &str) -> bool {
+    if !reader.is_live() {
+        return want == "NONE";
+    }
+    match reader.next_line() {
+        Ok(Line::Text) => reader.text() == want.as_bytes(),
+        Ok(_) => want == "END",
+        Err(LineFault::Source) => want == "FAULT",
+        Err(LineFault::TooLong) => want == "TOO LONG",
+    }
+}
+
+/// Looks whether these are the reader's next answers.
+fn tells_all<R: Source>(rt: &impl Abort, reader: &mut LineReader<R>, answers: &[&str]) {
+    for answer in answers {
+        assert!(rt; tells(reader, *answer), "{answer}");
+    }
+}
+
+/// Looks whether these are the answers of a reader of lines, at most so many bytes, over this one, and gives it back.
+fn read_from<R: Read + Drop>(
+    rt: &impl Abort,
+    alloc: Global,
+    reader: R,
+    limit: u64,
+    answers: &[&str],
+) -> R {
+    let lines = LineReader::with_limit(alloc, StdSource::new(reader), limit);
+    let mut lines = lines.ok().expect(rt, "memory");
+    tells_all(rt, &mut lines, answers);
+    lines.into_source().into_inner()
+}
+
+/// Scripts, the most bytes of them that a reader takes, and what it answers.
+static LIMITS: [(&str, u64, &[&str]); 4] = [
+    ("space\nx", 6, &["space", "TOO LONG", "NONE"]),
+    ("space\n", 6, &["space", "END"]),
+    (
+        "\nmake /a\n\n\nlist /\nspace",
+        22,
+        &["make /a", "list /", "TOO LONG", "NONE"],
+    ),
+    (
+        "\nmake /a\n\n\nlist /\nspace",
+        23,
+        &["make /a", "list /", "space", "END"],
+    ),
+];
+
+#[test]
+fn a_script_is_read_to_its_limit(rt: HostRuntime) {
+    for (script, limit, answers) in &LIMITS {
+        let left = read_from(&rt, rt.alloc(), script.as_bytes(), *limit, *answers);
+        assert!(rt; left.is_empty(), "{script}");
+    }
+}
+
+/// A reader whose first read is interrupted, whose second gives a line, and whose others fail; and a writer
+/// that takes one byte at a time, whose first write is interrupted.
+#[derive(Drop)]
+struct Uneven {
+    calls: u8,
+    written: [u8; 4],
+    len: usize,
+    flushed: usize,
+}
+
+impl Uneven {
+    fn new() -> Self {
+        Uneven {
+            calls: 0,
+            written: [0; 4],
+            len: 0,
+            flushed: 0,
+        }
+    }
+
+    /// The number of this call, from 0.
+    fn next_call(&mut self) -> u8 {
+        let call = self.calls;
+        self.calls = call.saturating_add(1);
+        call
+    }
+}
+
+impl Read for Uneven {
+    fn read(&mut self, buf: &mut [u8]) -> io::Result<usize> {
+        match self.next_call() {
+            0 => Err(io::Error::from(io::ErrorKind::Interrupted)),
+            1 if buf.len() > 1 => {
+                buf[0] = b'a';
+                buf[1] = b'\n';
+                Ok(2)
+            }
+            _ => Err(io::Error::from(io::ErrorKind::Other)),
+        }
+    }
+}
+
+impl Write for Uneven {
+    fn write(&mut self, buf: &[u8]) -> io::Result<usize> {
+        if self.next_call() == 0 {
+            return Err(io::Error::from(io::ErrorKind::Interrupted));
+        }
+        if buf.is_empty() || self.len >= self.written.len() {
+            return Ok(0);
+        }
+        self.written[self.len] = buf[0];
+        self.len += 1;
+        Ok(1)
+    }
+
+    fn flush(&mut self) -> io::Result<()> {
+        self.flushed = self.len;
+        Ok(())
+    }
+}
+
+#[test]
+fn readers_of_std_are_adapted(rt: HostRuntime) {
+    let answers = ["a", "FAULT", "NONE"];
+    let uneven = read_from(&rt, rt.alloc(), Uneven::new(), MAX_SCRIPT, &answers);
+    assert!(rt; uneven.calls == 3);
+}
+
+#[test]
+fn writers_of_std_are_adapted(rt: HostRuntime) {
+    let mut sink = StdSink::new(Uneven::new());
+    assert!(rt; sink.put(b"abc").is_ok() && sink.put(b"de").is_err());
+    let writer = sink.into_inner();
+    assert!(rt; writer.written == *b"abcd" && writer.flushed == 3);
+}
+
+/// A listing of 200 children, which has lines of 134 bytes.
+fn long_listing(rt: &impl Abort, alloc: Global) -> Reply {
+    let mut entries = Entries::new(alloc);
+    for _ in 0..200 {
+        entries
+            .push(&[b'n'; 120], Some(4_294_967_295))
+            .expect(rt, "memory");
+    }
+    Reply::Listing(entries)
+}
+
+/// Whether the reply is written to a sink that fails at this put, and how many bytes it has then.
+fn written(rt: &impl Abort, alloc: Global, reply: &Reply, failing: u64) -> (bool, usize) {
+    let failing = vec![in alloc; failing].expect(rt, "memory");
+    let mut sink = MemSink::new(alloc, 30_000, failing).expect(rt, "memory");
+    (write_reply(&mut sink, reply).is_ok(), sink.written().len())
+}
+
+/// Looks whether the listing takes four puts: each but the last has as many lines as there is room for, 63.
+fn takes_four_puts(rt: &impl Abort, alloc: Global, listing: &Reply) {
+    assert!(rt; written(rt, alloc, listing, 4) == (true, 200 * 134 + 4));
+    assert!(rt; written(rt, alloc, listing, 1) == (false, 63 * 134));
+}
+
+#[test]
+fn a_long_listing_takes_several_puts(rt: HostRuntime) {
+    takes_four_puts(&rt, rt.alloc(), &long_listing(&rt, rt.alloc()));
+}
+
+/// Whether a sink with room for just these bytes takes them.
+fn has_room(rt: &impl Abort, alloc: Global, reply: &[u8]) -> bool {
+    let mut sink = MemSink::new(alloc, reply.len(), Vec::new(alloc)).expect(rt, "memory");
+    sink.put(reply).is_ok() && sink.written().len() == reply.len()
+}
+
+// The longest listing: 163,840 children, ten to a page and a page to each of 16,384 slots, in lines of 134 bytes.
+#[test]
+fn a_sink_has_room_for_the_longest_reply(rt: HostRuntime) {
+    let reply = vec![in rt.alloc(); b'x'; 163_840 * 134 + 4].expect(&rt, "memory");
+    assert!(rt; has_room(&rt, rt.alloc(), &reply));
+}
