@@ -1,19 +1,19 @@
-//! How long the layout of many pairs takes.
+//! How long the layout of many pairs takes, and an image of which each slot has a page.
 
-ghost use Rattle.std.specs.Prelude.{◌≡◌, ◌<◌, map, length, IsTrue, IfOk, OnOk};
+ghost use Rattle.std.specs.Prelude.{◌≡◌, map, length, IsTrue, IfOk, IfSome};
 ghost use Rattle.std.specs.List.Sorted.{IsStrictlySortedBy};
 ghost use Rattle.store_model.specs.Paths.{key_cmp};
 ghost use Rattle.layout_scratch.specs.Sorting.{HasDistinctKeys};
 
-use crate::ratio::Ratio;
-use crate::{name_of, no_memory};
+use crate::names::spell;
+use crate::times::{Times, now, print, since, tell};
+use crate::{name_of, params_of};
 use layout_scratch::{Layout, build};
 use node_pages::PairList;
 use std::alloc::Global;
 use std::cmp::Ordering;
-use std::io;
-use std::time::{Duration, Instant};
-use store_base::{DrawKind, Key, NoMemory, Params, Value};
+use std::io::Write;
+use store_base::{BLOCK, DrawKind, Key, Params, Value, table_at, write_header};
 
 /// The most cells on a page of level 0.
 const PAGE_ROOM: u64 = 10;
@@ -21,39 +21,30 @@ const PAGE_ROOM: u64 = 10;
 /// The most pairs that a layout may have.
 const MOST_PAIRS: u32 = 268_435_456;
 
-/// A key with sixteen letters that follow from the state, and the next state.
-fn next_key(state: u64) -> (Key, u64) {
-    let state = state
-        .wrapping_mul(6_364_136_223_846_793_005)
-        .wrapping_add(1_442_695_040_888_963_407);
-    let mut bytes = [0; 124];
-    for (i, byte) in bytes[..16].iter_mut().enumerate() {
-        *byte = b'a' + (state.rotate_left(4 * i as u32) % 16) as u8;
-    }
-    (Key::new(bytes), state)
-}
-
 /// Pairs of directories in the root, in no order, that fill so many pages.
-pub fn make_pairs(alloc: Global, pages: u32) -> Result<PairList, NoMemory> {
+fn make_pairs(alloc: Global, pages: u32) -> Option<PairList> {
     let mut pairs = PairList::new(alloc);
-    let mut state = 7;
+    let mut state = 7u64;
     for _ in 0..u64::from(pages) * PAGE_ROOM {
-        let (key, next) = next_key(state);
-        pairs.push((key, Value::new(&[1])))?;
-        state = next;
+        state = state
+            .wrapping_mul(6_364_136_223_846_793_005)
+            .wrapping_add(1_442_695_040_888_963_407);
+        let mut bytes = [0; 124];
+        spell(state, &mut bytes[..16]);
+        pairs.push((Key::new(bytes), Value::new(&[1]))).ok()?;
     }
-    Ok(pairs)
+    Some(pairs)
 }
 
 /// The keys of the pairs, as they come.
-fn keys_of(alloc: Global, pairs: &PairList) -> Result<Vec<Key>, NoMemory>
-    ensures { IfOk result (λ keys. keys.items ≡ map (λ pair. pair.0) pairs.now) }
+fn keys_of(alloc: Global, pairs: &PairList) -> Option<Vec<Key>>
+    ensures { IfSome result (λ keys. keys.items ≡ map (λ pair. pair.0) pairs.now) }
 {
     let mut keys = Vec::new(alloc);
     for pair in pairs.as_slice() {
-        keys.push(pair.0)?;
+        keys.push(pair.0).ok()?;
     }
-    Ok(keys)
+    Some(keys)
 }
 
 /// Whether each key is above the one before it.
@@ -68,66 +59,76 @@ fn rise(keys: &[Key]) -> bool
     true
 }
 
-/// How long it takes to sort the keys of the pairs. `InvalidData` where two are equal.
-fn time_sort(rt: &HostRuntime, pairs: &PairList) -> io::Result<Duration>
-    ensures { OnOk result (HasDistinctKeys pairs.now) }
+/// How long it takes to sort the keys of the pairs. `None` where two are equal.
+fn time_sort(rt: &HostRuntime, pairs: &PairList) -> Option<u64>
+    ensures { IfSome result (λ _. HasDistinctKeys pairs.now) }
 {
-    let Ok(mut keys) = keys_of(rt.alloc(), pairs) else {
-        return Err(no_memory(NoMemory));
-    };
-    let start = Instant::now(rt)?;
-    keys.sort()?;
-    let time = start.elapsed(rt)?;
-    if !rise(&keys) {
-        return Err(io::ErrorKind::InvalidData.into());
-    }
-    Ok(time)
+    let mut keys = keys_of(rt.alloc(), pairs)?;
+    let start = now(rt);
+    keys.sort().ok()?;
+    let time = since(rt, start);
+    if rise(&keys) { Some(time) } else { None }
 }
 
-/// Prints how long a layout took, beside the sort of its keys.
-fn print_times(rt: &HostRuntime, building: Duration, sorting: Duration) -> io::Result<()> {
-    eprintln!(rt;
-        "  build {} us, sort of the same keys {} us: {}",
-        building.as_micros(),
-        sorting.as_micros(),
-        Ratio::new(building, sorting)
-    )
-}
-
-/// Lays the pairs out, at most 268,435,456 of them with distinct keys, and prints how long that takes.
-pub fn lay_out(rt: &HostRuntime, params: &Params, pairs: &PairList) -> io::Result<Layout>
-    ensures { IfOk result (λ layout. length layout ≡ params.now.slots) }
+/// Lays the pairs out, at most 268,435,456 of them with distinct keys, and prints how long that takes, beside the sort of its keys.
+fn lay_out(rt: &HostRuntime, params: &Params, pairs: &PairList) -> Option<Layout>
+    ensures { IfSome result (λ layout. length layout ≡ params.now.slots) }
 {
     if pairs.len() > MOST_PAIRS {
-        return Err(io::ErrorKind::InvalidData.into());
+        return None;
     }
-    let sorting = time_sort(rt, pairs)?;
-    let start = Instant::now(rt)?;
+    let bare = time_sort(rt, pairs)?;
+    let start = now(rt);
     let Ok(layout) = build(rt.alloc(), params, pairs) else {
-        return Err(no_memory(NoMemory));
+        return None;
     };
-    print_times(rt, start.elapsed(rt)?, sorting)?;
-    Ok(layout)
-}
-
-/// So many slots of height 1 under a draw, with a seed of zeros.
-pub fn params_of(slots: u32, kind: DrawKind) -> io::Result<Params> {
-    Params::new(slots, 1, kind, [0; 32]).map_err(|_| io::ErrorKind::InvalidInput.into())
+    let times = Times {
+        calls: since(rt, start),
+        bare,
+        made: u64::from(layout.used()),
+    };
+    print(rt, "build", 1, &times, "pages");
+    Some(layout)
 }
 
 /// Lays the pairs out in so many slots under the draw.
-fn measure_draw(rt: &HostRuntime, slots: u32, kind: DrawKind, pairs: &PairList) -> io::Result<()> {
-    let layout = lay_out(rt, &params_of(slots, kind)?, pairs)?;
-    let used = layout.used();
-    println!(rt; "{used} pages are laid out under {}", name_of(kind))
+fn measure_draw(rt: &HostRuntime, slots: u32, kind: DrawKind, pairs: &PairList) -> Option<()> {
+    let layout = lay_out(rt, &params_of(slots, 1, kind)?, pairs)?;
+    let used = u64::from(layout.used());
+    tell(rt, used, "pages are laid out under", name_of(kind))
 }
 
 /// Lays out the pairs of so many full pages, at most 16,384 of them, in just as many slots, under both draws.
-pub fn measure(rt: &HostRuntime, pages: u32) -> io::Result<()> {
+pub fn measure(rt: &HostRuntime, pages: u32) -> Option<()> {
     let pages = pages.clamp(1, 16_384);
-    let pairs = make_pairs(rt.alloc(), pages).map_err(no_memory)?;
+    let pairs = make_pairs(rt.alloc(), pages)?;
     for kind in [DrawKind::Ruler, DrawKind::Sha256] {
         measure_draw(rt, pages, kind, &pairs)?;
     }
-    Ok(())
+    Some(())
+}
+
+/// Writes the header, zeros up to the table, and the slots of the layout.
+fn write_blocks(rt: &HostRuntime, params: &Params, layout: &Layout) -> Option<()>
+    requires { length layout.now ≡ params.now.slots }
+{
+    let mut block = [0; BLOCK];
+    write_header(params, &mut block);
+    for _ in 0..table_at(params.slots(), 0) / 4096 {
+        rt.write_all(&block).ok()?;
+        block = [0; BLOCK];
+    }
+    for at in 0..params.slots() {
+        layout.slot(at, &mut block);
+        rt.write_all(&block).ok()?;
+    }
+    Some(())
+}
+
+/// Writes the image of directories in the root that fill so many slots, 1 to 16,384, to standard output.
+pub fn write_image(rt: &HostRuntime, slots: u32) -> Option<()> {
+    let params = params_of(slots.clamp(1, 16_384), 1, DrawKind::Ruler)?;
+    let pairs = make_pairs(rt.alloc(), params.slots())?;
+    let layout = lay_out(rt, &params, &pairs)?;
+    write_blocks(rt, &params, &layout)
 }

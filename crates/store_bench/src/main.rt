@@ -9,26 +9,22 @@
 //!
 //! What was done is printed to standard output, and the times, which differ from one time to the next, to standard error.
 //! `image SLOTS` writes an image to standard output, of which each slot has a page.
+//!
+//! Nothing is promised of it. A function answers `None` where memory ran out or a call failed, which ends the program with
+//! status 1.
 #![tactic(auto)]
 
 mod build;
 mod files;
-mod image;
 mod lists;
-mod paths;
-mod ratio;
-mod stopwatch;
+mod map;
+mod names;
 mod table;
-mod unseen_pairs;
+mod times;
 
+use std::env;
 use std::process::ExitCode;
-use std::{env, io};
-use store_base::{DrawKind, NoMemory};
-
-/// Want of memory as an error of the program.
-fn no_memory(_: NoMemory) -> io::Error {
-    io::ErrorKind::OutOfMemory.into()
-}
+use store_base::{DrawKind, Params};
 
 /// The word for a draw.
 fn name_of(kind: DrawKind) -> &'static str {
@@ -38,35 +34,40 @@ fn name_of(kind: DrawKind) -> &'static str {
     }
 }
 
-/// Measures what a word names; there may be no such word.
-fn measure(rt: &HostRuntime, word: &str, number: u32) -> io::Result<bool> {
-    let measured = match word {
+/// So many slots and levels under a draw, with a seed of zeros.
+fn params_of(slots: u32, height: u8, kind: DrawKind) -> Option<Params> {
+    Params::new(slots, height, kind, [0; 32]).ok()
+}
+
+/// Measures what a word names.
+fn measure(rt: &HostRuntime, word: &str, number: u32) -> Option<()> {
+    match word {
         "build" => build::measure(rt, number),
         "files" => files::measure(rt, number),
-        "image" => image::write(rt, number),
+        "image" => build::write_image(rt, number),
         "lists" => lists::measure(rt, number),
         "table" => table::measure(rt, number),
-        _ => return Ok(false),
-    };
-    measured?;
-    Ok(true)
+        _ => None,
+    }
 }
 
 /// Carries out the words.
-fn bench(rt: &HostRuntime) -> io::Result<bool> {
-    let mut args = env::args(rt)?;
+fn bench(rt: &HostRuntime) -> Option<()> {
+    let Ok(mut args) = env::args(rt) else {
+        return None;
+    };
     let (_, Some(word), Some(number)) = (args.next(), args.next(), args.next()) else {
-        return Ok(false);
+        return None;
     };
     match number.as_str().parse::<u32>() {
         Ok(number) => measure(rt, word.as_str(), number),
-        Err(_) => Ok(false),
+        Err(_) => None,
     }
 }
 
 fn main(rt: HostRuntime) -> ExitCode {
     match bench(&rt) {
-        Ok(true) => ExitCode::from(0),
-        _ => ExitCode::from(1),
+        Some(()) => ExitCode::from(0),
+        None => ExitCode::from(1),
     }
 }
