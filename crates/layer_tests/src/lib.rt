@@ -1,4 +1,4 @@
-//! Tests of all layers below the program, from `store_base` to `subtree_move`, over what they make public. They hold what no
+//! Tests of all layers below the program, from `base_types` to `subtree_move`, over what they make public. They hold what no
 //! clause says: tables, lists of pages and digests that were worked out by hand or come from outside, printed texts, counts of
 //! calls, and that a call succeeds where memory is ample, once at the size of the largest image and of the longest reply. A call
 //! that fails comes once for each layer that hands it on: of the slots, of the disk below staged pages, of a reader. Faults and

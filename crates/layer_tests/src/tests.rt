@@ -1,6 +1,6 @@
 //! The tests, a module for each kind of what is tested.
 
-mod base_types;
+mod byte_strings;
 mod disks;
 mod draws;
 mod faults;

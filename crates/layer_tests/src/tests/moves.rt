@@ -108,9 +108,11 @@ fn children(rt: &impl Abort, alloc: Global, pairs: &mut CountedPairs) -> Entries
 
 /// Looks whether the children are a file of 600 bytes and a directory.
 fn are_f_and_x(rt: &impl Abort, children: &Entries) {
-    assert!(rt; children.len() == 2);
-    assert!(rt; children.get(0) == (b"f".as_slice(), Some(600)));
-    assert!(rt; children.get(1) == (b"x".as_slice(), None));
+    assert!(rt;
+        children.len() == 2
+            && children.get(0) == (b"f".as_slice(), Some(600))
+            && children.get(1) == (b"x".as_slice(), None)
+    );
 }
 
 #[test]

@@ -161,19 +161,24 @@ fn drop_the_page(pages: &mut FailingPages) -> Result<(), SettleFault> {
 fn is_spent_by_changes(rt: &impl Abort, pages: &mut FailingPages, call: u64) {
     let done = drop_the_page(pages).is_ok();
     let is_spent = READS <= call && call < CALLS;
+    let holds = done == (CALLS <= call) && pages.is_spent() == is_spent;
     assert!(rt;
-        done == (CALLS <= call) && pages.is_spent() == is_spent,
+        holds && drop_the_page(pages).is_ok() != is_spent,
         "call {call}"
     );
-    assert!(rt; drop_the_page(pages).is_ok() != is_spent, "call {call}");
+}
+
+/// Looks at that for the pages of the table where this call of the disk fails.
+fn is_spent_at(rt: &impl Abort, alloc: Global, table: &Table, call: u64) {
+    let used = table.pages.len();
+    let mut pages = stage_failing(rt, alloc, &table.params, &table.image, used, call);
+    is_spent_by_changes(rt, &mut pages, call);
 }
 
 #[test]
 fn each_call_of_the_disk_fails_alone(rt: HostRuntime) {
     let table = table_of(&rt, rt.alloc(), b"a");
-    let (params, used) = (&table.params, table.pages.len());
     for call in 0..=CALLS {
-        let mut pages = stage_failing(&rt, rt.alloc(), params, &table.image, used, call);
-        is_spent_by_changes(&rt, &mut pages, call);
+        is_spent_at(&rt, rt.alloc(), &table, call);
     }
 }

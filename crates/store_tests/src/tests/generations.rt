@@ -1,6 +1,6 @@
 //! The word `big`: the four lines that sum up the commands of a number, and what is left where the disk or the sink fails.
 
-use super::support::{CALM, Machine, Outside, expect, fields, number};
+use super::support::{CALM, LEAST, Machine, Outside, expect, fields, number};
 use std::process::Abort;
 
 /// There is room for two thousand commands, and nothing fails.
@@ -15,30 +15,24 @@ const SHORT: Outside = Outside {
     ..CALM
 };
 
-/// The format; the number, and how many commands, which are all carried out; the summary; and what `check` prints of the
+/// The format; the words, and how many commands, which are all carried out; the summary; and what `check` prints of the
 /// image that is left. The one command of the first row writes into a directory that is not there.
 static ROWS: &str = "\
-    1 1 ruler|0|1|\
+    format 1 1 ruler zeros|big 0 1|1|\
         ok 0\nno 1\nspace 0 1\ndigest c5f79e5e0daaa71b3e8435c05e875f639453faaadde46980a1d0d07116539273\n|clean 0 0 0 0\n#\
-    256 3 sha256|7|2000|\
+    format 256 3 sha256 zeros|big 7 2000|2000|\
         ok 1280\nno 720\nspace 30 256\n\
         digest 85abbd4902bfcd42f9e732cda3d1343acf2bc237260cf683ebbd9992ee06f3d9\n|clean 30 8 105 376\n";
 
-/// Carries out so many commands of the number on a fresh image.
-fn generate(
-    rt: &impl Abort,
-    machine: &mut Machine,
-    format: &str,
-    [number, count]: [&str; 2],
-    outside: &Outside,
-) {
+/// Carries out the commands of the words on a fresh image.
+fn generate(rt: &impl Abort, machine: &mut Machine, format: &str, words: &str, outside: &Outside) {
     machine.format(rt, format);
-    machine.call_in(rt, &["big", number, count], b"make /a\n", outside);
+    machine.call_in(rt, words, b"make /a\n", outside);
 }
 
 /// Looks whether the commands of the row come to what it says.
 fn expect_row(rt: &impl Abort, machine: &mut Machine, row: [&str; 9]) {
-    generate(rt, machine, row[0], [row[1], row[2]], &LONG);
+    generate(rt, machine, row[0], row[1], &LONG);
     expect(
         rt,
         machine.is_ended(0, number(rt, row[2]), row[3]),
@@ -59,60 +53,58 @@ fn commands_of_a_number_are_summed_up(rt: HostRuntime) {
     }
 }
 
-/// The puts of a summary that fail, and the lines that are written before them.
-static CUT_OFF: [(&[u64], &str); 3] = [
-    (&[0], ""),
-    (&[1], "ok 0\nno 1\n"),
-    (&[2], "ok 0\nno 1\nspace 0 1\n"),
-];
+/// What is written of a summary before its first put, which fails, before its second one, and before its third one.
+static CUT_OFF: &str = "#ok 0\nno 1\n#ok 0\nno 1\nspace 0 1\n";
+
+/// Looks whether a summary is cut off behind these lines where this put fails.
+fn expect_cut_off(rt: &impl Abort, machine: &mut Machine, put: u64, written: &str) {
+    let outside = Outside { put, ..SHORT };
+    generate(rt, machine, LEAST, "big 0 1", &outside);
+    expect(rt, machine.is_ended(4, 1, written), "summary", written);
+}
 
 #[test]
 fn a_summary_is_cut_off_where_the_sink_fails(rt: HostRuntime) {
     let mut machine = Machine::new(rt.alloc());
-    for &(puts, written) in &CUT_OFF {
-        generate(
-            &rt,
-            &mut machine,
-            "1 1 ruler",
-            ["0", "1"],
-            &Outside { puts, ..SHORT },
-        );
-        expect(&rt, machine.is_ended(4, 1, written), "summary", written);
+    for (put, written) in CUT_OFF.split('#').enumerate() {
+        expect_cut_off(&rt, &mut machine, put as u64, written);
     }
 }
 
-/// How many commands, as words.
-static COUNTS: [&str; 10] = ["1", "2", "3", "4", "5", "6", "7", "8", "9", "10"];
+/// The words for one command of number 7, for two, and so on.
+static COUNTS: &str =
+    "big 7 1|big 7 2|big 7 3|big 7 4|big 7 5|big 7 6|big 7 7|big 7 8|big 7 9|big 7 10";
 
-/// Carries out so many commands of number 7 on sixteen slots of height 3.
-fn generate_seven(rt: &impl Abort, machine: &mut Machine, count: &str, outside: &Outside) {
-    generate(rt, machine, "16 3 sha256", ["7", count], outside);
+/// Carries out the commands of the words on sixteen slots of height 3.
+fn generate_seven(rt: &impl Abort, machine: &mut Machine, words: &str, outside: &Outside) {
+    generate(rt, machine, "format 16 3 sha256 zeros", words, outside);
 }
 
 /// Whether so many commands of number 7 leave this image.
 fn is_after(rt: &impl Abort, machine: &mut Machine, image: &[u8], done: u64) -> bool {
-    let Some(count) = COUNTS.get((done as usize).wrapping_sub(1)) else {
-        return false;
-    };
-    generate_seven(rt, machine, count, &SHORT);
+    match COUNTS.split('|').nth((done as usize).wrapping_sub(1)) {
+        Some(words) => generate_seven(rt, machine, words, &SHORT),
+        None => return false,
+    }
     machine.image() == image
+}
+
+/// Looks whether so many commands of number 7 leave this image, or one more.
+fn expect_after(rt: &impl Abort, machine: &mut Machine, image: &[u8], done: u64) {
+    let is_found = is_after(rt, machine, image, done)
+        || is_after(rt, machine, image, done.saturating_add(1));
+    expect(rt, is_found, "tree", "a fault");
 }
 
 /// Looks whether the commands of number 7 end where the disk fails from this call on, and whether the next run finds the tree
 /// after those that are told as carried out, or after one more.
 fn expect_fault(rt: &impl Abort, machine: &mut Machine, from: u64) {
-    let outside = Outside {
-        from: Some(from),
-        ..SHORT
-    };
-    generate_seven(rt, machine, "10", &outside);
+    generate_seven(rt, machine, "big 7 10", &Outside { from, ..SHORT });
     let done = machine.ended.done;
     expect(rt, machine.is_ended(5, done, ""), "end", "a fault");
-    machine.call(rt, &["run"], "");
+    machine.call(rt, "run", "");
     let found = machine.copy(rt);
-    let is_found = is_after(rt, machine, &found, done)
-        || is_after(rt, machine, &found, done.saturating_add(1));
-    expect(rt, is_found, "tree", "a fault");
+    expect_after(rt, machine, &found, done);
 }
 
 #[test]

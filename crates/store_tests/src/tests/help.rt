@@ -6,43 +6,49 @@ use std::alloc::Global;
 use std::process::Abort;
 use store_words::{Word, command, word_command};
 
-/// What stands before the words of a command line.
-const PROGRAM: &str = "./hstore IMAGE";
-
-/// The words, in the order of the help.
-static WORDS: [Word; 6] = [
-    Word::Format,
-    Word::Run,
-    Word::Check,
-    Word::Scrub,
-    Word::Wipe,
-    Word::Big,
+/// What a word is called with what stands before it on a command line, in the order of the help; first the command line itself.
+static WORDS: [(Option<Word>, &str); 7] = [
+    (None, "./hstore IMAGE"),
+    (Some(Word::Format), "./hstore IMAGE format"),
+    (Some(Word::Run), "./hstore IMAGE run"),
+    (Some(Word::Check), "./hstore IMAGE check"),
+    (Some(Word::Scrub), "./hstore IMAGE scrub"),
+    (Some(Word::Wipe), "./hstore IMAGE wipe"),
+    (Some(Word::Big), "./hstore IMAGE big"),
 ];
 
-/// Looks whether the help of a command, which is called so, is this part of the text, behind the command's name.
-fn expect_part(rt: &impl Abort, alloc: Global, command: Command<'_>, called: &str, part: &str) {
-    let mut command = command.bin_name(called).expect(rt, "memory");
-    let help = command.render_help().expect(rt, "memory");
-    let name = command.get_name();
-    let text = format!(in alloc; "{name}\n{}", help.as_str()).expect(rt, "memory");
-    expect(rt, text.as_str() == part, "help", name);
+/// The command of a word, or the whole one, whose help calls it so.
+fn command_of<'a>(rt: &impl Abort, alloc: Global, word: Option<Word>, called: &str) -> Command<'a> {
+    let command = match word {
+        Some(word) => word_command(alloc, word),
+        None => command(alloc),
+    };
+    command
+        .expect(rt, "memory")
+        .bin_name(called)
+        .expect(rt, "memory")
 }
 
-/// Looks whether the help of a word is this part of the text.
-fn expect_word(rt: &impl Abort, alloc: Global, word: Word, part: &str) {
-    let command = word_command(alloc, word).expect(rt, "memory");
-    let called = format!(in alloc; "{PROGRAM} {}", command.get_name()).expect(rt, "memory");
-    expect_part(rt, alloc, command, called.as_str(), part);
+/// Looks whether the help of a command is this text, behind the command's name.
+fn expect_text(rt: &impl Abort, command: &mut Command<'_>, name: &str, text: &str) {
+    let help = command.render_help().expect(rt, "memory");
+    let holds = (command.get_name() == name) & (help.as_str() == text);
+    expect(rt, holds, "help", name);
+}
+
+/// Looks whether the help of a word, or of the whole, which is called so, is this part of the text, behind its name.
+fn expect_part(rt: &impl Abort, alloc: Global, word: Option<Word>, called: &str, part: &str) {
+    let (name, text) = part.split_once('\n').expect(rt, "a line");
+    let mut command = command_of(rt, alloc, word, called);
+    expect_text(rt, &mut command, name, text);
 }
 
 #[test]
 fn help_has_its_text(rt: HostRuntime) {
     let mut parts = TEXT.split("== ");
     assert!(rt; parts.next() == Some(""));
-    let line = command(rt.alloc()).expect(&rt, "memory");
-    expect_part(&rt, rt.alloc(), line, PROGRAM, parts.next().unwrap_or(""));
-    for word in &WORDS {
-        expect_word(&rt, rt.alloc(), *word, parts.next().unwrap_or(""));
+    for (word, called) in &WORDS {
+        expect_part(&rt, rt.alloc(), *word, *called, parts.next().unwrap_or(""));
     }
     assert!(rt; parts.next().is_none());
 }

@@ -10,11 +10,14 @@ use std::alloc::Global;
 use std::process::Abort;
 use store_top::{Wanted, Words, top, wanted_len};
 
-/// A seed of zeros.
-pub const ZEROS: &str = "0000000000000000000000000000000000000000000000000000000000000000";
+/// A seed of zeros, which the word `zeros` stands for.
+const ZEROS: &str = "0000000000000000000000000000000000000000000000000000000000000000";
 
-/// The seed that counts from 00 to 1f.
-pub const COUNTING: &str = "000102030405060708090a0b0c0d0e0f101112131415161718191a1b1c1d1e1f";
+/// The seed that counts from 00 to 1f, which the word `counting` stands for.
+const COUNTING: &str = "000102030405060708090a0b0c0d0e0f101112131415161718191a1b1c1d1e1f";
+
+/// The words for the image of the empty tree with one slot.
+pub const LEAST: &str = "format 1 1 ruler zeros";
 
 /// What `check` prints of an image whose recovered image is the layout of no tree.
 pub const DAMAGED: &str = "damaged\n";
@@ -22,19 +25,22 @@ pub const DAMAGED: &str = "damaged\n";
 /// What `check` prints of a file that is no image.
 pub const NOT_IMAGE: &str = "not-image\n";
 
+/// What never comes: the number of a call that is to fail, where none is.
+pub const NEVER: u64 = u64::MAX;
+
 /// What a call meets outside: how much room there is, what fails, and what comes behind it.
 #[derive(Clone, Copy)]
 pub struct Outside {
     /// The room of the disk's record: a write takes 16 bytes and those that it writes, a sync 16.
-    pub disk_room: usize,
+    pub disk_room: u64,
     /// The first call of the disk that fails with all behind it.
-    pub from: Option<u64>,
-    /// How many bytes each take gives, and which takes fail.
-    pub pieces: &'static [usize],
-    pub takes: &'static [u64],
-    /// The room of the sink, and the puts that fail.
-    pub sink_room: usize,
-    pub puts: &'static [u64],
+    pub from: u64,
+    /// How many bytes the first take gives, and the take that fails.
+    pub piece: u64,
+    pub take: u64,
+    /// The room of the sink, and the put that fails.
+    pub sink_room: u64,
+    pub put: u64,
     /// What a crash behind the call makes of bytes that are not durable, where there is one.
     pub crash: Option<StopChoice>,
 }
@@ -42,23 +48,31 @@ pub struct Outside {
 /// There is room, and nothing fails.
 pub const CALM: Outside = Outside {
     disk_room: 4_194_304,
-    from: None,
-    pieces: &[],
-    takes: &[],
+    from: NEVER,
+    piece: NEVER,
+    take: NEVER,
     sink_room: 65_536,
-    puts: &[],
+    put: NEVER,
     crash: None,
 };
 
 /// The room of the record of a disk that is to fail, in bytes.
-const FAILING_ROOM: usize = 65_536;
+const FAILING_ROOM: u64 = 65_536;
 
 /// A disk that fails from call `from` on, and then a crash.
 pub fn crashing(from: u64, choice: StopChoice) -> Outside {
     Outside {
         disk_room: FAILING_ROOM,
-        from: Some(from),
+        from,
         crash: Some(choice),
+        ..CALM
+    }
+}
+
+/// There is room for so many bytes more, and nothing fails.
+fn roomy(more: u64) -> Outside {
+    Outside {
+        disk_room: more.saturating_add(CALM.disk_room),
         ..CALM
     }
 }
@@ -87,23 +101,27 @@ pub struct Machine {
     pub ended: Ended,
 }
 
-/// These words.
-fn words_of(rt: &impl Abort, alloc: Global, texts: &[&str]) -> Words {
+/// What a word of a text stands for.
+fn spelled(word: &str) -> &str {
+    match word {
+        "zeros" => ZEROS,
+        "counting" => COUNTING,
+        _ => word,
+    }
+}
+
+/// The words of a text, each with a blank behind it, which the last one needs only where it is empty.
+fn words_of(rt: &impl Abort, alloc: Global, text: &str) -> Words {
     let mut words = Words::new(alloc);
-    for text in texts {
-        words.push(text).expect(rt, "memory");
+    for word in text.split_terminator(' ') {
+        words.push(spelled(word)).expect(rt, "memory");
     }
     words
 }
 
 /// The file that these words need.
-pub fn wanted_of(rt: &impl Abort, alloc: Global, texts: &[&str]) -> Wanted {
-    wanted_len(&words_of(rt, alloc, texts)).expect(rt, "memory")
-}
-
-/// A copy of the numbers.
-fn copied(rt: &impl Abort, alloc: Global, numbers: &[u64]) -> Vec<u64> {
-    numbers.to_vec(alloc).expect(rt, "memory")
+pub fn wanted_of(rt: &impl Abort, alloc: Global, text: &str) -> Wanted {
+    wanted_len(&words_of(rt, alloc, text)).expect(rt, "memory")
 }
 
 /// A copy of the bytes.
@@ -111,28 +129,41 @@ fn bytes_of(rt: &impl Abort, alloc: Global, bytes: &[u8]) -> Vec<u8> {
     bytes.to_vec(alloc).expect(rt, "memory")
 }
 
+/// The number by itself, and nothing where it never comes.
+fn listed(rt: &impl Abort, alloc: Global, number: u64) -> Vec<u64> {
+    let mut numbers = Vec::new(alloc);
+    if number != NEVER {
+        numbers.push(number).expect(rt, "memory");
+    }
+    numbers
+}
+
 /// A source that gives the script.
 fn source_of(rt: &impl Abort, alloc: Global, script: &[u8], outside: &Outside) -> MemSource {
-    let pieces = outside.pieces.to_vec(alloc).expect(rt, "memory");
-    let takes = copied(rt, alloc, outside.takes);
+    let mut pieces = Vec::new(alloc);
+    if outside.piece != NEVER {
+        pieces.push(outside.piece as usize).expect(rt, "memory");
+    }
+    let takes = listed(rt, alloc, outside.take);
     MemSource::new(bytes_of(rt, alloc, script), pieces, takes)
 }
 
 /// A sink to which nothing was written.
 fn sink_of(rt: &impl Abort, alloc: Global, outside: &Outside) -> MemSink {
-    let puts = copied(rt, alloc, outside.puts);
-    MemSink::new(alloc, outside.sink_room, puts).expect(rt, "memory")
+    let puts = listed(rt, alloc, outside.put);
+    MemSink::new(alloc, outside.sink_room as usize, puts).expect(rt, "memory")
 }
 
 /// A disk with these bytes.
-pub fn disk_of(
+fn disk_of(
     rt: &impl Abort,
     alloc: Global,
     bytes: &[u8],
     outside: &Outside,
 ) -> FailingDisk<MemDisk> {
-    let disk = MemDisk::new(alloc, bytes, outside.disk_room).expect(rt, "memory");
-    FailingDisk::new(disk, Vec::new(alloc), outside.from)
+    let disk = MemDisk::new(alloc, bytes, outside.disk_room as usize).expect(rt, "memory");
+    let from = (outside.from != NEVER).then_some(outside.from);
+    FailingDisk::new(disk, Vec::new(alloc), from)
 }
 
 impl Machine {
@@ -210,8 +241,8 @@ impl Machine {
     }
 
     /// A call with these words, where the outside is so.
-    pub fn call_in(&mut self, rt: &impl Abort, texts: &[&str], script: &[u8], outside: &Outside) {
-        let words = words_of(rt, self.alloc, texts);
+    pub fn call_in(&mut self, rt: &impl Abort, words: &str, script: &[u8], outside: &Outside) {
+        let words = words_of(rt, self.alloc, words);
         let disk = disk_of(rt, self.alloc, &self.image, outside);
         let source = source_of(rt, self.alloc, script, outside);
         let sink = sink_of(rt, self.alloc, outside);
@@ -220,43 +251,24 @@ impl Machine {
     }
 
     /// A call where nothing fails.
-    pub fn call(&mut self, rt: &impl Abort, texts: &[&str], script: &str) {
-        self.call_in(rt, texts, script.as_bytes(), &CALM);
+    pub fn call(&mut self, rt: &impl Abort, words: &str, script: &str) {
+        self.call_in(rt, words, script.as_bytes(), &CALM);
     }
 
-    /// Makes the image of the empty tree. The words are the arguments of `format`, where the seed is zeros, but for the word
-    /// `counting`.
-    pub fn format(&mut self, rt: &impl Abort, format: &str) {
-        let mut words = format.split_whitespace();
-        let [slots, height, draw] = [words.next(), words.next(), words.next()];
-        let seed = if words.next().is_some() {
-            COUNTING
-        } else {
-            ZEROS
-        };
-        let texts = [
-            "format",
-            slots.unwrap_or(""),
-            height.unwrap_or(""),
-            draw.unwrap_or(""),
-            seed,
-        ];
-        let len = match wanted_of(rt, self.alloc, &texts) {
-            Wanted::Fresh(len) => len as usize,
+    /// Makes the image of the empty tree, by these words.
+    pub fn format(&mut self, rt: &impl Abort, words: &str) {
+        let len = match wanted_of(rt, self.alloc, words) {
+            Wanted::Fresh(len) => len,
             _ => 0,
         };
-        self.clear(rt, len);
-        let outside = Outside {
-            disk_room: len.saturating_add(CALM.disk_room),
-            ..CALM
-        };
-        self.call_in(rt, &texts, b"", &outside);
+        self.clear(rt, len as usize);
+        self.call_in(rt, words, b"", &roomy(len));
     }
 
     /// Makes the image that the script leaves on that of the empty tree.
     pub fn make(&mut self, rt: &impl Abort, format: &str, script: &str) {
         self.format(rt, format);
-        self.call(rt, &["run"], script);
+        self.call(rt, "run", script);
     }
 
     /// Whether the last call ended with this status behind so many lines, and wrote this.
@@ -266,12 +278,13 @@ impl Machine {
             done: made,
             ..
         } = self.ended;
-        found == status && made == done && self.written.as_slice() == written.as_bytes()
+        let is_written = self.written.as_slice() == written.as_bytes();
+        (found == status) & (made == done) & is_written
     }
 
     /// Looks whether `check` prints this of the image, and ends with its status.
     pub fn is_reported(&mut self, rt: &impl Abort, report: &str) -> bool {
-        self.call(rt, &["check"], "");
+        self.call(rt, "check", "");
         self.is_ended(status_of(report), 1, report)
     }
 }

@@ -1,9 +1,11 @@
 //! Words of the command line: the file that they need, and how a call ends that refuses or wipes.
 
-use super::support::{CALM, Machine, NOT_IMAGE, Outside, ZEROS, expect, fields, number, wanted_of};
+use super::support::{
+    CALM, LEAST, Machine, NEVER, NOT_IMAGE, Outside, expect, fields, number, wanted_of,
+};
 use std::alloc::Global;
 use std::process::Abort;
-use store_top::Wanted;
+use store_top::{Wanted, Words, wanted_len};
 
 /// Words, parted by blanks, and the file that they need: none since they ask for nothing (`usage`), one that is there
 /// (`existing`), or one of so many bytes.
@@ -37,10 +39,11 @@ static WANTED: &str = "\
     format 4 1 ruler 0000000000000000000000000000000000000000000000000000000000000000 now|usage#\
     format|usage";
 
-/// The same for words that a parser of command lines might take for something. The first is one word with no letter.
+/// The same for words that a parser of command lines might take for something. The first is one word with no letter, and so
+/// is the last word of the second, each of which has a blank behind it.
 static STRAY: &str = "\
-    |usage#\
-    run |usage# run|usage#\
+    \x20|usage#\
+    run  |usage# run|usage#\
     --help|usage#\
     -h|usage#\
     help|usage#\
@@ -68,129 +71,101 @@ fn file_of(rt: &impl Abort, word: &str) -> Wanted {
     }
 }
 
-/// The words of a text.
-fn texts_of<'a>(rt: &impl Abort, alloc: Global, text: &'a str) -> Vec<&'a str> {
-    let mut texts = Vec::new(alloc);
-    for word in text.split(' ') {
-        texts.push(word).expect(rt, "memory");
-    }
-    texts
-}
-
 /// Looks whether the words need this file, and whether a call with them on a disk of no byte is refused before anything is
 /// done just where no file will do.
-fn expect_file(
-    rt: &impl Abort,
-    alloc: Global,
-    machine: &mut Machine,
-    texts: &[&str],
-    wanted: Wanted,
-    row: &str,
-) {
-    expect(rt, wanted_of(rt, alloc, texts) == wanted, "file", row);
+fn expect_file(rt: &impl Abort, alloc: Global, machine: &mut Machine, words: &str, wanted: Wanted) {
+    expect(rt, wanted_of(rt, alloc, words) == wanted, "file", words);
     machine.clear(rt, 0);
-    machine.call(rt, texts, "make /a\n");
-    let ended = machine.ended;
-    let is_refused = ended.status == 2 && ended.done == 0;
-    expect(rt, is_refused == (wanted == Wanted::Usage), "status", row);
+    machine.call(rt, words, "make /a\n");
+    let is_refused = (machine.ended.status == 2) & (machine.ended.done == 0);
+    expect(rt, is_refused == (wanted == Wanted::Usage), "status", words);
 }
 
-/// Looks whether the words of the row need the file that it names.
-fn expect_row(rt: &impl Abort, alloc: Global, machine: &mut Machine, row: &str) {
-    let [text, word, ..] = fields(row);
-    expect_file(
-        rt,
-        alloc,
-        machine,
-        &texts_of(rt, alloc, text),
-        file_of(rt, word),
-        row,
-    );
+/// Looks whether the words of each row need the file that it names.
+fn expect_files(rt: &impl Abort, alloc: Global, machine: &mut Machine, table: &str) {
+    for row in table.split('#') {
+        let [words, word, ..] = fields(row);
+        expect_file(rt, alloc, machine, words, file_of(rt, word));
+    }
 }
 
 #[test]
 fn words_tell_the_file_that_they_need(rt: HostRuntime) {
     let mut machine = Machine::new(rt.alloc());
-    expect_file(
-        &rt,
-        rt.alloc(),
-        &mut machine,
-        &[],
-        Wanted::Usage,
-        "no words",
-    );
-    for table in [WANTED, STRAY] {
-        for row in table.split('#') {
-            expect_row(&rt, rt.alloc(), &mut machine, row);
-        }
-    }
+    expect_file(&rt, rt.alloc(), &mut machine, "", Wanted::Usage);
+    expect_files(&rt, rt.alloc(), &mut machine, WANTED);
+    expect_files(&rt, rt.alloc(), &mut machine, STRAY);
 }
 
 #[test]
 fn there_is_memory_for_a_thousand_words(rt: HostRuntime) {
-    let texts = vec![in rt.alloc(); "word"; 1000].expect(&rt, "memory");
-    assert!(rt; wanted_of(&rt, rt.alloc(), &texts) == Wanted::Usage);
+    let mut words = Words::new(rt.alloc());
+    for _ in 0..1000 {
+        words.push("word").expect(&rt, "memory");
+    }
+    assert!(rt; wanted_len(&words).expect(&rt, "memory") == Wanted::Usage);
 }
 
-/// Looks whether formatting the disk as the least image, where the outside is so, ends so: it makes one, or changes nothing.
-fn expect_format(rt: &impl Abort, machine: &mut Machine, outside: &Outside, status: u8, row: &str) {
+/// What a row shows; the format and the script of an image, or none where the disk has 20,480 zeros; places where another byte
+/// is put; the first call of the disk that fails, or `-`; and the status of a call that formats the disk as the least image: an
+/// image is refused by its first byte, and one of another length by the length.
+static FORMATTED: &str = "\
+    a disk that fails||||0|5#\
+    zeros||||-|0#\
+    an image|format 1 1 ruler zeros|make /a\n||-|10#\
+    an image of four slots|format 4 2 ruler zeros|||-|11#\
+    other bytes|||0 20479|-|0";
+
+/// Looks whether formatting the disk as the least image, where the disk fails from this call on, ends so: it makes one, or
+/// changes nothing.
+fn expect_format(rt: &impl Abort, machine: &mut Machine, from: u64, status: u8, row: &str) {
     let before = machine.copy(rt);
-    let words = ["format", "1", "1", "ruler", ZEROS];
-    machine.call_in(rt, &words, b"", outside);
+    machine.call_in(rt, LEAST, b"", &Outside { from, ..CALM });
     let is_made = status == 0;
-    expect(
-        rt,
-        machine.is_ended(status, u64::from(is_made), ""),
-        "end",
-        row,
-    );
+    let is_ended = machine.is_ended(status, u64::from(is_made), "");
     let is_changed = machine.image() != before.as_slice();
     let is_written = machine.ended.calls[0] != 0;
-    expect(
-        rt,
-        is_changed == is_made && is_written == is_made,
-        "bytes",
-        row,
-    );
+    let holds = is_ended & (is_changed == is_made) & (is_written == is_made);
+    expect(rt, holds, "format", row);
 }
 
-/// The first read of a disk fails, with all calls behind it.
-const FAILING: Outside = Outside {
-    from: Some(0),
-    ..CALM
-};
+/// Looks whether formatting the disk of the row ends as it says.
+fn expect_formatted(rt: &impl Abort, machine: &mut Machine, row: [&str; 9]) {
+    if row[1] == "" {
+        machine.clear(rt, 20_480);
+    } else {
+        machine.make(rt, row[1], row[2]);
+    }
+    for place in row[3].split_whitespace() {
+        machine.put(number(rt, place) as usize, 0xEE);
+    }
+    let from = row[4].parse::<u64>().unwrap_or(NEVER);
+    let status = row[5].parse::<u8>().expect(rt, "a status");
+    expect_format(rt, machine, from, status, row[0]);
+}
 
-// An image is refused by its first byte, and one of another length by the length.
 #[test]
 fn format_takes_blank_disks_of_the_right_length(rt: HostRuntime) {
     let mut machine = Machine::new(rt.alloc());
-    machine.clear(&rt, 20_480);
-    expect_format(&rt, &mut machine, &FAILING, 5, "a disk that fails");
-    expect_format(&rt, &mut machine, &CALM, 0, "zeros");
-    machine.make(&rt, "1 1 ruler", "make /a\n");
-    expect_format(&rt, &mut machine, &CALM, 10, "an image");
-    machine.format(&rt, "4 2 ruler");
-    expect_format(&rt, &mut machine, &CALM, 11, "an image of four slots");
-    machine.clear(&rt, 20_480);
-    machine.put(0, 0xEE);
-    machine.put(20_479, 0xEE);
-    expect_format(&rt, &mut machine, &CALM, 0, "other bytes");
+    for row in FORMATTED.split('#') {
+        expect_formatted(&rt, &mut machine, fields(row));
+    }
     assert!(rt; machine.image().ends_with(&[0]));
 }
 
 /// Looks whether a wipe leaves zeros, and no image, by so many writes and syncs.
 fn expect_wiped(rt: &impl Abort, machine: &mut Machine, calls: [u64; 2], row: &str) {
-    machine.call(rt, &["wipe"], "");
+    machine.call(rt, "wipe", "");
     let is_zero = machine.image().iter().all(|byte| *byte == 0);
-    expect(rt, machine.is_ended(0, 1, "") && is_zero, "wipe", row);
-    expect(rt, machine.ended.calls == calls, "calls", row);
+    let is_ended = machine.is_ended(0, 1, "") & (machine.ended.calls == calls);
+    expect(rt, is_ended & is_zero, "wipe", row);
     expect(rt, machine.is_reported(rt, NOT_IMAGE), "report", row);
 }
 
 #[test]
 fn wipe_leaves_zeros(rt: HostRuntime) {
     let mut machine = Machine::new(rt.alloc());
-    machine.make(&rt, "1 1 ruler", "make /a\n");
+    machine.make(&rt, LEAST, "make /a\n");
     // Byte 0 and a sync, the blocks and a sync; and no call where there is no byte.
     expect_wiped(&rt, &mut machine, [6, 2], "an image");
     machine.load(&rt, b"no image");
