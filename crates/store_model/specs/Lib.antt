@@ -14,5 +14,3 @@ pub mod Steps
 pub mod Grammar
 pub mod Scripts
 pub mod Words
-pub mod Examples
-pub mod Compute

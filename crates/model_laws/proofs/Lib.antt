@@ -1,0 +1,4 @@
+pub mod PagesLemmasGroups
+pub mod PagesLemmasKeys
+pub mod PathsLemmasTexts
+pub mod PlacementLemmasTrees

@@ -1,5 +1,0 @@
-use Rattle.store_model.proofs.ImagesLemmas.{length-layout}
-use Rattle.store_model.proofs.laws.images.layout_has_the_image_length.Goals as goal
-
-pub returns : goal.returns
-returns c = length-layout

@@ -1,5 +1,0 @@
-use Rattle.store_model.proofs.PagesLemmasSizes.{tree_pages_by_rank}
-use Rattle.store_model.proofs.laws.pages.pages_come_by_rank.Goals as goal
-
-pub returns : goal.returns
-returns c = tree_pages_by_rank

@@ -1,8 +1,0 @@
-use Rattle.store_model.proofs.PairsLemmas.{is_sorted-pairs, rising_keys}
-use Rattle.store_model.proofs.laws.pairs.pairs_are_sorted.Goals as goal
-
-pub returns : goal.returns
-returns c = record {
-  finite_map = is_sorted-pairs;
-  keys_rise = rising_keys;
-}

@@ -1,5 +1,0 @@
-use Rattle.store_model.proofs.PathsLemmasTexts.{path_of-path_text}
-use Rattle.store_model.proofs.laws.paths.texts_spell_their_paths.Goals as goal
-
-pub returns : goal.returns
-returns c = path_of-path_text

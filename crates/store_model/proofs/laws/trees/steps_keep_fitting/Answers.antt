@@ -1,5 +1,0 @@
-use Rattle.store_model.proofs.TreesLemmasFits.{Fits-step}
-use Rattle.store_model.proofs.laws.trees.steps_keep_fitting.Goals as goal
-
-pub returns : goal.returns
-returns c = Fits-step

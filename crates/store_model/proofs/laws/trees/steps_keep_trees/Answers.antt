@@ -1,5 +1,0 @@
-use Rattle.store_model.proofs.TreesLemmasSteps.{IsTree-step}
-use Rattle.store_model.proofs.laws.trees.steps_keep_trees.Goals as goal
-
-pub returns : goal.returns
-returns c = IsTree-step
