@@ -4,7 +4,6 @@ pub mod Found
 pub mod ImageVerdicts
 pub mod Images
 pub mod Layouts
-pub mod ReadLemmas
 pub mod Searches
 pub mod SlotLemmas
 pub mod TablePairs

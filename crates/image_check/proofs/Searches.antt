@@ -3,14 +3,15 @@ use Rattle.std.proofs.Common.{◌≡◌, Some, None, Ok, refl, sym, subst}
 use Rattle.store_model.specs.Parameters.{Parameters}
 use Rattle.store_model.specs.Trees.{Tree}
 use Rattle.store_model.specs.Images.{slots_of}
-use Rattle.store_base.specs.SlotsState.{SlotsState, IsObservable}
+use Rattle.base_types.specs.SlotsState.{SlotsState, IsObservable}
+use Rattle.layout_compare.specs.SlotReads.{ReadsSlots}
+use Rattle.layout_compare.proofs.ReadLemmas.{reads_then, reads_answered}
 use Rattle.image_check.specs.declared.contents.Contents.{Contents}
 use Rattle.image_check.specs.declared.verdict.Verdict.{Verdict}
 use Rattle.image_check.specs.Contents.{HaveLayout, AreContents}
 use Rattle.image_check.specs.Verdicts.{IsSlotsVerdict}
-use Rattle.image_check.specs.SlotCalls.{ReadsSlots, FindsContents, ChecksSlots, IsVerdictOn}
+use Rattle.image_check.specs.SlotCalls.{FindsContents, ChecksSlots, IsVerdictOn}
 use Rattle.image_check.proofs.Layouts.{clean_slots, clean_with}
-use Rattle.image_check.proofs.ReadLemmas.{reads_then, reads_answered}
 
 -- nothing was found
 pub finds_none : {T : Type 0} (p : Parameters) (old new : SlotsState) (read : T) → ReadsSlots old new (Ok read) → (IsObservable old → (t : Tree) → HaveLayout old.slots t p → ⊥) → FindsContents p old new (Ok None)

@@ -1,11 +1,10 @@
 -- Slots that are read one after another, against a table.
-use Rattle.std.proofs.Common.{◌≡◌, ℕ, suc, ◌+◌, ◌<◌, ◌≤◌, List, [], ◌∷◌, ◌++◌, map, length, take, drop, cond, not, true, false, Bool, eqb, ◌==◌, Option, Some, None, slice_get, append_assoc, refl, sym, ap, subst, ◌∙◌, drop-cons}
+use Rattle.std.proofs.Common.{◌≡◌, ℕ, suc, ◌+◌, ◌<◌, ◌≤◌, List, [], ◌∷◌, ◌++◌, map, length, take, drop, cond, ◌==◌, Option, Some, slice_get, append_assoc, sym, ap, subst, ◌∙◌, drop-cons}
 use Rattle.std.specs.List.{AllByRecursion}
 use Rattle.std.specs.Option.{option_map}
-use Rattle.std.specs.Cmp.Lexicographic.{pointwise, bytes_decides}
 use Rattle.std.proofs.lemmas.List.{take_more, take-append-drop, append-nil, map-append}
 use Rattle.std.proofs.lemmas.Grind.{flat_map-append}
-use Rattle.std.proofs.lemmas.Option.{slice_get_within, get_or_from_slice_get, slice_get-map, slice_get-get_or, same_Some}
+use Rattle.std.proofs.lemmas.Option.{slice_get_within, get_or_from_slice_get, slice_get-map, same_Some}
 use Rattle.store_model.specs.Pages.{Cell, Page, IsPage, page_room}
 use Rattle.store_model.specs.Pairs.{Pair}
 use Rattle.store_model.specs.Placement.{Table}
@@ -64,20 +63,3 @@ pairs_one_more table i held before after at so_far more =
 pub read_as : (slots : List (List ℕ)) (table : Table) (i : ℕ) (slot : List ℕ) (held : Option Page) → slice_get slots i ≡ Some slot → slots ≡ slots_of table → slice_get table i ≡ Some held → slot ≡ slot_bytes held
 read_as slots table i slot held read is at =
     same_Some slot (slot_bytes held) (sym read ∙ ap (λ (xs : List (List ℕ)). slice_get xs i) is ∙ slice_get-map slot_bytes table i ∙ ap (option_map slot_bytes) at)
-
--- the bytes that a layout gives for a slot are those of its table
-pub layout_at : (layout : Table) (i : ℕ) (slot : List ℕ) → i < length layout → ((held : Option Page) → slice_get layout i ≡ Some held → slot ≡ slot_bytes held) → slice_get (slots_of layout) i ≡ Some slot
-layout_at layout i slot within is =
-    let at = slice_get-get_or layout i None within in
-    slice_get-map slot_bytes layout i ∙ ap (option_map slot_bytes) at ∙ ap Some (sym (is _ at))
-
--- bytes that a test tells apart are not the same
-pub differ_bytes : (a b : List ℕ) → true ≡ not (pointwise eqb a b) → a ≡ b → ⊥
-differ_bytes a b differ same = let passes : pointwise eqb a b ≡ true = (bytes_decides a b).1 same in cc
-
-pub same_bytes_by_test : (a b : List ℕ) → false ≡ not (pointwise eqb a b) → a ≡ b
-same_bytes_by_test a b same = (bytes_decides a b).0 (not_false (pointwise eqb a b) same)
-  where
-    not_false : (t : Bool) → false ≡ not t → t ≡ true
-    not_false true e = refl
-    not_false false e = cc

@@ -4,23 +4,14 @@ use Rattle.store_model.specs.Parameters.{Parameters}
 use Rattle.store_model.specs.Trees.{Tree}
 use Rattle.store_model.specs.Placement.{pages_in}
 use Rattle.store_model.specs.Images.{slots_of}
-use Rattle.store_base.specs.declared.store_fault.Fault.{Fault}
-use Rattle.store_base.specs.Faults.{disk_faults_after}
-use Rattle.store_base.specs.SlotsState.{SlotsState, IsObservable}
+use Rattle.base_types.specs.declared.store_fault.Fault.{Fault}
+use Rattle.base_types.specs.SlotsState.{SlotsState, IsObservable}
+use Rattle.layout_compare.specs.SlotReads.{ReadsSlots}
 use Rattle.image_check.specs.declared.contents.Contents.{Contents}
 use Rattle.image_check.specs.declared.verdict.Verdict.{Verdict}
 use Rattle.image_check.specs.declared.verdict.Verdict.TheVariants as verdicts
 use Rattle.image_check.specs.Contents.{HaveLayout, AreContents}
 use Rattle.image_check.specs.Verdicts.{clean_of, IsSlotsVerdict}
-
--- Reads of slots, of which the first that fails is the last: they leave the slots as they were. The count of faults is one
--- more after a fault of the disk, and else the same.
-pub record ReadsSlots {T : Type 0} (old new : SlotsState) (result : Result T Fault) : Type 0 where
-  pub count : new.count ≡ old.count
-  pub observable : new.is_observable ≡ old.is_observable
-  pub takes_none : new.takes_none ≡ old.takes_none
-  pub faults : new.faults ≡ disk_faults_after old.faults result
-  pub slots : IsObservable old → new.slots ≡ old.slots
 
 -- what is found in slots: their layout where they hold a tree, and nothing exactly where they hold none
 abbrev pub IsFoundIn : List (List ℕ) → Parameters → Option Contents → Type 0

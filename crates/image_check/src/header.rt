@@ -3,12 +3,14 @@
 ghost use Rattle.std.specs.Prelude.{◌≡◌, ◌≤◌, IfSome, IfOk, Some};
 ghost use Rattle.store_model.specs.Parameters as model;
 ghost use Rattle.disk_model.specs.DiskState.{IsObservable};
-ghost use Rattle.gate_journal.specs.Places.{ReadsOnly};
+ghost use Rattle.journal_steps.specs.Places.{ReadsOnly};
 ghost use Rattle.disk_model.specs.DiskCalls.{faults_after};
 ghost use Rattle.image_check.specs.Verdicts.{IsImageWith, HasParameters};
 
+use base_types::DiskFault;
 use disk_model::Disk;
-use store_base::{BLOCK, DiskFault, Params, Slot, image_len, read_header};
+use image_areas::{Params, image_len, read_header};
+use store_model::{BLOCK, Slot};
 
 /// The bytes of a header, which is one block.
 const HEADER: u64 = BLOCK as u64;

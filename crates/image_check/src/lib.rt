@@ -2,12 +2,11 @@
 //!
 //! The slots that recovery would leave are read, the pairs of their pages of level 0 are sorted, and it is tested
 //! whether they are a tree's. Then they are laid out anew, and each slot is compared with the layout. Nothing is
-//! written: the slots are seen through a view (`gate_journal`).
+//! written: the slots are seen through a view (`journal_steps`).
 #![tactic(auto)]
 
 mod blocks;
 mod collect;
-mod compare;
 mod contents;
 mod entry;
 mod header;

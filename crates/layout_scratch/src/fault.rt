@@ -3,7 +3,7 @@
 ghost use Rattle.std.specs.Prelude.{◌≡◌};
 ghost use Rattle.layout_scratch.specs.declared.fault.ScratchFault.TheVariants as faults;
 
-use store_base::NoMemory;
+use base_types::NoMemory;
 use thiserror::Error;
 
 /// Why a layout was not made.

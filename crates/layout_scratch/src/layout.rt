@@ -7,7 +7,7 @@ ghost use Rattle.store_model.specs.Images.{slot_bytes};
 
 use node_pages::PageList;
 use std::marker::Model;
-use store_base::{BLOCK, Slot};
+use store_model::{BLOCK, Slot};
 
 /// The table of a list of pairs. Contracts see it as the list of its slots, each empty or with a page.
 ///

@@ -1,10 +1,6 @@
 mod Answered
-pub mod CellBytes
-pub mod CellLists
 pub mod EntryLemmas
-pub mod Filled
 pub mod Joined
-pub mod Packed
-pub mod PageBytes
+pub mod PackedLists
 pub mod PlaceLemmas
 pub mod Runs

@@ -1,14 +1,8 @@
--- Where the cells of a page lie in its slot, and how they are read there.
-use Rattle.std.specs.Prelude.{◌≡◌, ℕ, zero, suc, ◌+◌, ◌-◌, ◌<◌, ◌≤◌, ◌*◌, length, List, [], ◌∷◌, ◌++◌, take, drop, Option, Some, None, slice_index}
-use Rattle.std.specs.Int.{w16, from_be_bytes}
-use Rattle.std.specs.List.{flat_map, AllByRecursion}
-use Rattle.std.specs.declared.cmp.Ordering.TheVariants.{Less}
-use Rattle.store_model.specs.Lists.{zeros, zero_filled}
-use Rattle.store_model.specs.Paths.{key_cmp}
-use Rattle.store_model.specs.Labels.{Label}
-use Rattle.store_model.specs.Pages.{Cell, Page, page_room, IsCell, IsPage}
-use Rattle.store_model.specs.Images.{cell_bytes, page_bytes}
-use Rattle.store_model.specs.Pairs.{value_limit}
+-- Lists of cells of one level, as bytes hold them.
+use Rattle.std.specs.Prelude.{ℕ, ◌<◌, length, List}
+use Rattle.std.specs.List.{AllByRecursion}
+use Rattle.store_model.specs.Pages.{Cell, IsCell}
+use Rattle.page_values.specs.Cells.{cells_in}
 
 -- cells of one level
 pub record CellList : Type 0 where
@@ -21,69 +15,6 @@ pub record IsCellList (list : CellList) : Type 0 where
   pub each : AllByRecursion (IsCell list.level) list.cells
   pub few : length list.cells < 4294967296
 
--- how many bytes a cell of a level has
-abbrev pub cell_size : ℕ → ℕ
-cell_size zero = 382
-cell_size (suc level) = 124
-
--- the value behind a key of a level: at level 0 alone, behind its length in two bytes
-abbrev pub value_in : ℕ → List ℕ → Option (List ℕ)
-value_in zero bytes = Some (take (from_be_bytes w16 bytes) (drop 2 bytes))
-value_in (suc level) bytes = None
-
--- the cell of a level that these bytes spell
-unfoldable pub cell_in : ℕ → List ℕ → Cell
-cell_in level bytes = record { key = take 124 bytes; value = value_in level (drop 124 bytes) }
-
--- so many cells, one behind the other
-unfoldable pub cells_in : ℕ → ℕ → List ℕ → List Cell
-cells_in level zero bytes = []
-cells_in level (suc count) bytes = cell_in level (take (cell_size level) bytes) ∷ cells_in level count (drop (cell_size level) bytes)
-
--- two bytes of a length, so many bytes, and zeros up to the longest value
-pub record SpellsValue (bytes : List ℕ) : Type 0 where
-  pub some : 1 ≤ from_be_bytes w16 bytes
-  pub fits : from_be_bytes w16 bytes ≤ value_limit
-  pub fill : drop (from_be_bytes w16 bytes) (drop 2 bytes) ≡ zeros (value_limit - from_be_bytes w16 bytes)
-
 -- the list of so many cells that bytes are, one cell behind the other
 abbrev pub list_in : ℕ → ℕ → List ℕ → CellList
 list_in level count bytes = record { level = level; cells = cells_in level count bytes }
-
--- bytes are those of so many cells of the level, and no others
-pub record ArePacked (level count : ℕ) (bytes : List ℕ) : Type 0 where
-  pub low : level < 256
-  pub few : count < 4294967296
-  pub each : AllByRecursion (IsCell level) (cells_in level count bytes)
-  pub spelled : flat_map cell_bytes (cells_in level count bytes) ≡ bytes
-
--- bytes of the size of a cell spell one: at level 0 there is a value behind the key
-abbrev pub SpellsCell : ℕ → List ℕ → Type 0
-SpellsCell level bytes = level ≡ 0 → SpellsValue (drop 124 bytes)
-
--- so many cells, one behind the other, each with a key above the one before it
-unfoldable pub SpellsRising : ℕ → List ℕ → ℕ → List ℕ → Type 0
-SpellsRising level last zero bytes = Unit {0}
-SpellsRising level last (suc count) bytes = SpellsCell level (take (cell_size level) bytes) × (key_cmp last (take 124 bytes) ≡ Less) × SpellsRising level (take 124 bytes) count (drop (cell_size level) bytes)
-
--- the 3,964 bytes behind the count of a page spell so many cells of the level, as many as a page may have, and zeros
-pub record SpellsCells (level count : ℕ) (area : List ℕ) : Type 0 where
-  pub some : 1 ≤ count
-  pub room : count ≤ page_room level
-  pub rising : SpellsRising level [] count area
-  pub rest : drop (cell_size level * count) area ≡ zeros (length (drop (cell_size level * count) area))
-
--- the page of a label whose cells stand in a slot: their number at byte 131, and then the cells
-abbrev pub page_in : Label → List ℕ → Page
-page_in label slot = record { label = label; cells = cells_in label.level (slice_index slot 131) (drop 132 slot) }
-
--- the slot holds a page of that label
-pub record IsSlotOf (label : Label) (slot : List ℕ) : Type 0 where
-  pub page : IsPage (page_in label slot)
-  pub bytes : page_bytes (page_in label slot) ≡ slot
-
--- the slot of a page of the level with one more cell, whose bytes are given: it is counted, and stands behind the others
-abbrev pub appended : ℕ → List ℕ → List ℕ → List ℕ
-appended level slot bytes =
-    let before = cell_size level * slice_index slot 131 in
-    take 131 slot ++ (slice_index slot 131 + 1) ∷ (take before (drop 132 slot) ++ zero_filled (3964 - before) bytes)

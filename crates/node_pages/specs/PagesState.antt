@@ -1,8 +1,8 @@
 -- What a store of pages means at one moment, and what a call on it does.
 use Rattle.std.specs.Prelude.{◌≡◌, ℕ, ◌+◌, ◌≤◌, Option, Result, Ok, Err, IfOk, OnOk, OnErr, option_copied}
 use Rattle.std.specs.Borrow.{Bor}
-use Rattle.store_base.specs.declared.store_fault.Fault.{Fault}
-use Rattle.store_base.specs.Faults.{disk_faults_after}
+use Rattle.base_types.specs.declared.store_fault.Fault.{Fault}
+use Rattle.base_types.specs.Faults.{disk_faults_after}
 use Rattle.store_model.specs.Labels.{Label}
 use Rattle.store_model.specs.Pages.{Page}
 use Rattle.store_model.specs.PageMaps.{PageMap, page_at, with_page, without_page}

@@ -9,19 +9,20 @@ ghost use Rattle.store_model.specs.Paths.{key_cmp};
 ghost use Rattle.store_model.specs.Pages.{IsCell, page_room};
 ghost use Rattle.store_model.specs.Labels.{IsLabel};
 ghost use Rattle.store_model.specs.Images.{cell_bytes};
-ghost use Rattle.store_base.specs.Keys.{IsKey};
-ghost use Rattle.store_base.specs.Leads.{lead_of};
+ghost use Rattle.page_labels.specs.Keys.{IsKey};
+ghost use Rattle.page_labels.specs.Leads.{lead_of};
 ghost use Rattle.node_pages.specs.Cells.{IsCellList};
 ghost use Rattle.node_pages.specs.Groups.{page_of_run, pages_from};
 ghost use Rattle.node_pages.specs.PagesState.{IsObservable, IsPagePut, most_pages};
 
-use crate::cell::Cell;
-use crate::page::Page;
 use crate::pages::Pages;
-use crate::spelling;
+use crate::spelling::push_cell;
+use base_types::{Fault, NoMemory};
+use cell_spelling::{cell_len, room};
+use page_labels::{Key, Label, Lead};
+use page_values::{Cell, Page, cells_between, key_part, read_cell, read_key};
 use std::alloc::Global;
 use std::marker::Model;
-use store_base::{Fault, Key, Label, Lead, NoMemory};
 
 /// A list of fewer than 2^32 cells of one level. Contracts see its level and the list of its cells; each is one of the
 /// level, as `IsCellList` says.
@@ -33,7 +34,8 @@ pub struct Cells {
 }
 
 impl Model for Cells {
-    ghost use Rattle.node_pages.specs.Cells.{CellList, list_in, ArePacked};
+    ghost use Rattle.page_values.specs.Cells.{ArePacked};
+    ghost use Rattle.node_pages.specs.Cells.{CellList, list_in};
 
     ghost Value = { CellList };
 
@@ -58,7 +60,7 @@ impl Cells {
     pub fn with_room(alloc: Global, level: u8, room: u32) -> Result<Self, NoMemory>
         ensures { IfOk result (λ list. list ≡ record { level = level; cells = [] }) }
     {
-        let room = spelling::cell_len(level) * room as usize;
+        let room = cell_len(level) * room as usize;
         Ok(Cells {
             level,
             count: 0,
@@ -104,7 +106,7 @@ impl Cells {
         requires within { past ≤ length self.now.cells }
         ensures { result.now ≡ flat_map cell_bytes (drop first (take past self.now.cells)) }
     {
-        spelling::cells_between(self.level, &self.bytes, first, past)
+        cells_between(self.level, &self.bytes, first, past)
     }
 
     /// The bytes of the key of cell `i`, the first being 0.
@@ -114,7 +116,7 @@ impl Cells {
         ensures valid { IsKey result.now }
     {
         let _ = self.len();
-        spelling::key_part(self.bytes_between(i, i + 1))
+        key_part(self.bytes_between(i, i + 1))
     }
 
     /// The key of cell `i`, the first being 0, without its value.
@@ -123,7 +125,7 @@ impl Cells {
         ensures value { IfSome (slice_get self.now.cells i) (λ cell. cell.key ≡ result) }
         ensures valid { IsKey result }
     {
-        spelling::read_key(self.key_bytes(i))
+        read_key(self.key_bytes(i))
     }
 
     /// Cell `i`, the first being 0.
@@ -132,14 +134,14 @@ impl Cells {
         ensures value { slice_get self.now.cells i ≡ Some result }
         ensures valid { IsCell self.now.level result }
     {
-        spelling::read_cell(self.level, self.bytes_between(i, i + 1))
+        read_cell(self.level, self.bytes_between(i, i + 1))
     }
 
     /// How many pages the cells make as a group: runs of 10 at level 0 and of 31 above, the last run holding the rest.
     pub fn page_count(&self) -> u32
         ensures { result ≡ length (runs (page_room self.now.level) self.now.cells) }
     {
-        self.count.div_ceil(u32::from(spelling::room(self.level)))
+        self.count.div_ceil(u32::from(room(self.level)))
     }
 
     /// From which number up to which the cells of run `index` stand, the first run being 0.
@@ -150,7 +152,7 @@ impl Cells {
         ensures few { result.1 ≤ result.0 + 31 }
         ensures cells { drop result.0 (take result.1 self.now.cells) ≡ take (page_room self.now.level) (drop (page_room self.now.level * index) self.now.cells) }
     {
-        let room = u32::from(spelling::room(self.level));
+        let room = u32::from(room(self.level));
         let done = room * index;
         (done, done + room.min(self.count - done))
     }
@@ -232,7 +234,7 @@ impl Cells {
         let Some(count) = self.count.checked_add(1) else {
             return Err(NoMemory);
         };
-        spelling::push_cell(&mut self.bytes, self.level, cell)?;
+        push_cell(&mut self.bytes, self.level, cell)?;
         self.count = count;
         Ok(())
     }

@@ -6,11 +6,12 @@ ghost use Rattle.std.specs.FinMap as maps;
 ghost use Rattle.std.specs.Io.BufRead.{Rests};
 ghost use Rattle.store_model.specs.PageMaps.{IsPageMap};
 ghost use Rattle.store_model.specs.Pages.{IsPage};
-ghost use Rattle.node_pages.specs.Cells.{ArePacked, cells_in};
+ghost use Rattle.page_values.specs.Cells.{ArePacked, cells_in};
 ghost use Rattle.node_pages.specs.PagesState.{PagesState, IsObservable, IsPageGet, IsPagePut, IsPageDrop, looked_at, most_pages};
 
-use crate::page::Page;
-use store_base::{Fault, Label};
+use base_types::Fault;
+use page_labels::Label;
+use page_values::Page;
 
 /// Pages, each under its label.
 ///

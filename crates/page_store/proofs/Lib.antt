@@ -1,7 +1,5 @@
 pub mod CommitLemmas
-pub mod DifferLemmas
 pub mod FindLemmas
-pub mod ScanLemmas
 pub mod SettleLemmas
 pub mod SlotLemmas
 pub mod StagedCalls

@@ -13,9 +13,9 @@ use Rattle.store_model.specs.PageMaps.{map_of_pages, HoldsPages}
 use Rattle.store_model.proofs.ImagesLemmas.{header-layout}
 use Rattle.store_model.proofs.PlacementLemmas.{length-place}
 use Rattle.store_model.proofs.PageMapsLemmas.{HoldsPages-tree}
-use Rattle.gate_journal.specs.Phases.{table_slot}
-use Rattle.gate_journal.proofs.Layouts.{layout-slots, layout-has-empty-journal, slots-make-layout, recovered-represents}
-use Rattle.gate_journal.proofs.Recovering.{long-recovered}
+use Rattle.journal_steps.specs.Phases.{table_slot}
+use Rattle.journal_steps.proofs.Layouts.{layout-slots, layout-has-empty-journal, slots-make-layout, recovered-represents}
+use Rattle.journal_steps.proofs.Recovering.{long-recovered}
 use Rattle.page_store.specs.PageImages.{table_slots, IsLayoutOf, RepresentsPages}
 use Rattle.slot_cache.proofs.OverlayLemmas.{get_number}
 

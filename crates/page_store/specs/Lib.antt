@@ -1,6 +1,5 @@
 pub mod Codes
 pub mod Committing
-pub mod Differences
 pub mod Faults
 pub mod PageImages
 pub mod Preparing

@@ -1,11 +1,11 @@
 -- What a call does that stages one change.
 use Rattle.std.specs.Prelude.{◌≡◌, Option, Result, OnOk, OnErr}
-use Rattle.store_base.specs.declared.store_fault.Fault.{Fault}
-use Rattle.store_base.specs.Faults.{disk_faults_after}
+use Rattle.base_types.specs.declared.store_fault.Fault.{Fault}
+use Rattle.base_types.specs.Faults.{disk_faults_after}
 use Rattle.store_model.specs.Labels.{Label}
 use Rattle.store_model.specs.Pages.{Page}
 use Rattle.node_pages.specs.PagesState.{PagesState, IsObservable}
-use Rattle.slot_cache.specs.Staging.{with_change}
+use Rattle.slot_memory.specs.Staging.{with_change}
 
 -- what it does to observable pages; one that fails leaves them
 pub record StagesChange {T : Type 0} (old new : PagesState) (l : Label) (change : Option Page) (result : Result T Fault) : Type 0 where

@@ -1,50 +1,19 @@
-//! How the slots are found that a settle commits.
+//! How the changed pages become the slots that a settle commits.
 
-ghost use Rattle.std.specs.Prelude.{◌≡◌, ◌<◌, ◌≤◌, ℕ, List, length, Some};
-ghost use Rattle.store_model.specs.Parameters.{image_len, block_len, slots_limit};
-ghost use Rattle.gate_journal.specs.ViewState.{KeepsView};
-ghost use Rattle.slot_cache.specs.Caches.{IsCacheOf};
+ghost use Rattle.std.specs.Prelude.{◌≡◌};
+ghost use Rattle.journal_steps.specs.ViewState.{KeepsView};
 ghost use Rattle.slot_cache.specs.Overlays.{disk_of, params_of, touched_of};
-ghost use Rattle.slot_cache.specs.OverlayState.{touched_at};
-ghost use Rattle.page_store.specs.Preparing.{FindsChanges, FindsSlots};
-ghost use Rattle.slot_cache.specs.Starts.{AreStarts};
+ghost use Rattle.page_store.specs.Preparing.{FindsSlots};
+ghost use Rattle.slot_memory.specs.Starts.{AreStarts};
 
-use crate::changed::ChangedSlots;
+use base_types::Fault;
+use changed_slots::{ChangedSlots, find_changes};
 use disk_model::Disk;
 use node_pages::Page;
+use page_labels::Label;
 use seeded_draw::Draw;
-use slot_cache::{Boxed, Hints, Overlay, SlotCache, carry_out, tell_slot};
-use std::alloc::Global;
+use slot_cache::{Boxed, Hints, Overlay, carry_out};
 use std::collections::BTreeMap;
-use store_base::{Fault, Label, Slot};
-
-/// The slots that were written and have other bytes in the table of the disk, which has so many slots. The disk is only
-/// read, and what the cache keeps of it is not read again. What was written is taken one by one, since so its map keeps
-/// its memory.
-fn find_changes<D: Disk>(
-    alloc: Global,
-    disk: &mut D,
-    cache: &mut SlotCache,
-    slots: u32,
-    written: &mut BTreeMap<u32, Boxed<Slot>>,
-) -> Result<ChangedSlots, Fault>
-    requires in_range { slots ≤ slots_limit }
-    requires size { (D.state disk.old).size ≡ image_len slots }
-    requires within { (i : ℕ) (slot : List ℕ) → touched_at written.old.entries i ≡ Some slot → i < slots }
-    requires filled { (i : ℕ) (slot : List ℕ) → touched_at written.old.entries i ≡ Some slot → length slot ≡ block_len }
-    requires cached { IsCacheOf slots (D.state disk.old) cache.old }
-    ensures call { FindsChanges slots written.old.entries (D.state disk.old) (D.state disk.new) cache.new result }
-    ensures left { (i : ℕ) (slot : List ℕ) → touched_at written.new.entries i ≡ Some slot → touched_at written.old.entries i ≡ Some slot }
-{
-    let mut changed = Vec::with_capacity(alloc, written.len())?;
-    while let Some((at, kept)) = written.pop_first() {
-        let is_same: bool = tell_slot(disk, cache, slots, at, kept.get())?;
-        if !is_same {
-            changed.push((at, kept))?;
-        }
-    }
-    Ok(ChangedSlots { slots: changed })
-}
 
 /// The slots in which the table differs once the changes are carried out. The disk is only read; which slots the overlay
 /// has written after the call is not said.

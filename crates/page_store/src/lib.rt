@@ -4,10 +4,10 @@
 //! is written. A settle carries the changes out on an overlay of the slots that they touch, and commits the slots whose
 //! bytes differ, so that the table is again the placement of the pages; a crash leaves the old pages or the new ones.
 //!
-//! What is kept in memory of the table, so that it is not read again, is `slot_cache`'s.
+//! What is kept in memory of the table, so that it is not read again, is `slot_cache`'s; which slots differ is found by
+//! `changed_slots`.
 #![tactic(auto)]
 
-mod changed;
 mod commit;
 mod compare;
 mod fault;

@@ -8,7 +8,7 @@ ghost use Rattle.script_lines.specs.Parsing.{parts_of, AreFields, FitFields, Rea
 
 use crate::find::find_byte;
 use path_keys::{Path, PathFault};
-use store_base::Refusal;
+use store_model::Refusal;
 
 /// The fields of a line, which exactly one space parts: the word, and up to three more.
 #[derive(Clone, Copy)]

@@ -8,7 +8,9 @@ use crate::draw::Draw;
 use crate::front::Front;
 use crate::ruler::RulerDraw;
 use crate::sha::ShaDraw;
-use store_base::{DrawKind, Key, Label, Params};
+use image_areas::Params;
+use page_labels::{Key, Label};
+use store_model::DrawKind;
 
 /// The draw of an image: of the kind, seed, slots and height that its parameters name.
 #[derive(Clone, Copy, Debug)]

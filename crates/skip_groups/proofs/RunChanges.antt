@@ -3,8 +3,8 @@ use Rattle.std.proofs.Common.{◌≡◌, ℕ, zero, suc, ◌+◌, ◌-◌, ◌*�
 use Rattle.std.specs.List.{slice_get}
 use Rattle.std.specs.FinMap.{len, len-remove, contains_key}
 use Rattle.std.specs.Cmp.Lexicographic.{nat_list_cmp_total}
-use Rattle.store_base.specs.declared.store_fault.Fault.{Fault}
-use Rattle.store_base.specs.Faults.{disk_faults_after}
+use Rattle.base_types.specs.declared.store_fault.Fault.{Fault}
+use Rattle.base_types.specs.Faults.{disk_faults_after}
 use Rattle.store_model.specs.Lists.{runs}
 use Rattle.store_model.specs.Labels.{Lead, Label, label_bytes}
 use Rattle.store_model.specs.Pages.{Page, page_room}

@@ -1,7 +1,7 @@
 -- What a search in the pages of one group does.
 use Rattle.std.specs.Prelude.{◌≡◌, ℕ, ◌+◌, ◌<◌, ◌≤◌, List, length, Option, Some, None, Result, IfOk}
-use Rattle.store_base.specs.declared.store_fault.Fault.{Fault}
-use Rattle.store_base.specs.Faults.{disk_faults_after}
+use Rattle.base_types.specs.declared.store_fault.Fault.{Fault}
+use Rattle.base_types.specs.Faults.{disk_faults_after}
 use Rattle.store_model.specs.Labels.{Lead}
 use Rattle.store_model.specs.Pages.{Cell}
 use Rattle.node_pages.specs.PagesState.{PagesState, IsObservable, most_pages}

@@ -3,14 +3,15 @@
 ghost use Rattle.std.specs.Prelude.{◌≡◌, ◌↔◌, ◌+◌, ◌-◌, ◌<◌, ◌≤◌, ◌++◌, [], ◌∷◌, length, take, drop, IsTrue, IfOk, OnOk, true, false};
 ghost use Rattle.std.specs.declared.cmp.Ordering.TheVariants.{Less, Equal, Greater};
 ghost use Rattle.store_model.specs.Pages.{IsCell};
-ghost use Rattle.store_base.specs.Leads.{lead_of};
+ghost use Rattle.page_labels.specs.Leads.{lead_of};
 ghost use Rattle.skip_groups.specs.Floors.{last_of, lead_from};
 ghost use Rattle.skip_groups.specs.GroupCells.{AreCells, IsRisingList, AreBetween, IsKept, IsFirst, IsMerged, last_key_of, is_behind, side, merged};
 
 use crate::group::is_last;
 use crate::search::count_not_above;
+use base_types::NoMemory;
 use node_pages::{Cell, Cells, Page};
-use store_base::{Key, Lead, NoMemory};
+use page_labels::{Key, Lead};
 
 /// Whether a cell is one of the level: a value is there at level 0 alone.
 fn is_cell(level: u8, cell: &Cell) -> bool

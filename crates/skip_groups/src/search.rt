@@ -2,14 +2,15 @@
 
 ghost use Rattle.std.specs.Prelude.{◌≡◌, ◌-◌, ◌<◌, ◌≤◌, length, slice_get};
 ghost use Rattle.std.specs.List.{prefix_len};
-ghost use Rattle.store_base.specs.Leads.{lead_of};
+ghost use Rattle.page_labels.specs.Leads.{lead_of};
 ghost use Rattle.skip_groups.specs.Floors.{is_not_above};
 ghost use Rattle.skip_groups.specs.Searches.{seen, IsGroupSearch};
 
 use crate::group::{is_last, label_in_group};
 use crate::wanted::Wanted;
+use base_types::Fault;
 use node_pages::{Page, Pages};
-use store_base::{Fault, Key, Lead, byte_order};
+use page_labels::{Key, Lead, byte_order};
 
 /// How many cells of a page have keys that are not above the given one, by halving.
 pub fn count_not_above(page: &Page, key: &Key) -> u32

@@ -1,6 +1,5 @@
 pub mod Apart
 pub mod Around
-pub mod CallsBehind
 pub mod ChangeSteps
 pub mod DescentSteps
 pub mod Descents
@@ -8,7 +7,6 @@ pub mod Found
 pub mod KnownBehind
 pub mod KnownPlaces
 pub mod LedGroups
-pub mod LevelCalls
 pub mod LevelChanges
 pub mod ListCalls
 pub mod NextLemmas
@@ -29,5 +27,4 @@ pub mod PlaceSplits
 pub mod PlaceSteps
 pub mod PlaceTakes
 pub mod PutSearches
-pub mod SetCalls
 pub mod ValueLemmas

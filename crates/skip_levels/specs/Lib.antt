@@ -1,4 +1,3 @@
-pub mod CellChanges
 pub mod Descent
 pub mod ListState
 pub mod NextSearch

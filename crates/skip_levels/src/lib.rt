@@ -2,7 +2,6 @@
 #![tactic(auto)]
 
 mod changes;
-mod levels;
 mod next;
 mod put_place;
 mod search;

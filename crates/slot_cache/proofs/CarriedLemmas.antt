@@ -1,5 +1,5 @@
 -- Changes that are carried out, the pages first that go and then those that come, lead where the changes lead.
-use Rattle.std.proofs.Common.{◌≡◌, ℕ, ◌≤◌, cond, List, [], ◌∷◌, Option, Some, None, Result, Ok, OnOk, refl, sym, ap, subst, ◌∙◌}
+use Rattle.std.proofs.Common.{◌≡◌, ℕ, ◌≤◌, cond, List, [], ◌∷◌, Option, Some, None, Result, Ok, Err, OnOk, refl, sym, ap, subst, ◌∙◌}
 use Rattle.std.specs.declared.cmp.Ordering.{Ordering}
 use Rattle.std.specs.declared.cmp.Ordering.TheVariants.{Less, Equal}
 use Rattle.std.specs.List.{AllByRecursion}
@@ -15,12 +15,12 @@ use Rattle.store_model.specs.Labels.{Label, label_bytes, label_cmp}
 use Rattle.store_model.specs.Draws.{Draw}
 use Rattle.store_model.specs.Pages.{Page}
 use Rattle.store_model.specs.PageMaps.{PageMap, with_page, without_page, IsPageMap, HoldsPages}
-use Rattle.store_base.specs.declared.store_fault.Fault.{Fault}
-use Rattle.store_base.specs.SlotsState.{SlotsState}
-use Rattle.store_base.proofs.SlotsCalls.{AreSlotCalls-then, IsObservable-later}
-use Rattle.slot_cache.specs.Staging.{Changes, with_change, with_changes}
+use Rattle.base_types.specs.declared.store_fault.Fault.{Fault}
+use Rattle.base_types.specs.SlotsState.{SlotsState}
+use Rattle.base_types.proofs.SlotsCalls.{AreSlotCalls-then, AreSlotCalls-fault, IsObservable-later}
+use Rattle.slot_memory.specs.Staging.{Changes, with_change, with_changes}
 use Rattle.slot_cache.specs.Carrying.{taken_by, laid_by, TakesPages, LaysPages, CarriesOut}
-use Rattle.slot_cache.proofs.ChangeLemmas.{get-with_change, same_when_tied, exchanged}
+use Rattle.slot_memory.proofs.ChangeLemmas.{get-with_change, same_when_tied, exchanged}
 
 -- two changes under different labels may change places
 with_change-swap : (m : PageMap) (k l : Label) (v w : Option Page) → (label_bytes k ≡ label_bytes l → ⊥) → with_change (with_change m k v) l w ≡ with_change (with_change m l w) k v
@@ -86,3 +86,7 @@ carried_out d old mid new changes value result sorted taken laid = record {
       subst (λ (n : PageMap). OnOk result (HoldsPages d new.slots n)) same
       (laid.laid (taken_by m changes) (IsObservable-later old mid (Ok value) taken.calls observable) (taken.taken m observable holds) (subst (λ (n : PageMap). maps.len n ≤ d.slots) (sym same) few));
 }
+
+-- or they could not be taken away
+pub carried_failed : (d : Draw) (old mid : SlotsState) (changes : Changes) (fault : Fault) → TakesPages {T = Unit {0}} d old mid changes (Err fault) → CarriesOut {T = Unit {0}} d old mid changes (Err fault)
+carried_failed d old mid changes fault taken = record { calls = AreSlotCalls-fault old mid fault taken.calls; carried = λ m observable holds valid few. tt }

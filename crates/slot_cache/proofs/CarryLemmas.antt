@@ -1,5 +1,5 @@
 -- Lemmas on a page that is taken away from slots.
-use Rattle.std.proofs.Common.{◌≡◌, ℕ, Bool, true, false, cond, List, [], ◌∷◌, Option, Some, None, is_some, Ok, Err, refl, sym, ap, subst, ◌∙◌}
+use Rattle.std.proofs.Common.{◌≡◌, ℕ, Bool, true, false, cond, List, [], ◌∷◌, Option, Some, None, is_some, Result, Ok, Err, refl, sym, ap, subst, ◌∙◌}
 use Rattle.std.specs.FinMap as maps
 use Rattle.std.specs.FinMap.{get-remove, same_map, slice_cmp-IsAntisymmetric, nat_cmp-IsAntisymmetric}
 use Rattle.std.specs.Ordering.{nat_cmp, eq_by_cmp}
@@ -8,13 +8,14 @@ use Rattle.store_model.specs.Labels.{Label, label_bytes}
 use Rattle.store_model.specs.Draws.{Draw}
 use Rattle.store_model.specs.Pages.{Page}
 use Rattle.store_model.specs.PageMaps.{PageMap, page_at, without_page, HoldsPages}
-use Rattle.store_base.specs.declared.store_fault.Fault.{Fault}
-use Rattle.store_base.specs.SlotsState.{SlotsState}
-use Rattle.store_base.proofs.SlotsCalls.{AreSlotCalls-none, AreSlotCalls-then, AreSlotCalls-value, IsObservable-later}
+use Rattle.base_types.specs.declared.store_fault.Fault.{Fault}
+use Rattle.base_types.specs.SlotsState.{SlotsState}
+use Rattle.base_types.proofs.SlotsCalls.{AreSlotCalls-none, AreSlotCalls-then, AreSlotCalls-value, AreSlotCalls-fault, IsObservable-later}
+use Rattle.ordered_table.specs.Tables.{IsSlotOf, Removes}
 use Rattle.slot_cache.specs.Lookups.{Locates}
-use Rattle.slot_cache.specs.Staging.{Changes}
+use Rattle.slot_memory.specs.Staging.{Changes}
 use Rattle.slot_cache.specs.Carrying.{TakesPage, taken_by, TakesPages, TakingPages}
-use Rattle.slot_cache.proofs.ChangeLemmas.{same_when_tied}
+use Rattle.slot_memory.proofs.ChangeLemmas.{same_when_tied}
 
 -- where there is no page under a label nothing is taken out
 without_none : (m : PageMap) (l : Label) → page_at m l ≡ None → without_page m l ≡ m
@@ -34,6 +35,22 @@ none_taken d old mid l located = record {
       subst (HoldsPages d mid.slots) (sym (without_none m l ((located.found m observable holds).absent.0 refl)))
       (subst (λ (slots : List (List ℕ)). HoldsPages d slots m) (sym (located.reads observable)) holds);
 }
+
+-- a page was found, and is taken away
+pub found_taken : (d : Draw) (old mid new : SlotsState) (l : Label) (at : ℕ) (result : Result (Unit {0}) Fault) → Locates d old mid l (Ok (Some at)) → Removes d mid new at result → TakesPage d old new l result
+found_taken d old mid new l at result located removes = record {
+  calls = AreSlotCalls-then old mid new (Some at) result located.calls removes.calls;
+  taken = λ m observable holds.
+      let same = sym (located.reads observable) in
+      removes.removed m l (IsObservable-later old mid (Ok (Some at)) located.calls observable) (record {
+        holds = subst (λ (slots : List (List ℕ)). HoldsPages d slots m) same holds;
+        there = subst (λ (slots : List (List ℕ)). IsSlotOf slots m l at) same ((located.found m observable holds).slot);
+      });
+}
+
+-- or the slots failed
+pub failed_taken : (d : Draw) (old mid : SlotsState) (l : Label) (fault : Fault) → Locates d old mid l (Err fault) → TakesPage {T = Unit {0}} d old mid l (Err fault)
+failed_taken d old mid l fault located = record { calls = AreSlotCalls-fault old mid fault located.calls; taken = λ m observable holds. tt }
 
 -- ---- the loop that takes pages away
 

@@ -1,16 +1,51 @@
 -- The loop that lays pages into slots.
-use Rattle.std.proofs.Common.{◌≡◌, ◌<◌, ◌≤◌, ◌+◌, ℕ, Bool, true, false, cond, List, [], ◌∷◌, Option, Some, None, is_some, Ok, Err, refl, sym, ap, subst, ◌∙◌, arith}
+use Rattle.std.proofs.Common.{◌≡◌, ◌<◌, ◌≤◌, ◌+◌, ℕ, Bool, true, false, cond, List, [], ◌∷◌, Option, Some, None, is_some, Result, Ok, Err, refl, sym, ap, subst, ◌∙◌, arith}
 use Rattle.std.specs.FinMap as maps
 use Rattle.std.specs.FinMap.{len-insert}
 use Rattle.std.specs.Cmp.Lexicographic.{nat_list_cmp_total}
-use Rattle.store_model.specs.Labels.{label_bytes}
+use Rattle.store_model.specs.Labels.{Label, label_bytes}
 use Rattle.store_model.specs.Draws.{Draw}
 use Rattle.store_model.specs.Pages.{Page}
 use Rattle.store_model.specs.PageMaps.{PageMap, page_at, with_page, HoldsPages}
-use Rattle.store_base.specs.declared.store_fault.Fault.{Fault}
-use Rattle.store_base.specs.SlotsState.{SlotsState}
-use Rattle.store_base.proofs.SlotsCalls.{AreSlotCalls-none, AreSlotCalls-then, IsObservable-later}
+use Rattle.base_types.specs.declared.store_fault.Fault.{Fault}
+use Rattle.base_types.specs.SlotsState.{SlotsState}
+use Rattle.base_types.proofs.SlotsCalls.{AreSlotCalls-none, AreSlotCalls-then, AreSlotCalls-fault, IsObservable-later}
+use Rattle.ordered_table.specs.Tables.{IsSlotOf, Overwrites, Inserts}
+use Rattle.slot_cache.specs.Lookups.{Locates}
 use Rattle.slot_cache.specs.Carrying.{LaysPage, laid_by, LaysPages, LayingPages}
+
+-- ---- one page
+
+-- its label was searched for, and the slots failed
+pub lays_failed : (d : Draw) (old mid : SlotsState) (page : Page) (l : Label) (fault : Fault) → Locates d old mid l (Err fault) → LaysPage {T = Unit {0}} d old mid page (Err fault)
+lays_failed d old mid page l fault located = record { calls = AreSlotCalls-fault old mid fault located.calls; laid = λ m observable holds room. tt }
+
+-- or it was found, and its page is overwritten
+pub lays_over : (d : Draw) (old mid new : SlotsState) (page : Page) (at : ℕ) (result : Result (Unit {0}) Fault) → Locates d old mid page.label (Ok (Some at)) → Overwrites d mid new at page result → LaysPage d old new page result
+lays_over d old mid new page at result located over = record {
+  calls = AreSlotCalls-then old mid new (Some at) result located.calls over.calls;
+  laid = λ m observable holds room.
+      let same = sym (located.reads observable) in
+      over.overwritten m (IsObservable-later old mid (Ok (Some at)) located.calls observable) (record {
+        holds = subst (λ (slots : List (List ℕ)). HoldsPages d slots m) same holds;
+        there = subst (λ (slots : List (List ℕ)). IsSlotOf slots m page.label at) same ((located.found m observable holds).slot);
+      });
+}
+
+-- or it was not, and the page is inserted
+pub lays_in : (d : Draw) (old mid new : SlotsState) (page : Page) (result : Result (Unit {0}) Fault) → Locates d old mid page.label (Ok None) → Inserts d mid new page result → LaysPage d old new page result
+lays_in d old mid new page result located inserts = record {
+  calls = AreSlotCalls-then old mid new None result located.calls inserts.calls;
+  laid = λ m observable holds room.
+      let none = (located.found m observable holds).absent.0 refl in
+      inserts.inserted m (IsObservable-later old mid (Ok None) located.calls observable) (record {
+        holds = subst (λ (slots : List (List ℕ)). HoldsPages d slots m) (sym (located.reads observable)) holds;
+        free = room none;
+        absent = none;
+      });
+}
+
+-- ---- several
 
 one_more : (b : Bool) (n : ℕ) → n ≤ cond b n (n + 1)
 one_more true n = omega arith

@@ -1,11 +1,6 @@
-pub mod CacheLemmas
 pub mod CarriedLemmas
 pub mod CarryLemmas
-pub mod ChangeLemmas
+pub mod KnownLemmas
 pub mod LayingLemmas
 pub mod LookupLemmas
-pub mod MapLemmas
-pub mod MemoLemmas
 pub mod OverlayLemmas
-pub mod SpelledLemmas
-pub mod StartLemmas

@@ -1,5 +1,5 @@
 -- Lemmas on what is found of a label.
-use Rattle.std.proofs.Common.{◌≡◌, ◌↔◌, ℕ, ◌<◌, Bool, true, false, List, Option, Some, None, IsNone, Result, Ok, Err, is_some, slice_get, refl, sym, ap, subst, ◌∙◌}
+use Rattle.std.proofs.Common.{◌≡◌, ◌↔◌, ℕ, ◌<◌, Bool, true, false, List, Option, Some, None, IsNone, IfSome, Result, Ok, Err, is_some, slice_get, refl, sym, ap, subst, ◌∙◌}
 use Rattle.std.proofs.lemmas.Option.{same_Some, none-some}
 use Rattle.std.specs.Map.{lookup}
 use Rattle.std.specs.BTreeMap.{is_at}
@@ -8,13 +8,13 @@ use Rattle.store_model.specs.Draws.{Draw}
 use Rattle.store_model.specs.Pages.{Page, IsPage}
 use Rattle.store_model.specs.Images.{page_bytes, slot_bytes}
 use Rattle.store_model.specs.PageMaps.{PageMap, page_at, HoldsPages}
-use Rattle.store_base.specs.declared.store_fault.Fault.{Fault}
-use Rattle.store_base.specs.SlotsState.{SlotsState, IsObservable, IsGet}
-use Rattle.store_base.proofs.SlotsCalls.{AreSlotCalls-none, AreSlotCalls-then, AreSlotCalls-value, IsObservable-later}
-use Rattle.ordered_table.specs.Tables.{IsSlotOf}
-use Rattle.slot_cache.specs.Staging.{Changes, with_changes}
-use Rattle.slot_cache.specs.Lookups.{Locates, Reads, ReadsChanged, Finds}
-use Rattle.slot_cache.proofs.ChangeLemmas.{page_or, page_at-with_changes}
+use Rattle.base_types.specs.declared.store_fault.Fault.{Fault}
+use Rattle.base_types.specs.SlotsState.{SlotsState, IsObservable, IsGet}
+use Rattle.base_types.proofs.SlotsCalls.{AreSlotCalls-none, AreSlotCalls-then, AreSlotCalls-value, AreSlotCalls-fault, IsObservable-later}
+use Rattle.ordered_table.specs.Tables.{IsSlotOf, Looks}
+use Rattle.slot_memory.specs.Staging.{Changes, with_changes}
+use Rattle.slot_cache.specs.Lookups.{Consults, Locates, LocatesAgain, Reads, ReadsChanged, Finds}
+use Rattle.slot_memory.proofs.ChangeLemmas.{page_or, page_at-with_changes}
 
 -- the page in the slot that was found
 pub page_read : (d : Draw) (old mid new : SlotsState) (l : Label) (at : ℕ) (buffer : List ℕ) (page : Option Page) → Locates d old mid l (Ok (Some at)) → IsGet {T = Unit {0}} mid new at buffer (Ok tt)
@@ -49,6 +49,76 @@ still_located d old new l at located = record {
       let was = located.found m before (subst (λ (slots : List (List ℕ)). HoldsPages d slots m) (located.reads before) holds) in
       record { absent = was.absent; slot = subst (λ (slots : List (List ℕ)). IsSlotOf slots m l at) (sym (located.reads before)) was.slot };
 }
+
+-- nothing is told where the slot of a hint lies behind the table
+pub again_untold : (d : Draw) (slots : SlotsState) (l : Label) → LocatesAgain d slots slots l (Ok None)
+again_untold d slots l = record { calls = AreSlotCalls-none slots None; reads = λ observable. refl; within = tt; found = λ m observable holds. tt }
+
+-- or does not hold the page
+pub again_missed : (d : Draw) (old new : SlotsState) (at : ℕ) (l : Label) (is_there : Bool) → Looks d old new at l (Ok is_there) → LocatesAgain d old new l (Ok None)
+again_missed d old new at l is_there looked = record { calls = AreSlotCalls-value old new is_there None looked.calls; reads = looked.reads; within = tt; found = λ m observable holds. tt }
+
+-- or where the slots fail
+pub again_failed : (d : Draw) (old new : SlotsState) (at : ℕ) (l : Label) (fault : Fault) → Looks d old new at l (Err fault) → LocatesAgain d old new l (Err fault)
+again_failed d old new at l fault looked = record { calls = AreSlotCalls-fault old new fault looked.calls; reads = looked.reads; within = tt; found = λ m observable holds. tt }
+
+-- the page is where it was found last
+pub located_again : (d : Draw) (old new : SlotsState) (l : Label) (at : ℕ) → LocatesAgain d old new l (Ok (Some at)) → Locates d old new l (Ok (Some at))
+located_again d old new l at again = record {
+  calls = again.calls;
+  reads = again.reads;
+  within = again.within;
+  found = λ m observable holds.
+      let there = again.found m observable holds in
+      record { absent = some_there (page_at m l) there.page there.in_map; slot = there };
+}
+  where
+    some_there : (o : Option Page) (page : Page) → o ≡ Some page → IsNone (Some at) ↔ (o ≡ None)
+    some_there o page is = (λ none. absurd (cc), λ empty. absurd (none-some page (sym empty ∙ is)))
+
+-- a look that failed
+pub located_failed : (d : Draw) (old new : SlotsState) (l : Label) (fault : Fault) → LocatesAgain d old new l (Err fault) → Locates d old new l (Err fault)
+located_failed d old new l fault again = record { calls = again.calls; reads = again.reads; within = tt; found = λ m observable holds. record { absent = tt; slot = tt } }
+
+-- a search behind a look that told nothing
+pub located_then : (d : Draw) (old mid new : SlotsState) (l : Label) (result : Result (Option ℕ) Fault) → LocatesAgain d old mid l (Ok None) → Locates d mid new l result → Locates d old new l result
+located_then d old mid new l (Ok found) again located = record {
+  calls = AreSlotCalls-then old mid new None (Ok found) again.calls located.calls;
+  reads = λ observable. located.reads (later observable) ∙ again.reads observable;
+  within = subst (λ (n : ℕ). IfSome found (λ at. at < n)) again.calls.count located.within;
+  found = λ m observable holds.
+      let is = located.found m (later observable) (subst (λ (slots : List (List ℕ)). HoldsPages d slots m) (sym (again.reads observable)) holds) in
+      record { absent = is.absent; slot = subst (λ (slots : List (List ℕ)). IfSome found (IsSlotOf slots m l)) (again.reads observable) is.slot };
+}
+  where
+    later : IsObservable old → IsObservable mid
+    later = IsObservable-later old mid (Ok None) again.calls
+located_then d old mid new l (Err fault) again located = record {
+  calls = AreSlotCalls-then old mid new None (Err fault) again.calls located.calls;
+  reads = λ observable. located.reads (IsObservable-later old mid (Ok None) again.calls observable) ∙ again.reads observable;
+  within = tt;
+  found = λ m observable holds. record { absent = tt; slot = tt };
+}
+
+-- the read of a slot only reads
+pub consults_get : (old new : SlotsState) (at : ℕ) (buffer : List ℕ) (result : Result (Unit {0}) Fault) → IsGet old new at buffer result → Consults old new result
+consults_get old new at buffer result got = record { calls = got.calls; reads = λ observable. (got.observed observable).slots }
+
+-- a search that found something, or nothing, or failed, only reads
+pub consults_found : (d : Draw) (old new : SlotsState) (l : Label) (found : Option ℕ) → Locates d old new l (Ok found) → Consults {T = Unit {0}} old new (Ok tt)
+consults_found d old new l found located = record { calls = AreSlotCalls-value old new found tt located.calls; reads = located.reads }
+
+pub consults_failed : (d : Draw) (old new : SlotsState) (l : Label) (fault : Fault) → Locates d old new l (Err fault) → Consults {T = Unit {0}} old new (Err fault)
+consults_failed d old new l fault located = record { calls = AreSlotCalls-fault old new fault located.calls; reads = located.reads }
+
+pub consults_then : (d : Draw) (old mid new : SlotsState) (l : Label) (found : Option ℕ) (result : Result (Unit {0}) Fault) → Locates d old mid l (Ok found) → Consults mid new result → Consults old new result
+consults_then d old mid new l found result located then = record {
+  calls = AreSlotCalls-then old mid new found result located.calls then.calls;
+  reads = λ observable. then.reads (IsObservable-later old mid (Ok found) located.calls observable) ∙ located.reads observable;
+}
+
+pub finds_failed : (d : Draw) (old new : SlotsState) (changes : Changes) (l : Label) (fault : Fault) → Locates d old new l (Err fault) → Finds d old new changes l (Err fault)
+finds_failed d old new changes l fault located = record { calls = AreSlotCalls-fault old new fault located.calls; reads = located.reads; found = λ m observable holds. tt }
 
 -- where something is staged under the label
 staged_is : (m : PageMap) (changes : Changes) (l : Label) (page : Option Page) → Some page ≡ lookup (is_at (label_cmp l)) changes → page ≡ page_at (with_changes m changes) l

@@ -1,5 +1,5 @@
 -- Lemmas on slots over a disk.
-use Rattle.std.proofs.Common.{◌≡◌, ℕ, zero, suc, ◌+◌, ◌<◌, ◌≤◌, Bool, true, false, cond, List, ◌∷◌, map, Option, Some, None, slice_get, slice_set, refl, sym, ap, ap₂, subst, ◌∙◌, arith}
+use Rattle.std.proofs.Common.{◌≡◌, ℕ, zero, suc, ◌+◌, ◌<◌, ◌≤◌, Bool, cond, List, ◌∷◌, map, Option, Some, None, slice_get, slice_set, refl, sym, ap, ap₂, subst, ◌∙◌, arith}
 use Rattle.std.specs.Prelude.{Result, Ok, Err}
 use Rattle.std.specs.BTreeMap.{is_at}
 use Rattle.std.specs.declared.cmp.Ordering.{Ordering}
@@ -7,19 +7,21 @@ use Rattle.std.specs.Ordering.{nat_cmp}
 use Rattle.std.proofs.lemmas.Option.{same_Some}
 use Rattle.store_model.specs.Lists.{numbers_from, numbers_below}
 use Rattle.std.proofs.lemmas.Bool.{false≢true}
-use Rattle.store_base.specs.declared.fault.DiskFault.{DiskFault}
-use Rattle.store_base.specs.declared.store_fault.Fault.TheVariants as causes
-use Rattle.store_base.specs.SlotsState.{IsGet, IsSet}
-use Rattle.store_base.proofs.SlotsCalls.{AreSlotCalls-none}
+use Rattle.base_types.specs.declared.fault.DiskFault.{DiskFault}
+use Rattle.base_types.specs.declared.store_fault.Fault.TheVariants as causes
+use Rattle.base_types.specs.SlotsState.{IsGet, IsSet}
+use Rattle.base_types.proofs.SlotsCalls.{AreSlotCalls-none}
 use Rattle.store_model.specs.Parameters.{Parameters}
 use Rattle.disk_model.specs.DiskState.{DiskState, IsObservable}
-use Rattle.gate_journal.specs.Places.{AreCalls, ReadsOnly}
-use Rattle.gate_journal.specs.ViewState.{KeepsView}
-use Rattle.gate_journal.specs.Phases.{table_slot}
-pub use Rattle.gate_journal.proofs.Slots.{get_number}
+use Rattle.journal_steps.specs.Places.{AreCalls, ReadsOnly}
+use Rattle.journal_steps.specs.ViewState.{KeepsView}
+use Rattle.journal_steps.specs.Phases.{table_slot}
+pub use Rattle.journal_steps.proofs.Slots.{get_number}
 use Rattle.ordered_table.specs.Tables.{TellsOrder, Orders}
-use Rattle.slot_cache.specs.Caches.{Kept, ReadsSlot, TellsOfSlot}
-use Rattle.slot_cache.specs.OverlayState.{touched_at, bytes_or, slot_over, overlaid}
+use Rattle.slot_memory.specs.Caches.{Kept, ReadsSlot, TellsOfSlot}
+use Rattle.slot_memory.specs.OverlayState.{touched_at, bytes_or, slot_over, overlaid}
+use Rattle.slot_cache.specs.declared.label_order.LabelOrder.{LabelOrder}
+use Rattle.slot_memory.proofs.TouchedLemmas.{at_itself, at_other}
 
 -- slots that are the same, one by one
 same_numbers : (f g : ℕ → List ℕ) (first count : ℕ) → ((j : ℕ) → first ≤ j → j < first + count → g j ≡ f j) → map g (numbers_from first count) ≡ map f (numbers_from first count)
@@ -37,13 +39,6 @@ set_number f g first (suc count) zero slot below here others =
 set_number f g first (suc count) (suc at) slot below here others =
     let there : suc first + at ≡ first + suc at = omega arith in
     ap₂ (λ (x : List ℕ) (xs : List (List ℕ)). x ∷ xs) (others first (λ e. absurd (omega (arith, e)))) (set_number f g (suc first) count at slot (omega arith) (ap g there ∙ here) (λ j other. others j (λ e. other (e ∙ sym there))))
-
-pub at_itself : (n : ℕ) → is_at (nat_cmp n) n ≡ true
-at_itself n = grind arith
-
-pub at_other : (n m : ℕ) (b : Bool) → is_at (nat_cmp n) m ≡ b → (m ≡ n → ⊥) → b ≡ false
-at_other n m true is other = absurd (other (grind (arith, is)))
-at_other n m false is other = refl
 
 -- a slot is written
 pub slots_set : (slots : ℕ) (old new : List (ℕ × List ℕ)) (image : List ℕ) (at : ℕ) (slot : List ℕ) → at < slots → ((q : ℕ) → touched_at new q ≡ cond (is_at (nat_cmp at) q) (Some slot) (touched_at old q))
@@ -70,13 +65,13 @@ orders_touched slots touched disk at slot wanted order below written tells = rec
 }
 
 -- and where it was not
-pub orders_below : (slots : ℕ) (touched : List (ℕ × List ℕ)) (old new : DiskState) (kept : Kept) (at : ℕ) (wanted : List ℕ) (order : Option Ordering) → at < slots → touched_at touched at ≡ None
-    → TellsOfSlot slots at old new kept (λ slot told. TellsOrder slot wanted told) (Ok order) → Orders (overlaid slots touched old) (overlaid slots touched new) at wanted (Ok order)
-orders_below slots touched old new kept at wanted order below unwritten tells = record {
+pub orders_below : (slots : ℕ) (touched : List (ℕ × List ℕ)) (old new : DiskState) (kept : Kept) (at : ℕ) (wanted : List ℕ) (told : LabelOrder) → at < slots → touched_at touched at ≡ None
+    → TellsOfSlot slots at old new kept (λ slot told. TellsOrder slot wanted told.order) (Ok told) → Orders (overlaid slots touched old) (overlaid slots touched new) at wanted (Ok told.order)
+orders_below slots touched old new kept at wanted told below unwritten tells = record {
   calls = record { count = refl; observable = tells.calls.observable; takes_none = refl; faults = tells.calls.faults; cause = tt };
   reads = λ observable. ap (λ (image : List ℕ). map (slot_over slots touched image) (numbers_below slots)) (tells.reads observable).bytes;
   told = λ there observable is.
-      subst (λ (bytes : List ℕ). TellsOrder bytes wanted order) (same_Some (table_slot slots old.bytes at) there (sym (get_over slots touched old.bytes at None below unwritten) ∙ is)) (tells.told observable);
+      subst (λ (bytes : List ℕ). TellsOrder bytes wanted told.order) (same_Some (table_slot slots old.bytes at) there (sym (get_over slots touched old.bytes at None below unwritten) ∙ is)) (tells.told observable);
 }
 
 -- ---- what fails, and what is kept below
@@ -86,7 +81,7 @@ pub view_read : {T : Type 0} (p : Parameters) (old new : DiskState) (result : Re
 view_read p old new result calls reads = record { params = refl; size = calls.size; observable = calls.observable; rise = calls.rise; writes = calls.writes; syncs = calls.syncs; reads = reads }
 
 -- the disk failed where a label was compared
-pub orders_failed : (slots : ℕ) (touched : List (ℕ × List ℕ)) (old new : DiskState) (kept : Kept) (at : ℕ) (wanted : List ℕ) (IsOf : List ℕ → Option Ordering → Type 0) (fault : DiskFault) → TellsOfSlot slots at old new kept IsOf (Err fault)
+pub orders_failed : (slots : ℕ) (touched : List (ℕ × List ℕ)) (old new : DiskState) (kept : Kept) (at : ℕ) (wanted : List ℕ) (IsOf : List ℕ → LabelOrder → Type 0) (fault : DiskFault) → TellsOfSlot slots at old new kept IsOf (Err fault)
     → Orders (overlaid slots touched old) (overlaid slots touched new) at wanted (Err causes.Disk)
 orders_failed slots touched old new kept at wanted IsOf fault tells = record {
   calls = record { count = refl; observable = tells.calls.observable; takes_none = refl; faults = tells.calls.faults; cause = tt };

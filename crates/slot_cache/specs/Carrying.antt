@@ -5,9 +5,9 @@ use Rattle.store_model.specs.Labels.{Label}
 use Rattle.store_model.specs.Draws.{Draw}
 use Rattle.store_model.specs.Pages.{Page}
 use Rattle.store_model.specs.PageMaps.{PageMap, page_at, with_page, without_page, IsPageMap, HoldsPages}
-use Rattle.store_base.specs.declared.store_fault.Fault.{Fault}
-use Rattle.store_base.specs.SlotsState.{SlotsState, IsObservable, AreSlotCalls}
-use Rattle.slot_cache.specs.Staging.{Changes, with_changes}
+use Rattle.base_types.specs.declared.store_fault.Fault.{Fault}
+use Rattle.base_types.specs.SlotsState.{SlotsState, IsObservable, AreSlotCalls}
+use Rattle.slot_memory.specs.Staging.{Changes, with_changes}
 
 -- the page under a label is taken away, if there is one
 pub record TakesPage {T : Type 0} (d : Draw) (old new : SlotsState) (l : Label) (result : Result T Fault) : Type 0 where

@@ -1,10 +1,3 @@
-pub mod Caches
 pub mod Carrying
-pub mod Codes
 pub mod Lookups
-pub mod Memos
-pub mod OverlayState
 pub mod Overlays
-pub mod Spelled
-pub mod Staging
-pub mod Starts

@@ -5,10 +5,10 @@ use Rattle.store_model.specs.Labels.{Label, label_bytes}
 use Rattle.store_model.specs.Draws.{Draw}
 use Rattle.store_model.specs.Pages.{Page}
 use Rattle.store_model.specs.PageMaps.{PageMap, page_at, HoldsPages}
-use Rattle.store_base.specs.declared.store_fault.Fault.{Fault}
-use Rattle.store_base.specs.SlotsState.{SlotsState, IsObservable, AreSlotCalls}
+use Rattle.base_types.specs.declared.store_fault.Fault.{Fault}
+use Rattle.base_types.specs.SlotsState.{SlotsState, IsObservable, AreSlotCalls}
 use Rattle.ordered_table.specs.Tables.{IsSlotOf}
-use Rattle.slot_cache.specs.Staging.{Changes, with_changes}
+use Rattle.slot_memory.specs.Staging.{Changes, with_changes}
 
 -- a call that only reads slots
 pub record Consults {T : Type 0} (old new : SlotsState) (result : Result T Fault) : Type 0 where

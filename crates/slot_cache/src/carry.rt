@@ -4,17 +4,17 @@ ghost use Rattle.std.specs.Prelude.{◌≡◌};
 ghost use Rattle.std.specs.BTreeMap.{IsOrdered, values};
 ghost use Rattle.store_model.specs.Labels.{label_cmp};
 ghost use Rattle.slot_cache.specs.Carrying.{TakesPage, LaysPage, TakesPages, LaysPages, CarriesOut};
-ghost use Rattle.slot_cache.specs.Starts.{AreStarts};
+ghost use Rattle.slot_memory.specs.Starts.{AreStarts};
 
-use crate::boxed::Boxed;
-use crate::hints::Hints;
 use crate::search::locate;
-use node_pages::Page;
+use base_types::{Fault, Slots};
 use ordered_table::{OrderSlots, insert_from, overwrite};
+use page_labels::Label;
+use page_values::Page;
 use seeded_draw::Draw;
 use shift_remove::remove;
+use slot_memory::{Boxed, Hints};
 use std::collections::BTreeMap;
-use store_base::{Fault, Label, Slots};
 
 /// Takes the page of the label away from the slots, if they hold one. A fault of the slots ends the call; nothing is
 /// promised of the slots after it.

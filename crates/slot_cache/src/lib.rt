@@ -1,30 +1,19 @@
-//! What is kept in memory of the table of an image: slots that were read or written, and what was found in it.
+//! The table of an image through what is kept of it in memory (`slot_memory`): pages are looked up, and changes carried out.
 //!
-//! Up to 64 slots that were read last are kept (`SlotCache`), each as the table of the disk has it, and are not read again;
-//! those that were written lie over them (`Overlay`). What was found under up to 227 labels is remembered too (`PageMemo`),
-//! and is not looked up again. The slot where a page was found last is looked at first (`Hints`), so that for most pages no
-//! start is drawn; and the starts that were drawn last are kept. Pages are looked up through all of these, and changes of
-//! pages are carried out on slots. Nothing is written to a disk here.
+//! Slots that were written lie over those of the disk (`Overlay`), which are read through a cache. What is remembered of a label
+//! is not looked up again. The slot where a page was found last is looked at first, so that for most pages no start is drawn.
+//! Changes of pages are carried out on slots. Nothing is written to a disk here.
 #![tactic(auto)]
 
-mod boxed;
-mod cache;
 mod carry;
-mod hints;
-mod maps;
-mod memo;
+mod label_order;
 mod overlay;
 mod search;
-mod spares;
-mod told;
 
-pub use boxed::{Boxed, behind};
-pub use cache::{SlotCache, read_slot, tell_slot};
 pub use carry::carry_out;
-pub use hints::Hints;
-pub use maps::empty;
-pub use memo::{PageMemo, place_of};
+pub use label_order::LabelOrder;
 pub use overlay::Overlay;
 pub use search::{has_page, known, learn};
-pub use spares::Spares;
-pub use told::Told;
+pub use slot_memory::{
+    Boxed, Hints, PageMemo, SlotCache, Spares, Told, behind, empty, place_of, read_slot, tell_slot,
+};

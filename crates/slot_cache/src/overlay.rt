@@ -3,19 +3,20 @@
 ghost use Rattle.std.specs.Prelude.{◌≡◌, ◌<◌, ℕ, List, length, Some, []};
 ghost use Rattle.store_model.specs.Parameters.{image_len, block_len};
 ghost use Rattle.disk_model.specs.DiskState.{IsObservable};
-ghost use Rattle.slot_cache.specs.Caches.{IsCacheOf};
-ghost use Rattle.slot_cache.specs.OverlayState.{touched_at, overlaid, overlaid_count, overlaid_whole};
-ghost use Rattle.gate_journal.specs.ViewState.{KeepsView, KeepsView-refl, KeepsView-trans};
+ghost use Rattle.slot_memory.specs.Caches.{IsCacheOf};
+ghost use Rattle.slot_memory.specs.OverlayState.{touched_at, overlaid, overlaid_count, overlaid_whole};
+ghost use Rattle.journal_steps.specs.ViewState.{KeepsView, KeepsView-refl, KeepsView-trans};
 
-use crate::boxed::Boxed;
-use crate::cache::{SlotCache, read_slot, tell_slot};
-use crate::spares::Spares;
+use crate::label_order::LabelOrder;
+use base_types::{Fault, ReadSlots, Slots};
 use disk_model::Disk;
+use image_areas::Params;
 use ordered_table::{OrderSlots, order_of};
+use slot_memory::{Boxed, SlotCache, Spares, read_slot, tell_slot};
 use std::alloc::Global;
 use std::cmp::Ordering;
 use std::collections::BTreeMap;
-use store_base::{Fault, Params, ReadSlots, Slot, Slots};
+use store_model::Slot;
 
 /// The slots of the table of a disk, of which those that were written are kept in memory, and those that were read last.
 /// The disk is only read.
@@ -108,7 +109,8 @@ impl<D: Disk> OrderSlots for Overlay<D> {
             return Ok(order_of(slot.get(), wanted));
         }
         let slots = self.params.slots();
-        Ok(tell_slot(&mut self.disk, &mut self.cache, slots, at, wanted)?)
+        let LabelOrder { order } = tell_slot(&mut self.disk, &mut self.cache, slots, at, wanted)?;
+        Ok(order)
     }
 }
 

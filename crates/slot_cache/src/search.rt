@@ -3,21 +3,21 @@
 ghost use Rattle.std.specs.Prelude.{◌≡◌, ◌<◌, None, IfSome, IsNone};
 ghost use Rattle.store_model.specs.Labels.{label_bytes};
 ghost use Rattle.slot_cache.specs.Lookups.{Consults, Locates, LocatesAgain, Finds};
-ghost use Rattle.slot_cache.specs.Memos.{place_of, IsKnown, IsMemoOf, staged_at};
-ghost use Rattle.slot_cache.specs.Starts.{AreStarts};
+ghost use Rattle.slot_memory.specs.Memos.{place_of, IsKnown, IsMemoOf, staged_at};
+ghost use Rattle.slot_memory.specs.Starts.{AreStarts};
 
-use crate::boxed::Boxed;
-use crate::hints::Hints;
-use crate::memo::{PageMemo, place_of};
-use node_pages::{Page, decode_page};
+use base_types::Fault;
 use ordered_table::{OrderSlots, Steps, find_from, holds};
+use page_labels::Label;
+use page_values::{Page, decode_page};
 use seeded_draw::Draw;
+use slot_memory::{Boxed, Hints, PageMemo, place_of};
 use std::collections::BTreeMap;
 use std::marker::Brand;
 use std::sync::ledger::{Blank, Ledger};
-use store_base::{BLOCK, Fault, Label};
+use store_model::BLOCK;
 
-/// As `locate_from`, with a ledger for its steps.
+/// As `locate`, from the start of the label, with a ledger for the steps.
 fn locate_counted<S: OrderSlots, W: Draw, L: Ledger>(
     slots: &mut S,
     draw: &W,
@@ -34,21 +34,6 @@ fn locate_counted<S: OrderSlots, W: Draw, L: Ledger>(
     ensures follows { S.follows slots.old slots.new }
 {
     find_from(slots, draw, start, label, &mut Steps::<L>::new(blank))
-}
-
-/// As `locate`, from the start of the label.
-fn locate_from<S: OrderSlots, W: Draw>(
-    slots: &mut S,
-    draw: &W,
-    start: u32,
-    label: &Label,
-) -> Result<Option<u32>, Fault>
-    requires count { (S.state slots.old).count ≡ (W.drawn draw.now).slots }
-    requires start { start ≡ (W.drawn draw.now).start label.now }
-    ensures call { Locates (W.drawn draw.now) (S.state slots.old) (S.state slots.new) label.now result }
-    ensures follows { S.follows slots.old slots.new }
-{
-    locate_counted::<S, W, Brand>(slots, draw, start, label, Blank::new(1))
 }
 
 /// The slot where the page of the label was found last, if it holds the page still; `None` tells nothing.
@@ -90,14 +75,14 @@ pub fn locate<S: OrderSlots, W: Draw>(
         return Ok(Some(at));
     }
     let start = hints.start(draw, label);
-    let found = locate_from(slots, draw, start, label)?;
+    let found = locate_counted::<S, W, Brand>(slots, draw, start, label, Blank::new(1))?;
     hints.keep(label, found);
     Ok(found)
 }
 
 /// Has remembered the page in slot `at`, which was found under the label, where there is memory for it. A slot that holds no
 /// page, as only slots that are not observable may, is as one that was not found.
-// It stands apart from `look_up`, each call of which would clear its page.
+// It stands apart from `learn`, each call of which would clear its page.
 #[inline(never)]
 fn remember_at<S: OrderSlots, W: Draw>(
     slots: &mut S,
@@ -116,29 +101,6 @@ fn remember_at<S: OrderSlots, W: Draw>(
     slots.get(at, &mut slot)?;
     memo.remember(label, decode_page(&slot));
     Ok(())
-}
-
-/// Has remembered what the slots hold under the label, where there is memory for it.
-fn look_up<S: OrderSlots, W: Draw>(
-    slots: &mut S,
-    draw: &W,
-    hints: &mut Hints,
-    memo: &mut PageMemo,
-    label: &Label,
-) -> Result<(), Fault>
-    requires count { (S.state slots.old).count ≡ (W.drawn draw.now).slots }
-    requires remembered { IsMemoOf (W.drawn draw.now) (S.state slots.old) memo.old }
-    requires starts { AreStarts (W.drawn draw.now) hints.old }
-    ensures call { Consults (S.state slots.old) (S.state slots.new) result }
-    ensures remembered { IsMemoOf (W.drawn draw.now) (S.state slots.new) memo.new }
-    ensures follows { S.follows slots.old slots.new }
-    ensures starts { AreStarts (W.drawn draw.now) hints.new }
-{
-    let Some(at) = locate(slots, draw, hints, label)? else {
-        memo.remember_none(label);
-        return Ok(());
-    };
-    remember_at(slots, draw, memo, at, label)
 }
 
 /// What is known of the label, whose place in the memo this is, by the changes, or else by the memo: a page, or that there
@@ -183,7 +145,11 @@ pub fn learn<S: OrderSlots, W: Draw>(
     if memo.recall(place, label).is_some() || changes.contains_key(label) {
         return Ok(());
     }
-    look_up(slots, draw, hints, memo, label)
+    let Some(at) = locate(slots, draw, hints, label)? else {
+        memo.remember_none(label);
+        return Ok(());
+    };
+    remember_at(slots, draw, memo, at, label)
 }
 
 /// Whether there is a page under the label, by the changes, or else by the memo, or else by the slots.

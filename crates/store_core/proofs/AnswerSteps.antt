@@ -1,8 +1,7 @@
 -- Commands that are answered from the pairs in staged pages.
 use Rattle.std.proofs.Common.{◌≡◌, false, List, Result, Ok, Err, IfOk, OnOk, refl, sym, ap, subst, ◌∙◌}
-use Rattle.store_model.specs.declared.refusal.Refusal.{Refusal}
-use Rattle.store_base.specs.declared.store_fault.Fault.{Fault}
-use Rattle.store_base.specs.declared.store_fault.Fault.TheVariants as causes
+use Rattle.base_types.specs.declared.store_fault.Fault.{Fault}
+use Rattle.base_types.specs.declared.store_fault.Fault.TheVariants as causes
 use Rattle.store_model.specs.Parameters.{Parameters}
 use Rattle.store_model.specs.Trees.{Tree}
 use Rattle.store_model.specs.Draws.{Draw, draw_of}
@@ -18,17 +17,19 @@ use Rattle.script_lines.specs.declared.reply.Reply.TheVariants as replies
 use Rattle.script_lines.specs.Replies.{reply_of}
 use Rattle.skip_levels.specs.Descent.{HoldsPairs}
 use Rattle.ordered_pairs.specs.PairsState.{PairsState}
-use Rattle.tree_pairs.specs.TreeCalls.{uncounted_step, CarriesOut}
+use Rattle.tree_pairs.specs.TreeCalls.{uncounted_step}
 use Rattle.page_store.specs.StagedState.{StagedState, IsTold, Follows}
-use Rattle.store_core.specs.declared.fault.ApplyFault.{ApplyFault}
-use Rattle.store_core.specs.declared.fault.ApplyFault.TheVariants as apply
-use Rattle.store_core.specs.Answers.{IsReplyOf, IsReplyAt, AnswersBy, AnswersAt, change_reply}
-use Rattle.store_core.specs.Faults.{apply_fault_of}
-use Rattle.store_core.specs.Standing.{IsFitting}
+use Rattle.store_standing.specs.declared.fault.ApplyFault.{ApplyFault}
+use Rattle.store_standing.specs.declared.fault.ApplyFault.TheVariants as apply
+use Rattle.tree_commands.specs.Answers.{IsReplyOf}
+use Rattle.tree_commands.specs.Counted.{counted_step}
+use Rattle.tree_commands.proofs.StepLemmas.{acked_step, answered_step, uncounted_tree}
+use Rattle.store_core.specs.Answers.{IsReplyAt, AnswersAt}
+use Rattle.store_standing.specs.Faults.{apply_fault_of}
+use Rattle.store_standing.specs.Standing.{IsFitting}
 use Rattle.store_core.specs.StagedTree.{AreAt, IsStagedFor}
-use Rattle.store_core.specs.Steps.{counted_step, EndsStep}
+use Rattle.store_core.specs.Steps.{EndsStep}
 use Rattle.store_core.proofs.StagedSteps.{read_step, behind_reads, told_as}
-use Rattle.store_core.proofs.StepLemmas.{acked_step, answered_step, uncounted_tree}
 use Rattle.store_core.proofs.TreePages.{tree_holds}
 use Rattle.store_core.proofs.Unchanged.{stands_reading}
 
@@ -45,12 +46,6 @@ pub list_at : {D : Type 0} (state : D → DiskState) (p : Parameters) (staged : 
 list_at state p staged d drawn some told =
     let holds = tree_holds some.0 p staged.map some.1.0 (some.1.1.held told.disk told.runs).map_is in
     (pairs some.0 p, subst (λ (e : Draw). HoldsPairs e (pairs some.0 p) staged.map) (sym drawn) holds)
-
--- a change that a call carries out is answered so
-pub carried_reply : {T : Type 0} (c : Command) (old new : PairsState) (r : Result (Result T Refusal) Fault) → CarriesOut (λ _. Acknowledged) c old new r → AnswersBy c old new (change_reply r)
-carried_reply c old new (Ok (Ok value)) is = record { faults = is.faults; observable = is.observable; answered = λ seen t p holds. let step = is.carried seen t p holds in record { reply_is = step.reply; pairs_are = step.pairs_are } }
-carried_reply c old new (Ok (Err refusal)) is = record { faults = is.faults; observable = is.observable; answered = λ seen t p holds. let step = is.carried seen t p holds in record { reply_is = step.reply; pairs_are = step.pairs_are } }
-carried_reply c old new (Err fault) is = record { faults = is.faults; observable = is.observable; answered = λ seen t p holds. tt }
 
 module _ {D : Type 0} (state : D → DiskState) (t : Tree) (c : Command) (p : Parameters) (old mid : StagedState D AnyDraw) (fit : IsFitting t p) (at : AreAt state t p old) (runs : old.is_spent ≡ false) (command : IsCommand c) where
   -- it is acknowledged, and the pages of the next tree are staged

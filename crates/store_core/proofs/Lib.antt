@@ -5,7 +5,6 @@ pub mod DiskLemmas
 pub mod ListSteps
 pub mod OpeningLemmas
 pub mod StagedSteps
-pub mod StepLemmas
 pub mod StoreSteps
 pub mod TreePages
 pub mod Unchanged

@@ -1,7 +1,7 @@
 -- The list of a tree over its staged pages: what it holds, and what it knows, as these change.
 use Rattle.std.proofs.Common.{◌≡◌, ◌<◌, Bool, true, false, List, length, Option, Result, Ok, Err, sym, ap, subst, ◌∙◌}
 use Rattle.store_model.specs.declared.refusal.Refusal.{Refusal}
-use Rattle.store_base.specs.declared.store_fault.Fault.{Fault}
+use Rattle.base_types.specs.declared.store_fault.Fault.{Fault}
 use Rattle.store_model.specs.Parameters.{Parameters}
 use Rattle.store_model.specs.Trees.{Tree}
 use Rattle.store_model.specs.Draws.{Draw, draw_of}
@@ -24,10 +24,12 @@ use Rattle.tree_pairs.specs.TreeCalls.{pairs_limit, uncounted_step, CarriesOut}
 use Rattle.page_store.specs.StagedState.{StagedState, IsTold, Follows, pages_state}
 use Rattle.page_store.specs.declared.fault.SettleFault.{SettleFault}
 use Rattle.page_store.specs.Settling.{Settles}
-use Rattle.store_core.specs.Answers.{AnswersBy, AnswersAt, change_reply}
+use Rattle.tree_commands.specs.Answers.{AnswersBy, change_reply}
+use Rattle.tree_commands.proofs.ReplyLemmas.{carried_reply}
+use Rattle.tree_commands.proofs.StepLemmas.{uncounted_still}
+use Rattle.store_core.specs.Answers.{AnswersAt}
 use Rattle.store_core.specs.StagedTree.{TreeList, IsStagedFor, IsListAt, HoldsTable}
-use Rattle.store_core.proofs.AnswerSteps.{reply_at, carried_reply}
-use Rattle.store_core.proofs.StepLemmas.{uncounted_still}
+use Rattle.store_core.proofs.AnswerSteps.{reply_at}
 use Rattle.store_core.proofs.TreePages.{few_pairs, tree_holds, tree_valid, held_map}
 
 -- ---- pages that stay

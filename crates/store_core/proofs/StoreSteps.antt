@@ -6,25 +6,30 @@ use Rattle.store_model.specs.Trees.{Tree}
 use Rattle.store_model.specs.Images.{layout}
 use Rattle.store_model.specs.Commands.{Command, IsCommand}
 use Rattle.store_model.specs.Steps.{step}
+use Rattle.store_model.proofs.TreesLemmasFits.{Fits-step}
+use Rattle.store_model.proofs.TreesLemmasSteps.{IsTree-step}
 use Rattle.disk_model.specs.DiskState.{DiskState, IsObservable}
 use Rattle.seeded_draw.specs.AnyDrawn.{any_draw}
 use Rattle.script_lines.specs.declared.reply.Reply.{Reply}
 use Rattle.script_lines.specs.InPlace.{in_place}
-use Rattle.store_core.specs.declared.fault.ApplyFault.{ApplyFault}
-use Rattle.store_core.specs.declared.fault.ApplyFault.TheVariants as apply
+use Rattle.store_standing.specs.declared.fault.ApplyFault.{ApplyFault}
+use Rattle.store_standing.specs.declared.fault.ApplyFault.TheVariants as apply
 use Rattle.store_core.specs.Known.{KnownState, SettlesKnown}
-use Rattle.store_core.specs.Standing.{IsFitting, Stands}
+use Rattle.store_standing.specs.Standing.{IsFitting, Stands}
 use Rattle.store_core.specs.StagedTree.{TreeList, HoldsPages, IsListAt, GoesOn}
 use Rattle.store_core.specs.Steps.{StepsPages, EndsStep}
 use Rattle.store_core.specs.StoreCalls.{Applies}
 use Rattle.store_core.specs.StoreFields.{HoldsKnown}
 use Rattle.store_core.specs.StoreState.{StoreState}
-use Rattle.store_core.proofs.StepLemmas.{fitting_step}
 use Rattle.store_core.proofs.Unchanged.{stands_reading, keeps_itself}
 
 -- a store with these fields, as it is seen
 abbrev pub store_of : {D : Type 0} → KnownState D → TreeList D → StoreState D
 store_of known list = record { params = known.params; tree = known.tree; disk = list.pages.disk; is_stopped = list.pages.is_spent }
+
+-- the step of a command leads from a tree that fits to one that does
+fitting_step : (t : Tree) (c : Command) (p : Parameters) → IsFitting t p → IsCommand c → IsFitting (step t c p).tree p
+fitting_step t c p fitting is = record { in_range = fitting.in_range; tree = IsTree-step t c p fitting.tree is; fits = Fits-step t c p fitting.tree fitting.fits }
 
 -- a store that is stopped does nothing
 pub stopped : {D : Type 0} (state : D → DiskState) (command : Command) (store : StoreState D) → store.is_stopped ≡ true → Applies state command store store (Err apply.Stopped)

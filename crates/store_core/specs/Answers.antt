@@ -1,67 +1,20 @@
--- What answers a command from the pairs of a tree, and from its pages.
-use Rattle.std.specs.Prelude.{◌≡◌, Bool, true, false, Result, Ok, Err, IfOk, OnOk}
-use Rattle.store_model.specs.declared.refusal.Refusal.{Refusal}
+-- What answers a command from the pages of a tree.
+use Rattle.std.specs.Prelude.{◌≡◌, Result, IfOk}
 use Rattle.store_model.specs.Parameters.{Parameters}
 use Rattle.store_model.specs.Trees.{Tree}
 use Rattle.store_model.specs.Draws.{draw_of}
 use Rattle.store_model.specs.Pairs.{pairs}
 use Rattle.store_model.specs.Commands.{Command}
-use Rattle.store_model.specs.Commands.Command.{Make, Write, Cut, Rename, Remove, Prune, ListChildren, Read, Space, Digest}
 use Rattle.store_model.specs.Steps.{Step}
-use Rattle.store_base.specs.declared.store_fault.Fault.{Fault}
-use Rattle.store_base.specs.Faults.{disk_faults_after}
-use Rattle.disk_model.specs.DiskState as disks
+use Rattle.base_types.specs.declared.store_fault.Fault.{Fault}
+use Rattle.base_types.specs.Faults.{disk_faults_after}
+use Rattle.disk_model.specs.DiskState.{DiskState, IsObservable}
 use Rattle.seeded_draw.specs.declared.any.AnyDraw.{AnyDraw}
 use Rattle.script_lines.specs.declared.reply.Reply.{Reply}
-use Rattle.script_lines.specs.declared.reply.Reply.TheVariants as replies
 use Rattle.script_lines.specs.Replies.{reply_of}
-use Rattle.ordered_pairs.specs.PairsState.{PairsState, IsObservable}
 use Rattle.skip_levels.specs.Descent.{HoldsPairs}
-use Rattle.tree_pairs.specs.TreeCalls.{HoldsTree, uncounted_step}
+use Rattle.tree_pairs.specs.TreeCalls.{uncounted_step}
 use Rattle.page_store.specs.StagedState.{StagedState, Follows}
-
--- whether a command may change the tree
-abbrev pub is_change : Command → Bool
-is_change (Make p) = true
-is_change (Write p at bytes) = true
-is_change (Cut p len) = true
-is_change (Rename p q) = true
-is_change (Remove p) = true
-is_change (Prune p) = true
-is_change (ListChildren p) = false
-is_change (Read p at len) = false
-is_change Space = false
-is_change Digest = false
-
--- whether a command only looks at the pairs of the tree
-abbrev pub is_look : Command → Bool
-is_look (Make p) = false
-is_look (Write p at bytes) = false
-is_look (Cut p len) = false
-is_look (Rename p q) = false
-is_look (Remove p) = false
-is_look (Prune p) = false
-is_look (ListChildren p) = true
-is_look (Read p at len) = true
-is_look Space = false
-is_look Digest = false
-
--- how a change that ended so is answered
-abbrev pub change_reply : {T F : Type 0} → Result (Result T Refusal) F → Result Reply F
-change_reply (Ok (Ok value)) = Ok replies.Ok
-change_reply (Ok (Err refusal)) = Ok (replies.No refusal)
-change_reply (Err fault) = Err fault
-
--- the reply is the step's, and the pairs are those of its tree
-pub record IsReplyOf (to : Step) (p : Parameters) (new : PairsState) (reply : Reply) : Type 0 where
-  pub reply_is : reply_of reply ≡ to.reply
-  pub pairs_are : new.pairs ≡ pairs to.tree p
-
--- A command is carried out on a list of pairs, `full` apart. After a fault nothing is promised of the pairs.
-pub record AnswersBy (command : Command) (old new : PairsState) (result : Result Reply Fault) : Type 0 where
-  pub faults : new.faults ≡ disk_faults_after old.faults result
-  pub observable : IsObservable old → OnOk result (IsObservable new)
-  pub answered : IsObservable old → (t : Tree) (p : Parameters) → HoldsTree old t p → IfOk result (IsReplyOf (uncounted_step t command p) p new)
 
 -- the reply is the step's, and the staged pages are those of its tree
 pub record IsReplyAt {D : Type 0} (to : Step) (p : Parameters) (new : StagedState D AnyDraw) (reply : Reply) : Type 0 where
@@ -70,7 +23,7 @@ pub record IsReplyAt {D : Type 0} (to : Step) (p : Parameters) (new : StagedStat
 
 -- A command is carried out on staged pages that are those of a tree, `full` apart: what it changes is staged. After a fault
 -- nothing is promised of what is staged.
-pub record AnswersAt {D : Type 0} (state : D → disks.DiskState) (command : Command) (t : Tree) (p : Parameters) (old new : StagedState D AnyDraw) (result : Result Reply Fault) : Type 0 where
+pub record AnswersAt {D : Type 0} (state : D → DiskState) (command : Command) (t : Tree) (p : Parameters) (old new : StagedState D AnyDraw) (result : Result Reply Fault) : Type 0 where
   pub follows : Follows state old new
   pub faults : (state new.disk).faults ≡ disk_faults_after (state old.disk).faults result
-  pub answered : disks.IsObservable (state old.disk) → IfOk result (IsReplyAt (uncounted_step t command p) p new)
+  pub answered : IsObservable (state old.disk) → IfOk result (IsReplyAt (uncounted_step t command p) p new)

@@ -1,10 +1,8 @@
 pub mod Answers
 pub mod Changes
-pub mod Faults
 pub mod Known
 pub mod Opening
 pub mod StagedTree
-pub mod Standing
 pub mod Steps
 pub mod StoreCalls
 pub mod StoreFields

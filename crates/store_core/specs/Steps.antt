@@ -1,14 +1,13 @@
 -- A step that staged pages take which are those of a tree.
-use Rattle.std.specs.Prelude.{◌≡◌, false, nat_lt, if◌then◌else◌, Result, Ok, Err, IfOk, OnOk, OnErr}
+use Rattle.std.specs.Prelude.{◌≡◌, false, Result, Ok, Err, IfOk, OnOk, OnErr}
 use Rattle.store_model.specs.declared.refusal.Refusal.TheVariants as refusals
 use Rattle.store_model.specs.Parameters.{Parameters}
 use Rattle.store_model.specs.Trees.{Tree}
-use Rattle.store_model.specs.Pages.{pages, page_count}
+use Rattle.store_model.specs.Pages.{pages}
 use Rattle.store_model.specs.PageMaps.{map_of_pages}
-use Rattle.store_model.specs.Commands.Reply.{Acknowledged, Refused}
 use Rattle.store_model.specs.Steps.{Step}
 use Rattle.disk_model.specs.DiskState.{DiskState, IsObservable}
-use Rattle.gate_journal.specs.Disks.{KeepsDisk}
+use Rattle.journal_steps.specs.Disks.{KeepsDisk}
 use Rattle.seeded_draw.specs.declared.any.AnyDraw.{AnyDraw}
 use Rattle.script_lines.specs.declared.reply.Reply.{Reply}
 use Rattle.script_lines.specs.declared.reply.Reply.TheVariants as replies
@@ -16,9 +15,9 @@ use Rattle.script_lines.specs.Replies.{reply_of}
 use Rattle.page_store.specs.declared.fault.SettleFault.{SettleFault}
 use Rattle.page_store.specs.declared.fault.SettleFault.TheVariants as causes
 use Rattle.page_store.specs.StagedState.{StagedState}
-use Rattle.store_core.specs.declared.fault.ApplyFault.{ApplyFault}
-use Rattle.store_core.specs.declared.fault.ApplyFault.TheVariants as apply
-use Rattle.store_core.specs.Faults.{apply_faults_after}
+use Rattle.store_standing.specs.declared.fault.ApplyFault.{ApplyFault}
+use Rattle.store_standing.specs.declared.fault.ApplyFault.TheVariants as apply
+use Rattle.store_standing.specs.Faults.{apply_faults_after}
 use Rattle.store_core.specs.StoreCalls.{ChangesImage}
 
 -- what a command answers whose changes were settled so
@@ -27,11 +26,6 @@ settled_reply (Ok value) = Ok replies.Ok
 settled_reply (Err (causes.Full need slots)) = Ok (replies.No (refusals.Full need slots))
 settled_reply (Err causes.Disk) = Err apply.Disk
 settled_reply (Err causes.NoMemory) = Err apply.NoMemory
-
--- from a tree to the next one, unless that has more pages than there are slots
-abbrev pub counted_step : Tree → Tree → Parameters → Step
-counted_step t next p =
-    if nat_lt p.slots (page_count next p) then (record { reply = Refused (refusals.Full (page_count next p) p.slots); tree = t }) else (record { reply = Acknowledged; tree = next })
 
 -- what it does over an observable disk that stands at the tree
 pub record StepsPages {D : Type 0} (state : D → DiskState) (t : Tree) (to : Step) (p : Parameters) (old new : StagedState D AnyDraw) (result : Result Reply ApplyFault) : Type 0 where

@@ -4,12 +4,12 @@ ghost use Rattle.script_lines.specs.InPlace.{in_place};
 ghost use Rattle.script_lines.specs.Parsing.{command_of};
 ghost use Rattle.store_core.specs.StoreCalls.{Applies};
 
-use crate::change::reveal;
-use crate::fault::ApplyFault;
 use crate::staged::carry_out;
 use crate::store::Store;
 use disk_model::Disk;
 use script_lines::{Command, Reply};
+use store_standing::ApplyFault;
+use tree_commands::reveal;
 
 impl<D: Disk> Store<D> {
     /// Carries out a command, and answers its reply once what it changed is durable.

@@ -5,9 +5,9 @@ ghost use Rattle.store_model.specs.Trees.{Tree};
 ghost use Rattle.store_core.specs.Opening.{ChecksSynced, contents_in, IsOpenAt, IsOpenTo};
 ghost use Rattle.store_core.specs.StoreCalls.{Attaches};
 
-use crate::fault::AttachFault;
 use crate::known::KnownTree;
 use crate::store::Store;
+use base_types::Fault;
 use disk_model::Disk;
 use gate_journal::Journal;
 use image_check::{Contents, Finding, find_image};
@@ -15,7 +15,7 @@ use page_store::{SlotCache, Staged};
 use seeded_draw::AnyDraw;
 use skip_levels::SkipList;
 use std::alloc::Global;
-use store_base::Fault;
+use store_standing::AttachFault;
 
 /// What an image holds by what was found.
 fn contents_of(found: Result<Finding, Fault>) -> Result<Contents, AttachFault>

@@ -8,14 +8,11 @@
 //! written, and behind every command nothing is staged.
 #![tactic(auto)]
 
-mod answer;
 mod apply;
 mod attach;
-mod change;
-mod fault;
 mod known;
 mod staged;
 mod store;
 
-pub use fault::{ApplyFault, AttachFault};
 pub use store::Store;
+pub use store_standing::{ApplyFault, AttachFault};

@@ -1,25 +1,18 @@
--- Lemmas on the writes and syncs of the lines of a run, of a format and of a wipe.
-use Rattle.std.proofs.Common.{◌≡◌, ℕ, suc, ◌+◌, ◌/◌, Result, Ok, Err, refl, sym, ap, ◌∙◌, arith, inl, inr, ⊎_elim}
-use Rattle.store_model.specs.Parameters.{Parameters, block_len, image_len}
+-- Lemmas on the writes and syncs of the lines of a run.
+use Rattle.std.proofs.Common.{◌≡◌, ℕ, suc, ◌+◌, refl, sym, ap, ◌∙◌, arith, inl, inr, ⊎_elim}
+use Rattle.store_model.specs.Parameters.{Parameters}
 use Rattle.store_model.specs.Trees.{Tree}
 use Rattle.disk_model.specs.DiskState.{DiskState}
-use Rattle.gate_journal.specs.Disks.{IsOnlySynced}
-use Rattle.gate_journal.specs.Places.{Made, Makes, ReadsOnly}
-use Rattle.gate_journal.specs.Costs.{MadeAtMost, commit_writes, commit_syncs, opening_writes, opening_syncs}
-use Rattle.gate_journal.specs.Wipes.{block_count}
-use Rattle.gate_journal.specs.declared.fault.JournalFault.{JournalFault}
-use Rattle.gate_journal.specs.declared.fault.JournalFault.TheVariants as journal
-use Rattle.store_base.specs.declared.fault.DiskFault.{DiskFault}
+use Rattle.journal_steps.specs.Disks.{IsOnlySynced}
+use Rattle.journal_steps.specs.Places.{Made, ReadsOnly}
+use Rattle.journal_steps.specs.Costs.{MadeAtMost, commit_writes, commit_syncs, opening_writes, opening_syncs}
 use Rattle.store_core.specs.Changes.{slots_between}
 use Rattle.store_core.proofs.CostLemmas.{made_reading, made_then, at_most_then, made_as, at_most_as, at_most}
-use Rattle.store_top.specs.declared.status.Status.{Status}
-use Rattle.store_top.specs.declared.status.Status.TheVariants as statuses
+use Rattle.image_words.specs.declared.status.Status.{Status}
+use Rattle.image_words.specs.declared.status.Status.TheVariants as statuses
 use Rattle.store_top.specs.Costs.{run_writes, run_syncs, CountsLines, CountsRun}
-use Rattle.store_top.specs.Endings.{status_of, journal_status, disk_status}
-use Rattle.store_top.specs.FormatCall.{CountsFormat}
-use Rattle.store_top.specs.WipeCall.{CountsWipe}
-use Rattle.store_top.specs.Statuses.{Row, IsBetweenLines}
-use Rattle.store_top.proofs.StatusLemmas.{other_than, disk_fault_or_not}
+use Rattle.image_words.specs.Statuses.{Row, IsBetweenLines}
+use Rattle.image_words.proofs.StatusLemmas.{other_than, disk_fault_or_not}
 
 writes_more : (p : Parameters) (trees : ℕ → Tree) (n : ℕ) → run_writes p trees (n + 1) ≡ run_writes p trees n + commit_writes (slots_between p (trees n) (trees (n + 1)))
 writes_more p trees n = let more : n + 1 ≡ suc n = omega arith in ap (run_writes p trees) more
@@ -87,29 +80,3 @@ run_counts status done trees p old mid new opening lines = record {
   where
     other_fault : statuses.NoMemory ≡ statuses.DiskFault → ⊥
     other_fault e = cc
-
--- ---- formatting
-
-pub counts_format : (p : Parameters) (old new : DiskState) (result : Result (Unit {0}) JournalFault) → Makes (image_len p.slots / block_len + 1) 2 old new result → CountsFormat (status_of journal_status result) p old new
-counts_format p old new result makes = record {
-  done = λ e. made result makes e;
-  limit = record { write_limit = omega (arith, makes.write_limit); sync_limit = omega (arith, makes.sync_limit) };
-}
-  where
-    made : (result : Result (Unit {0}) JournalFault) → Makes (image_len p.slots / block_len + 1) 2 old new result → status_of journal_status result ≡ statuses.Done → Made (image_len p.slots / block_len + 1) 2 old new
-    made (Ok value) makes e = record { write_count = omega (arith, makes.write_count); sync_count = omega (arith, makes.sync_count) }
-    made (Err journal.Disk) makes e = absurd (cc)
-    made (Err journal.AlreadyImage) makes e = absurd (cc)
-    made (Err journal.WrongLength) makes e = absurd (cc)
-
--- ---- wiping
-
-pub counts_wipe : (old new : DiskState) (result : Result (Unit {0}) DiskFault) → Makes (1 + block_count old.size) 2 old new result → CountsWipe (status_of disk_status result) old new
-counts_wipe old new result makes = record {
-  done = λ e. made result makes e;
-  limit = record { write_limit = omega (arith, makes.write_limit); sync_limit = omega (arith, makes.sync_limit) };
-}
-  where
-    made : (result : Result (Unit {0}) DiskFault) → Makes (1 + block_count old.size) 2 old new result → status_of disk_status result ≡ statuses.Done → Made (1 + block_count old.size) 2 old new
-    made (Ok value) makes e = record { write_count = omega (arith, makes.write_count); sync_count = omega (arith, makes.sync_count) }
-    made (Err fault) makes e = absurd (cc)

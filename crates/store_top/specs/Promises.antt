@@ -12,11 +12,11 @@ use Rattle.store_model.specs.Scripts.{replies_text, script_limit}
 use Rattle.disk_model.specs.DiskState.{DiskState, MayLeaveOnly, IsDurable}
 use Rattle.disk_model.specs.DiskCalls.{LeavesOnly}
 use Rattle.script_lines.specs.Lines.{ended_lines}
-use Rattle.store_top.specs.declared.status.Status.{Status}
-use Rattle.store_top.specs.declared.status.Status.TheVariants as statuses
-use Rattle.gate_journal.specs.Disks.{IsOnlySynced}
-use Rattle.store_core.specs.Standing.{Stands}
-use Rattle.store_top.specs.Statuses.{IsBetweenLines, IsCutShort}
+use Rattle.image_words.specs.declared.status.Status.{Status}
+use Rattle.image_words.specs.declared.status.Status.TheVariants as statuses
+use Rattle.journal_steps.specs.Disks.{IsOnlySynced}
+use Rattle.store_standing.specs.Standing.{Stands}
+use Rattle.image_words.specs.Statuses.{IsBetweenLines, IsCutShort}
 
 -- some bytes of a text, from its front on
 pub record IsFrontOf (part text : List ℕ) : Type 0 where
@@ -50,12 +50,6 @@ pub record CountsReplies (status : Status) (done : ℕ) (replies : List Reply) (
   -- no more lines were carried out than there are, and the reply that could not be written was that of one of them
   pub counted : done ≤ length replies
   pub some_line : status ≡ statuses.SinkFault → 1 ≤ done
-
--- the disk reads as an image of some tree
-pub record RepresentsSome (disk : DiskState) : Type 0 where
-  pub tree : Tree
-  pub params : Parameters
-  pub represents : Represents disk.bytes tree params
 
 -- The image, on a disk that was in one state before the call and is in another after it.
 pub record PromisesImage (status : Status) (done : ℕ) (trees : ℕ → Tree) (old new : DiskState) (p : Parameters) : Type 0 where

@@ -5,27 +5,22 @@ ghost use Rattle.store_model.specs.Parameters.{Parameters};
 ghost use Rattle.store_model.specs.Words.{request_of};
 ghost use Rattle.store_model.specs.Words.Request.{Format, Run, Check, Scrub, Wipe, Big};
 ghost use Rattle.store_top.specs.BigCall.{IsBig};
-ghost use Rattle.store_top.specs.CheckCall.{IsCheck};
-ghost use Rattle.store_top.specs.FormatCall.{IsFormat};
-ghost use Rattle.store_top.specs.Outside.{KeepsOutside, CallsNothing, outside_of};
+ghost use Rattle.image_words.specs.CheckCall.{IsCheck};
+ghost use Rattle.image_words.specs.FormatCall.{IsFormat};
+ghost use Rattle.image_words.specs.Outside.{KeepsOutside, CallsNothing, outside_of};
 ghost use Rattle.store_top.specs.RunCall.{IsRun};
-ghost use Rattle.store_top.specs.ScrubCall.{IsScrub};
-ghost use Rattle.store_top.specs.WipeCall.{IsWipe};
+ghost use Rattle.image_words.specs.ScrubCall.{IsScrub};
+ghost use Rattle.image_words.specs.WipeCall.{IsWipe};
 ghost use Rattle.store_words.specs.Requests.{request_seen};
 
 use crate::big::big;
-use crate::check::check_disk;
-use crate::format::format_disk;
-use crate::outcome::Outcome;
 use crate::run::run;
-use crate::scrub::scrub_disk;
-use crate::status::Status;
 use crate::uncalled::{no_memory, usage};
-use crate::wipe::wipe_disk;
+use base_types::NoMemory;
 use disk_model::Disk;
+use image_words::{Outcome, Status, check_disk, format_disk, scrub_disk, wipe_disk};
 use script_lines::{Sink, Source};
 use std::alloc::Global;
-use store_base::NoMemory;
 use store_words::{Request, Words};
 
 /// Carries out the words of a command line on a disk: `format` makes the image of the empty tree, `run` answers the script

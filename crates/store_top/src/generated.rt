@@ -4,10 +4,10 @@ ghost use Rattle.std.specs.Prelude.{◌≡◌, ◌<◌, ◌+◌, ◌^◌, ◌∷
 ghost use Rattle.script_lines.specs.Replies.{reply_of};
 ghost use Rattle.store_top.specs.Generations.{count_refused};
 
-use crate::status::Status;
 use crate::work::Work;
+use image_words::Status;
 use script_lines::{Command, Generator, Reply};
-use store_base::Refusal;
+use store_model::Refusal;
 
 /// The commands that a number gives, so many of them.
 #[derive(Drop)]

@@ -2,26 +2,17 @@
 //!
 //! Served are the words `format SLOTS HEIGHT DRAW SEED`, `run`, `check`, `scrub`, `wipe` and `big NUMBER COUNT`, and in a script
 //! every command. Other words end with `Status::Usage`. Each word has a file with its call, and a file of specs/ with what it
-//! promises.
+//! promises: `run` and `big` here, those that need no store in `image_words`.
 #![tactic(auto)]
 
 mod big;
 mod call;
-mod check;
-pub mod examples;
-mod format;
 mod generated;
 mod lines;
-mod outcome;
-mod report;
 mod run;
-mod scrub;
-mod status;
 mod uncalled;
-mod wipe;
 mod work;
 
 pub use call::top;
-pub use outcome::Outcome;
-pub use status::Status;
+pub use image_words::{Outcome, Status};
 pub use store_words::{Wanted, Words, wanted_len};

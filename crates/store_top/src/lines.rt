@@ -4,12 +4,12 @@ ghost use Rattle.std.specs.Prelude.{◌≡◌, true};
 ghost use Rattle.store_top.specs.Runs.{ReadsLine};
 ghost use Rattle.store_top.specs.Turns.{asked_in};
 
-use crate::status::Status;
 use crate::work::Work;
+use image_words::Status;
 use script_lines::{
     Command, Line, LineFault, LineReader, Reply, Sink, Source, read_command, write_reply,
 };
-use store_base::Refusal;
+use store_model::Refusal;
 
 /// A script: the reader of its lines, and where the replies go.
 #[derive(Drop)]

@@ -6,11 +6,11 @@ ghost use Rattle.script_lines.specs.Parsing.{reading_of};
 ghost use Rattle.store_top.specs.Runs.{AnswersReading, IsReady};
 ghost use Rattle.store_top.specs.Turns.{Begins, AnswersAll};
 
-use crate::status::Status;
 use disk_model::Disk;
+use image_words::Status;
 use script_lines::{Command, Reply};
-use store_base::Refusal;
 use store_core::{ApplyFault, Store};
+use store_model::Refusal;
 
 /// What asks a store for one thing after another, and takes the replies: the lines of a script, or commands that a number gives.
 ///
@@ -21,7 +21,7 @@ pub trait Work {
     ghost use Rattle.store_model.specs.Trees.{Tree};
     ghost use Rattle.store_model.specs.declared.refusal.Refusal.{Refusal};
     ghost use Rattle.script_lines.specs.declared.command.Command.{Command};
-    ghost use Rattle.store_top.specs.declared.status.Status.{Status};
+    ghost use Rattle.image_words.specs.declared.status.Status.{Status};
     ghost use Rattle.store_top.specs.Turns.{Start, FallsAt, IsNext, IsTurn, RepliesTo, asked_in};
 
     /// Whether it tells what it will ask for.

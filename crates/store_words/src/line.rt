@@ -10,8 +10,8 @@ ghost use Rattle.store_words.specs.Line.{IsLine, IsWordOf, without_help, without
 use self::Word::{Big, Check, Format, Run, Scrub, Wipe};
 use clap::builder::ValueParser;
 use clap::{Arg, Command};
+use image_areas::{MAX_HEIGHT, MAX_SLOTS};
 use std::alloc::{AllocError, Global};
-use store_base::{MAX_HEIGHT, MAX_SLOTS};
 
 /// The most commands that `big` makes.
 pub const MAX_COMMANDS: u32 = 1_000_000;

@@ -9,8 +9,8 @@ ghost use Rattle.store_words.specs.Requests.{request_seen, IsInRange};
 
 use crate::line::MAX_COMMANDS;
 use hex::FromHex;
+use image_areas::Params;
 use script_lines::parse_number;
-use store_base::Params;
 use store_model::DrawKind;
 
 /// What a command line asks for.

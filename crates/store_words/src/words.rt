@@ -11,11 +11,12 @@ ghost use Rattle.store_words.specs.Requests.{request_seen, wanted_of, IsInRange}
 use crate::line;
 use crate::line_read::LineRead;
 use crate::request::Request;
+use base_types::NoMemory;
 use clap::ArgMatches;
 use clap::error::ErrorKind;
+use image_areas::image_len;
 use std::alloc::Global;
 use std::marker::Model;
-use store_base::{NoMemory, image_len};
 
 /// The words of a command line, behind the path of the image. Contracts see them as a list of texts.
 #[derive(Drop)]

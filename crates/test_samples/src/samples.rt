@@ -4,9 +4,10 @@ ghost use Rattle.std.specs.Prelude.{◌≡◌, ◌-◌, ◌≤◌, ◌++◌, len
 ghost use Rattle.store_model.specs.Lists.{zeros};
 ghost use Rattle.store_model.specs.Labels as model;
 ghost use Rattle.store_model.specs.Labels.{IsLabel};
-ghost use Rattle.store_base.specs.Keys.{IsKey};
+ghost use Rattle.page_labels.specs.Keys.{IsKey};
 
-use store_base::{BLOCK, Key, Label, Lead, Slot};
+use page_labels::{Key, Label, Lead};
+use store_model::{BLOCK, Slot};
 
 /// The bytes other than zeros of the slot of page (0, start, 0) with the directory /a alone.
 pub const ONE_DIRECTORY: [(usize, u8); 5] = [(0, 1), (131, 1), (132, 0x61), (257, 1), (258, 1)];

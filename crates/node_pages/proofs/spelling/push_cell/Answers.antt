@@ -1,8 +1,8 @@
 use Rattle.std.proofs.Common.{◌++◌, take, ℕ, List, sym, ap, ◌∙◌, arith}
 use Rattle.store_model.specs.Images.{cell_bytes}
-use Rattle.node_pages.proofs.CellBytes.{length-cell_bytes}
-use Rattle.node_pages.proofs.CellLists.{size_most}
-use Rattle.node_pages.proofs.Packed.{front_of_filled}
+use Rattle.page_values.proofs.CellBytes.{length-cell_bytes}
+use Rattle.cell_spelling.proofs.CellLists.{size_most}
+use Rattle.node_pages.proofs.PackedLists.{front_of_filled}
 use Rattle.node_pages.proofs.spelling.push_cell.Goals as goal
 
 pub write_cell-requires-clause-room : goal.write_cell-requires-clause-room

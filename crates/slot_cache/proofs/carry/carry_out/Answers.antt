@@ -1,5 +1,6 @@
 use Rattle.std.proofs.Common.{◌∙◌}
-use Rattle.slot_cache.proofs.CarriedLemmas.{carried_out}
+use Rattle.std.proofs.lemmas.Result.{err_from_is_err_and}
+use Rattle.slot_cache.proofs.CarriedLemmas.{carried_out, carried_failed}
 use Rattle.slot_cache.proofs.carry.carry_out.Goals as goal
 
 pub returns-clause-call : goal.returns-clause-call
@@ -23,3 +24,6 @@ returns-clause-follows g c = g.met.S.ReadSlots.follows_trans c.args.slots.now c.
 
 pub returns-clause-starts : goal.returns-clause-starts
 returns-clause-starts g c = c.lay_pages.ensures.starts
+
+pub returns-in_err-take_pages-clause-call : goal.returns-in_err-take_pages-clause-call
+returns-in_err-take_pages-clause-call g c = let p = err_from_is_err_and c.from_residual.result c.from_residual.ensures.1 in rw (p.1, p.2) (carried_failed _ _ _ _ c.in_err-take_pages.field-0.0 c.in_err-take_pages.ensures.call)

@@ -1,5 +1,5 @@
 use Rattle.std.specs.BTreeMap.{values}
-use Rattle.slot_cache.specs.Starts.{AreStarts}
+use Rattle.slot_memory.specs.Starts.{AreStarts}
 use Rattle.slot_cache.specs.Carrying.{LayingPages}
 use Rattle.slot_cache.proofs.carry.lay_pages.Given as goal
 

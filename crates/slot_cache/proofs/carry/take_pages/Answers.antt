@@ -1,6 +1,6 @@
 use Rattle.std.proofs.Common.{◌≡◌, sym, subst, ◌∙◌}
 use Rattle.std.proofs.lemmas.Result.{err_from_is_err_and}
-use Rattle.slot_cache.specs.Staging.{Changes}
+use Rattle.slot_memory.specs.Staging.{Changes}
 use Rattle.slot_cache.specs.Carrying.{TakingPages}
 use Rattle.slot_cache.proofs.CarryLemmas.{some_of, none_of, taking_begins, taking_passes, taking_takes, taking_fails, taking_ends}
 use Rattle.slot_cache.proofs.carry.take_pages.Goals as goal

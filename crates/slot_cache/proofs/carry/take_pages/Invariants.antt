@@ -1,4 +1,4 @@
-use Rattle.slot_cache.specs.Starts.{AreStarts}
+use Rattle.slot_memory.specs.Starts.{AreStarts}
 use Rattle.slot_cache.specs.Carrying.{TakingPages}
 use Rattle.slot_cache.proofs.carry.take_pages.Given as goal
 

@@ -1,6 +1,8 @@
 use Rattle.std.proofs.Common.{refl, sym}
-use Rattle.slot_cache.proofs.LookupLemmas.{found_by_read, found_by_place}
-use Rattle.slot_cache.proofs.MemoLemmas.{known_read, memo_read}
+use Rattle.std.proofs.lemmas.Result.{err_from_is_err_and}
+use Rattle.slot_cache.proofs.LookupLemmas.{found_by_read, found_by_place, finds_failed}
+use Rattle.slot_memory.proofs.MemoLemmas.{memo_read}
+use Rattle.slot_cache.proofs.KnownLemmas.{known_read}
 use Rattle.slot_cache.proofs.search.has_page.Goals as goal
 
 pub returns-in-Some-clause-call : goal.returns-in-Some-clause-call
@@ -33,3 +35,11 @@ returns-clause-follows g c = c.in_ok-locate.ensures.follows
 
 pub returns-clause-starts : goal.returns-clause-starts
 returns-clause-starts g c = c.in_ok-locate.ensures.starts
+
+pub returns-in_err-locate-clause-call : goal.returns-in_err-locate-clause-call
+returns-in_err-locate-clause-call g c =
+    let p = err_from_is_err_and c.from_residual.result c.from_residual.ensures.1 in
+    rw (p.1, p.2) (finds_failed _ _ _ c.args.changes.now.entries c.args.label.now c.in_err-locate.field-0.0 c.in_err-locate.ensures.call)
+
+pub returns-in_err-locate-clause-remembered : goal.returns-in_err-locate-clause-remembered
+returns-in_err-locate-clause-remembered g c = memo_read _ _ _ _ _ c.in_err-locate.ensures.call.calls c.in_err-locate.ensures.call.reads c.requires.remembered

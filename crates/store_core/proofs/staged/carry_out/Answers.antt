@@ -11,7 +11,7 @@ use Rattle.store_core.specs.StagedTree.{TreeList, AreAt}
 use Rattle.store_core.specs.Steps.{EndsStep}
 use Rattle.store_core.proofs.ListSteps.{keeps_stays, follows_stay}
 use Rattle.store_core.proofs.StagedSteps.{read_step, same_staged}
-use Rattle.store_core.proofs.StepLemmas.{space_step}
+use Rattle.tree_commands.proofs.StepLemmas.{space_step}
 use Rattle.store_core.proofs.staged.carry_out.Goals as goal
 
 pub invariant_of-pairs : goal.invariant_of-pairs

@@ -1,6 +1,6 @@
 use Rattle.std.proofs.Common.{Result, Ok, Err, refl, sym, ap, subst, ◌∙◌}
 use Rattle.store_model.specs.declared.refusal.Refusal.{Refusal}
-use Rattle.store_base.specs.declared.store_fault.Fault.{Fault}
+use Rattle.base_types.specs.declared.store_fault.Fault.{Fault}
 use Rattle.seeded_draw.specs.declared.any.AnyDraw.{AnyDraw}
 use Rattle.seeded_draw.specs.AnyDrawn.{any_draw}
 use Rattle.script_lines.specs.declared.reply.Reply.TheVariants as replies
@@ -8,7 +8,7 @@ use Rattle.script_lines.specs.Parsing.{command_of}
 use Rattle.skip_levels.specs.PagePairs.{KeepsList}
 use Rattle.tree_pairs.specs.TreeCalls.{uncounted_step}
 use Rattle.page_store.specs.StagedState.{StagedState, pages_state}
-use Rattle.store_core.specs.Answers.{change_reply}
+use Rattle.tree_commands.specs.Answers.{change_reply}
 use Rattle.store_core.specs.StagedTree.{TreeList}
 use Rattle.store_core.proofs.AnswerSteps.{acked, acked_staged, answered_at, failed_at}
 use Rattle.store_core.proofs.ListSteps.{AnswersList, changed_list, keeps_stays, back_stays, room_at, answers_at, whole_behind, same_behind, table_behind}

@@ -8,7 +8,7 @@ use Rattle.page_store.specs.StagedState.{StagedState, pages_state}
 use Rattle.store_core.specs.StagedTree.{TreeList}
 use Rattle.store_core.proofs.AnswerSteps.{answered_at, failed_at}
 use Rattle.store_core.proofs.ListSteps.{AnswersList, keeps_stays, back_stays, answers_at, whole_behind, same_behind, table_behind}
-use Rattle.store_core.proofs.StepLemmas.{look_other}
+use Rattle.tree_commands.proofs.StepLemmas.{look_other}
 use Rattle.store_core.proofs.staged.carry_out_look.Given.{Over}
 use Rattle.store_core.proofs.staged.carry_out_look.Goals as goal
 

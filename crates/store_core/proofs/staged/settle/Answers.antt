@@ -6,10 +6,11 @@ use Rattle.script_lines.specs.declared.reply.Reply.{Reply}
 use Rattle.script_lines.specs.declared.reply.Reply.TheVariants as replies
 use Rattle.skip_levels.specs.PagePairs.{KeepsList}
 use Rattle.page_store.specs.StagedState.{StagedState, pages_state}
-use Rattle.store_core.specs.declared.fault.ApplyFault.{ApplyFault}
-use Rattle.store_core.specs.Answers.{change_reply}
+use Rattle.store_standing.specs.declared.fault.ApplyFault.{ApplyFault}
+use Rattle.tree_commands.specs.Answers.{change_reply}
+use Rattle.tree_commands.specs.Counted.{counted_step}
 use Rattle.store_core.specs.StagedTree.{TreeList, IsStagedFor}
-use Rattle.store_core.specs.Steps.{settled_reply, counted_step, EndsStep}
+use Rattle.store_core.specs.Steps.{settled_reply, EndsStep}
 use Rattle.store_core.proofs.ListSteps.{keeps_stays, settle_stays, settled_stays, table_behind_settle}
 use Rattle.store_core.proofs.StagedSteps.{settled}
 use Rattle.store_core.proofs.staged.settle.Goals as goal

@@ -1,7 +1,7 @@
 use Rattle.std.proofs.Common.{ap, ap₂, sym, ◌∙◌}
 use Rattle.store_model.specs.Commands.Reply.{PagesUsed}
 use Rattle.store_model.specs.Steps.{Step}
-use Rattle.store_core.proofs.StepLemmas.{space_step}
+use Rattle.tree_commands.proofs.StepLemmas.{space_step}
 use Rattle.store_core.proofs.TreePages.{tree_holds, held_count}
 use Rattle.store_core.proofs.staged.tell_space.Goals as goal
 

@@ -1,6 +1,6 @@
 use Rattle.std.proofs.Common.{take, drop, arith}
 use Rattle.std.proofs.lemmas.List.{length-drop, length-take-le}
-use Rattle.node_pages.proofs.Packed.{added, list_more}
+use Rattle.node_pages.proofs.PackedLists.{added, list_more}
 use Rattle.node_pages.proofs.cells.Cells.append_from.Goals as goal
 
 pub invariant_of-self-2 : goal.invariant_of-self-2

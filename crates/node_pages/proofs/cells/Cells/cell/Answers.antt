@@ -1,7 +1,7 @@
 use Rattle.std.proofs.Common.{Some, sym, ap, subst, ◌∙◌, arith}
 use Rattle.store_model.specs.Pages.{IsCell}
 use Rattle.node_pages.specs.Cells.{CellList}
-use Rattle.node_pages.proofs.Packed.{listed, list_cell_at}
+use Rattle.node_pages.proofs.PackedLists.{listed, list_cell_at}
 use Rattle.node_pages.proofs.cells.Cells.cell.Goals as goal
 
 pub overflow_add-i : goal.overflow_add-i

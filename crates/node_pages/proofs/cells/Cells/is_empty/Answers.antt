@@ -2,7 +2,7 @@ use Rattle.std.proofs.Common.{length, List, sym, ap, ◌∙◌}
 use Rattle.std.proofs.lemmas.Bool.{eqb-true, eq-eqb}
 use Rattle.std.proofs.lemmas.List.{nil_from_length}
 use Rattle.store_model.specs.Pages.{Cell}
-use Rattle.node_pages.proofs.Packed.{listed}
+use Rattle.node_pages.proofs.PackedLists.{listed}
 use Rattle.node_pages.proofs.cells.Cells.is_empty.Goals as goal
 
 pub returns : goal.returns

@@ -1,8 +1,8 @@
 use Rattle.std.proofs.Common.{sym, ap, ◌∙◌}
 use Rattle.std.specs.List.{flat_map}
 use Rattle.store_model.specs.Images.{cell_bytes}
-use Rattle.store_base.specs.Leads.{lead_of}
-use Rattle.node_pages.proofs.Packed.{page_of_bytes, bytes_of_page}
+use Rattle.page_labels.specs.Leads.{lead_of}
+use Rattle.node_pages.proofs.PackedLists.{page_of_bytes, bytes_of_page}
 use Rattle.node_pages.proofs.cells.Cells.is_page.Goals as goal
 
 pub returns-then-not-has_bytes : goal.returns-then-not-has_bytes

@@ -1,5 +1,5 @@
 use Rattle.std.proofs.Common.{sym}
-use Rattle.node_pages.proofs.Packed.{listed, list_valid}
+use Rattle.node_pages.proofs.PackedLists.{listed, list_valid}
 use Rattle.node_pages.proofs.cells.Cells.len.Goals as goal
 
 pub returns-clause-value : goal.returns-clause-value

@@ -1,4 +1,4 @@
-use Rattle.node_pages.proofs.Packed.{list_valid}
+use Rattle.node_pages.proofs.PackedLists.{list_valid}
 use Rattle.node_pages.proofs.cells.Cells.level.Goals as goal
 
 pub returns-clause-valid : goal.returns-clause-valid

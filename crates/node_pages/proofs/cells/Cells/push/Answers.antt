@@ -1,5 +1,5 @@
 use Rattle.std.proofs.Common.{arith}
-use Rattle.node_pages.proofs.Packed.{list_push}
+use Rattle.node_pages.proofs.PackedLists.{list_push}
 use Rattle.node_pages.proofs.cells.Cells.push.Goals as goal
 
 pub invariant_of-self-2 : goal.invariant_of-self-2

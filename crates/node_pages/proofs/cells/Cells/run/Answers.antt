@@ -2,7 +2,7 @@ use Rattle.std.proofs.Common.{◌≡◌, ◌-◌, ◌*◌, take, drop, sym, ap, 
 use Rattle.store_model.specs.Pages.{page_room}
 use Rattle.node_pages.specs.Cells.{CellList}
 use Rattle.node_pages.proofs.Runs.{run_next, room_most}
-use Rattle.node_pages.proofs.Packed.{listed, list_run_within}
+use Rattle.node_pages.proofs.PackedLists.{listed, list_run_within}
 use Rattle.node_pages.proofs.cells.Cells.run.Goals as goal
 
 pub overflow_mul-done : goal.overflow_mul-done

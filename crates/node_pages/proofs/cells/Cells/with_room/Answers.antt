@@ -1,4 +1,4 @@
-use Rattle.node_pages.proofs.Packed.{packed_none}
+use Rattle.node_pages.proofs.PackedLists.{packed_none}
 use Rattle.node_pages.proofs.cells.Cells.with_room.Goals as goal
 
 pub invariant_of-result : goal.invariant_of-result

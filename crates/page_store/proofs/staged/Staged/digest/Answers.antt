@@ -1,5 +1,5 @@
 use Rattle.std.proofs.Common.{refl, ◌∙◌}
-use Rattle.slot_cache.proofs.CacheLemmas.{cache_read}
+use Rattle.slot_memory.proofs.CacheLemmas.{cache_read}
 use Rattle.slot_cache.proofs.OverlayLemmas.{view_read}
 use Rattle.page_store.proofs.StagedCalls.{view_follows}
 use Rattle.page_store.proofs.StagedLemmas.{read_below, staged_later, memo_later}

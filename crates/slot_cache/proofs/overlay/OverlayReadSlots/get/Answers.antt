@@ -1,10 +1,10 @@
 use Rattle.std.proofs.Common.{◌≡◌, ℕ, ◌+◌, List, Option, Some, Ok, Err, map, refl, sym, ap, subst, ◌∙◌, arith}
 use Rattle.std.proofs.lemmas.Result.{err_from_is_err_and}
-use Rattle.gate_journal.specs.ViewState.{KeepsView-refl}
+use Rattle.journal_steps.specs.ViewState.{KeepsView-refl}
 use Rattle.store_model.specs.Lists.{numbers_below}
-use Rattle.slot_cache.specs.Caches.{IsCacheOf, ReadsSlot}
-use Rattle.slot_cache.specs.OverlayState.{bytes_or, slot_over}
-use Rattle.gate_journal.specs.Phases.{table_slot}
+use Rattle.slot_memory.specs.Caches.{IsCacheOf, ReadsSlot}
+use Rattle.slot_memory.specs.OverlayState.{bytes_or, slot_over}
+use Rattle.journal_steps.specs.Phases.{table_slot}
 use Rattle.slot_cache.proofs.OverlayLemmas.{get_number, get_failed, view_read}
 use Rattle.slot_cache.proofs.overlay.OverlayReadSlots.get.Goals as goal
 

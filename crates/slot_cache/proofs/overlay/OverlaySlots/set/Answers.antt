@@ -1,9 +1,9 @@
 use Rattle.std.proofs.Common.{◌≡◌, ℕ, List, cond, Some, refl, subst}
 use Rattle.std.proofs.lemmas.Result.{err_from_is_err_and}
 use Rattle.std.specs.BTreeMap.{is_at}
-use Rattle.gate_journal.specs.ViewState.{KeepsView-refl}
+use Rattle.journal_steps.specs.ViewState.{KeepsView-refl}
 use Rattle.std.specs.Ordering.{nat_cmp}
-use Rattle.slot_cache.specs.OverlayState.{touched_at}
+use Rattle.slot_memory.specs.OverlayState.{touched_at}
 use Rattle.slot_cache.proofs.OverlayLemmas.{slots_set, set_refused}
 use Rattle.slot_cache.proofs.overlay.OverlaySlots.set.Goals as goal
 

@@ -1,0 +1,4 @@
+pub mod Counts
+pub mod Entries
+pub mod SlotsState
+pub mod Faults

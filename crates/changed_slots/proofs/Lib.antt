@@ -1,0 +1,2 @@
+pub mod DifferLemmas
+pub mod ScanLemmas

@@ -1,0 +1,76 @@
+//! The header block of an image.
+
+ghost use Rattle.std.specs.Prelude.{◌≡◌, ◌++◌, ◌∷◌, [], Some, IfSome, codes};
+ghost use Rattle.std.specs.Int.{w32, to_be_bytes};
+ghost use Rattle.store_model.specs.Parameters.{Parameters, IsParameters};
+ghost use Rattle.store_model.specs.Images.{kind_byte, header};
+
+use crate::FIRST_BYTE;
+use crate::params::Params;
+use byteorder::{BigEndian, ByteOrder};
+use store_model::{BLOCK, DrawKind, Slot};
+
+/// The text that begins an image.
+const MAGIC: [u8; 8] = [FIRST_BYTE, b'S', b'T', b'O', b'R', b'E', b'0', b'1'];
+
+/// The version of the format.
+const VERSION: u8 = 1;
+
+/// The byte that names a kind of draw.
+fn byte_of(kind: DrawKind) -> u8
+    ensures { result ≡ kind_byte kind }
+{
+    match kind {
+        DrawKind::Ruler => 0,
+        DrawKind::Sha256 => 1,
+    }
+}
+
+/// The kind of draw that a byte names.
+fn kind_of(byte: u8) -> Option<DrawKind>
+    ensures found { IfSome result (λ kind. kind_byte kind ≡ byte) }
+    ensures only { (kind : DrawKind) → kind_byte kind ≡ byte → result ≡ Some kind }
+{
+    match byte {
+        0 => Some(DrawKind::Ruler),
+        1 => Some(DrawKind::Sha256),
+        _ => None,
+    }
+}
+
+/// Writes the header of these parameters: the text `HSTORE01`, the number of slots (big-endian), the
+/// height, the kind of draw, the format's version 1, a byte 0, the seed, and zeros.
+pub fn write_header(params: &Params, block: &mut Slot)
+    ensures { block.new ≡ header params.now }
+{
+    let mut front = [0; 48];
+    front[..8].copy_from_slice(&MAGIC);
+    BigEndian::write_u32(&mut front[8..], params.slots());
+    front[12] = params.height();
+    front[13] = byte_of(params.kind());
+    front[14] = VERSION;
+    front[16..].copy_from_slice(&params.seed());
+    *block = [0; BLOCK];
+    block[..48].copy_from_slice(&front);
+}
+
+/// The parameters that the block is the header of; `None` exactly where it is no parameters' header.
+pub fn read_header(block: &Slot) -> Option<Params>
+    ensures found { IfSome result (λ p. IsParameters p × (header p ≡ block.now)) }
+    ensures only { (p : Parameters) → IsParameters p → header p ≡ block.now → result ≡ Some p }
+{
+    let mut slots = [0; 4];
+    slots.copy_from_slice(&block[8..12]);
+    let mut seed = [0; 32];
+    seed.copy_from_slice(&block[16..48]);
+    let kind = kind_of(block[13])?;
+    let params = Params::new(u32::from_be_bytes(slots), block[12], kind, seed).ok()?;
+    // Every other byte of a header is as it is written.
+    let mut written = [0; BLOCK];
+    write_header(&params, &mut written);
+    if written == *block {
+        Some(params)
+    } else {
+        None
+    }
+}

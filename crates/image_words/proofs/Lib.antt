@@ -1,0 +1,7 @@
+pub mod CheckLemmas
+pub mod CostLemmas
+pub mod FormatLemmas
+pub mod OutsideLemmas
+pub mod ReportLemmas
+pub mod StatusLemmas
+pub mod UncalledLemmas

@@ -1,0 +1,9 @@
+pub mod CheckCall
+pub mod Compute
+pub mod Endings
+pub mod FormatCall
+pub mod Outside
+pub mod Reports
+pub mod ScrubCall
+pub mod Statuses
+pub mod WipeCall

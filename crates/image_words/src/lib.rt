@@ -1,0 +1,21 @@
+//! The words that need no store: `format`, `wipe`, `check` and `scrub`, each a call on a disk, a source and a sink; and how a
+//! call of any word ends: its status and its outcome.
+//!
+//! Each word has a file with its call, and a file of specs/ with what it promises.
+#![tactic(auto)]
+
+mod check;
+pub mod examples;
+mod format;
+mod outcome;
+mod report;
+mod scrub;
+mod status;
+mod wipe;
+
+pub use check::check_disk;
+pub use format::format_disk;
+pub use outcome::Outcome;
+pub use scrub::scrub_disk;
+pub use status::Status;
+pub use wipe::wipe_disk;

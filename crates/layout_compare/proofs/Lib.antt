@@ -1,0 +1,2 @@
+pub mod ComparedSlots
+pub mod ReadLemmas

@@ -1,0 +1,3 @@
+pub mod CallsBehind
+pub mod LevelCalls
+pub mod SetCalls

@@ -1,0 +1,3 @@
+pub mod Orders
+pub mod ByteOrder
+pub mod LabelBytes

@@ -1,0 +1,4 @@
+pub mod CellBytes
+pub mod Filled
+pub mod Packed
+pub mod PageBytes

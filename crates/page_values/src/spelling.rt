@@ -1,0 +1,107 @@
+//! Cells read from their bytes, and written.
+
+ghost use Rattle.std.specs.Prelude.{◌≡◌, ◌*◌, ◌≤◌, length, take, drop, Some};
+ghost use Rattle.store_model.specs.Lists.{zeros, zero_filled};
+ghost use Rattle.store_model.specs.Images.{cell_bytes, value_bytes};
+ghost use Rattle.cell_spelling.specs.Spelling as spelled;
+ghost use Rattle.page_values.specs.Cells as cells;
+
+use crate::cell::Cell;
+use base_types::Value;
+use cell_spelling::{KEY_LEN, cell_len};
+use page_labels::Key;
+
+/// The bytes of the cells from number `first` up to number `past`, of cells of the level that stand one behind the other.
+pub fn cells_between(level: u8, bytes: &[u8], first: u32, past: u32) -> &[u8]
+    requires order { first ≤ past }
+    requires within { spelled.cell_size level * past ≤ length bytes.now }
+    ensures { result.now ≡ drop (spelled.cell_size level * first) (take (spelled.cell_size level * past) bytes.now) }
+{
+    let len = cell_len(level);
+    let (front, _) = bytes.split_at(len * past as usize);
+    let (_, cells) = front.split_at(len * first as usize);
+    cells
+}
+
+/// The key with these bytes.
+pub fn read_key(bytes: &[u8]) -> Key
+    requires { length bytes.now ≡ KEY_LEN }
+    ensures { result ≡ bytes.now }
+{
+    let mut key = [0; KEY_LEN];
+    key.copy_from_slice(bytes);
+    Key::new(key)
+}
+
+/// The value with its length in front.
+#[tactic(auto, unfolding(crate::specs::Cells::cell_in))]
+fn read_value(bytes: &[u8]) -> Value
+    requires long { length bytes.now ≡ 258 }
+    requires valid { spelled.SpellsValue bytes.now }
+    ensures { Some result ≡ cells.value_in 0 bytes.now }
+{
+    let len = usize::from(u16::from_be_bytes([bytes[0], bytes[1]]));
+    Value::new(&bytes[2..2 + len])
+}
+
+/// The key in front of the bytes of a cell.
+pub fn key_part(bytes: &[u8]) -> &[u8]
+    requires { KEY_LEN ≤ length bytes.now }
+    ensures { result.now ≡ take KEY_LEN bytes.now }
+{
+    let (key, _) = bytes.split_at(KEY_LEN);
+    key
+}
+
+/// The value of the cell of the level that the bytes spell.
+#[tactic(auto, unfolding(crate::specs::Cells::cell_in))]
+pub fn value_part(level: u8, bytes: &[u8]) -> Option<Value>
+    requires long { length bytes.now ≡ spelled.cell_size level }
+    requires valid { spelled.SpellsCell level bytes.now }
+    ensures { result ≡ (cells.cell_in level bytes.now).value }
+{
+    let (_, value) = bytes.split_at(KEY_LEN);
+    if level == 0 {
+        Some(read_value(value))
+    } else {
+        None
+    }
+}
+
+/// The cell of the level that the bytes spell.
+#[tactic(auto, unfolding(crate::specs::Cells::cell_in))]
+pub fn read_cell(level: u8, bytes: &[u8]) -> Cell
+    requires long { length bytes.now ≡ spelled.cell_size level }
+    requires valid { spelled.SpellsCell level bytes.now }
+    ensures { result ≡ cells.cell_in level bytes.now }
+{
+    let (key, _) = bytes.split_at(KEY_LEN);
+    Cell {
+        key: read_key(key),
+        value: value_part(level, bytes),
+    }
+}
+
+/// Writes a value with its length in front over zeros.
+fn write_value(area: &mut [u8], value: &Value)
+    requires zeros { area.old ≡ zeros (length area.old) }
+    requires room { 258 ≤ length area.old }
+    ensures { area.new ≡ zero_filled (length area.old) (value_bytes (Some value.now)) }
+{
+    let bytes = value.as_slice();
+    area[..2].copy_from_slice(&(bytes.len() as u16).to_be_bytes());
+    area[2..2 + bytes.len()].copy_from_slice(bytes);
+}
+
+/// Writes a cell over zeros.
+pub fn write_cell(area: &mut [u8], cell: &Cell)
+    requires zeros { area.old ≡ zeros (length area.old) }
+    requires room { length (cell_bytes cell.now) ≤ length area.old }
+    ensures { area.new ≡ zero_filled (length area.old) (cell_bytes cell.now) }
+{
+    let key = cell.key.as_bytes();
+    area[..KEY_LEN].copy_from_slice(key);
+    if let Some(value) = &cell.value {
+        write_value(&mut area[KEY_LEN..], value);
+    }
+}

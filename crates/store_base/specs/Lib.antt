@@ -1,7 +1,0 @@
-pub mod Counts
-pub mod Entries
-pub mod Keys
-pub mod Leads
-pub mod Areas
-pub mod SlotsState
-pub mod Faults

@@ -1,0 +1,87 @@
+//! The commands that change a tree, over any list of pairs that holds it.
+
+ghost use Rattle.std.specs.Prelude.{◌≡◌, true};
+ghost use Rattle.store_model.specs.Commands.{IsCommand};
+ghost use Rattle.store_model.specs.Commands.Command.{Write};
+ghost use Rattle.store_model.specs.Commands.Reply.{Acknowledged};
+ghost use Rattle.script_lines.specs.Parsing.{command_of};
+ghost use Rattle.tree_pairs.specs.TreeCalls.{CarriesOut, HasRoom};
+ghost use Rattle.tree_commands.specs.Answers.{is_change};
+
+use base_types::{Answer, Bytes, Fault};
+use dir_tree::{make, remove};
+use file_blocks::{cut, write_at};
+use ordered_pairs::OrderedPairs;
+use path_keys::Path;
+use script_lines::Command;
+use store_model::Refusal;
+use subtree_move::{prune, rename};
+use tree_pairs::{Kind, kind_of};
+
+/// Carries out a command that changes the tree, `full` apart. A refusal changes nothing. A fault of the pairs is handed
+/// on; nothing is promised of the pairs after it.
+pub fn change<P: OrderedPairs>(pairs: &mut P, command: &Command) -> Result<Answer<()>, Fault>
+    requires change { is_change (command_of command.now) ≡ true }
+    requires room { HasRoom (P.state pairs.old) }
+    ensures call { CarriesOut (λ _. Acknowledged) (command_of command.now) (P.state pairs.old) (P.state pairs.new) result }
+    ensures follows { P.follows pairs.old pairs.new }
+{
+    match command {
+        Command::Make(path) => make(pairs, path),
+        Command::Write(path, at, bytes) => write(pairs, path, *at, bytes),
+        Command::Cut(path, len) => cut(pairs, path, *len),
+        Command::Rename(from, to) => rename(pairs, from, to),
+        Command::Remove(path) => remove(pairs, path),
+        Command::Prune(path) => prune(pairs, path),
+        Command::List(_) | Command::Read(..) | Command::Space | Command::Digest => unreachable!(),
+    }
+}
+
+/// Writes bytes of a file, as `write_at`, but where the parent of its path is neither the root nor a directory: that is
+/// refused with `Parent`, before all else. The root is its own parent.
+fn write<P: OrderedPairs>(
+    pairs: &mut P,
+    path: &Path,
+    at: u32,
+    bytes: &Bytes,
+) -> Result<Answer<()>, Fault>
+    requires room { HasRoom (P.state pairs.old) }
+    ensures call { CarriesOut (λ _. Acknowledged) (Write path.now at bytes.now) (P.state pairs.old) (P.state pairs.new) result }
+    ensures follows { P.follows pairs.old pairs.new }
+{
+    match kind_of(pairs, &path.parent().unwrap_or(*path))? {
+        Kind::Dir => write_at(pairs, path, at, bytes),
+        _ => Ok(Err(Refusal::Parent)),
+    }
+}
+
+/// Tells what the types of a command's parts keep: its paths are paths, its numbers have 32 bits, its bytes are bytes.
+pub fn reveal(command: &Command)
+    ensures { IsCommand (command_of command.now) }
+{
+    match command {
+        Command::Make(path) | Command::Remove(path) | Command::Prune(path) | Command::List(path) =>
+            {
+                let _ = path.is_root();
+            }
+        Command::Write(path, at, bytes) => {
+            let _ = path.is_root();
+            let _at = *at;
+            let _ = bytes.as_slice();
+        }
+        Command::Cut(path, len) => {
+            let _ = path.is_root();
+            let _len = *len;
+        }
+        Command::Read(path, at, len) => {
+            let _ = path.is_root();
+            let _at = *at;
+            let _len = *len;
+        }
+        Command::Rename(from, to) => {
+            let _ = from.is_root();
+            let _ = to.is_root();
+        }
+        Command::Space | Command::Digest => {}
+    }
+}

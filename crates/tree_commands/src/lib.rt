@@ -1,0 +1,9 @@
+//! The commands on a tree, over any list of pairs that holds it: those that look at it are answered, and those that change
+//! it are carried out. How many pages the tree takes is not counted here, so none is refused as full.
+#![tactic(auto)]
+
+mod changes;
+mod looks;
+
+pub use changes::{change, reveal};
+pub use looks::answer;
