@@ -5,7 +5,7 @@ ghost use Rattle.slot_memory.specs.Starts.{AreStarts, IsKept};
 
 use crate::memo::checksum_of_label;
 use page_labels::Label;
-use seeded_draw::Draw;
+use seeded_draw::{Draw, Front};
 use std::alloc::Global;
 use std::marker::Model;
 
@@ -22,11 +22,13 @@ const STARTS: usize = 8;
 
 /// The slots where pages were found last, each at the place of its label. By now such a slot may hold another page or
 /// none, so whoever asks looks there; contracts tell nothing of it. They see the starts that were drawn last, each with its
-/// label: a page that is new is looked for when it is staged, and once more when it is laid.
+/// label: a page that is new is looked for when it is staged, and once more when it is laid. What was digested last of a
+/// label's front is kept too, since the labels of a group begin alike.
 #[derive(Drop)]
 pub struct Hints {
     slots: Vec<u32>,
     starts: Vec<(Label, u32)>,
+    front: Front,
 }
 
 impl Model for Hints {
@@ -53,6 +55,7 @@ impl Hints {
         Hints {
             slots: Vec::new(alloc),
             starts: Vec::new(alloc),
+            front: Front::new(),
         }
     }
 
@@ -110,8 +113,8 @@ impl Hints {
         if let Some(start) = self.kept_start(label) {
             return start;
         }
-        let start = draw.start(label);
         self.make_room();
+        let start = draw.start_from(&mut self.front, label);
         let _ = self.starts.push((*label, start));
         start
     }

@@ -11,4 +11,4 @@ pub returns-clause-starts : goal.returns-clause-starts
 returns-clause-starts g c =
     let old = c.args.self.now in
     let room = subst (λ (starts : Starts). (starts ≡ old) ⊎ (starts ≡ [])) (sym c.self.view_is) c.make_room.ensures in
-    starts_kept (g.W.Draw.drawn c.args.draw.now) old c.self.inside.starts.items c.push.new.self.items c.args.label.now c.start-start.result (is_ok c.push.result) c.requires room c.start-start.ensures.value c.push.ensures.items
+    starts_kept (g.W.Draw.drawn c.args.draw.now) old c.self.inside.starts.items c.push.new.self.items c.args.label.now c.start_from-start.result (is_ok c.push.result) c.requires room c.start_from-start.ensures c.push.ensures.items
