@@ -4,4 +4,4 @@
 
 mod spelling;
 
-pub use spelling::{KEY_LEN, MOST_LEN, are_whole, cell_len, room};
+pub use spelling::{KEY_LEN, MOST_LEN, are_whole, cell_len, is_below, room};

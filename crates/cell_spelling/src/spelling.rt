@@ -57,7 +57,7 @@ fn is_cell(level: u8, bytes: &[u8]) -> bool
 }
 
 /// Whether a key is strictly below another.
-fn is_below(key: &[u8], other: &[u8]) -> bool
+pub fn is_below(key: &[u8], other: &[u8]) -> bool
     ensures { IsTrue result ↔ (key_cmp key.now other.now ≡ Less) }
 {
     byte_order(key, other).is_lt()

@@ -1,5 +1,5 @@
 -- The cells of a key set in a group: its pages read as far as they change, and then changed.
-use Rattle.std.proofs.Common.{◌≡◌, inl, inr, ℕ, zero, suc, ◌+◌, ◌<◌, ◌≤◌, max, List, [], ◌∷◌, ◌++◌, length, take, drop, Some, Ok, Err, sym, ap, subst, ◌∙◌, append_assoc, arith}
+use Rattle.std.proofs.Common.{◌≡◌, inl, inr, ℕ, zero, suc, ◌+◌, ◌<◌, ◌≤◌, max, List, [], ◌∷◌, ◌++◌, length, take, drop, get_or, ◌==◌, Bool, true, false, cond, Some, Result, Ok, Err, sym, ap, subst, ◌∙◌, append_assoc, arith}
 use Rattle.std.specs.List.{slice_get}
 use Rattle.std.specs.FinMap as maps
 use Rattle.std.proofs.Math.Seq.{take-append_seam}
@@ -7,21 +7,24 @@ use Rattle.std.proofs.lemmas.List.{length-append, length-take, length-drop, take
 use Rattle.page_labels.specs.declared.label.Lead as declared
 use Rattle.base_types.specs.declared.store_fault.Fault.{Fault}
 use Rattle.base_types.specs.Faults.{disk_faults_after}
-use Rattle.store_model.specs.Lists.{runs}
-use Rattle.store_model.specs.Labels.{Lead}
+use Rattle.store_model.specs.Lists.{runs, run_count}
+use Rattle.store_model.specs.Labels.{Lead, Label}
 use Rattle.store_model.specs.Pages.{Cell, Page, page_room, group_pages}
-use Rattle.store_model.specs.PageMaps.{map_of_pages}
+use Rattle.store_model.specs.PageMaps.{IsPageMap, map_of_pages, page_at}
 use Rattle.node_pages.specs.Groups.{pages_from}
-use Rattle.node_pages.specs.PagesState.{PagesState, IsObservable, most_pages}
-use Rattle.node_pages.proofs.Runs.{length-pages_from}
+use Rattle.node_pages.specs.PagesState.{PagesState, IsObservable, HasPlace, IsCellInsert, most_pages}
+use Rattle.node_pages.proofs.Runs.{length-pages_from, length-runs}
 use Rattle.skip_groups.specs.declared.new_cells.NewCells.{NewCells}
 use Rattle.skip_groups.specs.GroupCells.{merged}
+use Rattle.skip_groups.specs.Groups.{label_of}
+use Rattle.skip_groups.specs.Insertions.{IsPlaceRead, with_place}
 use Rattle.skip_groups.specs.GroupChanges.{changed_pages, IsChange, IsRun, IsRunChange}
 use Rattle.level_changes.specs.CellChanges.{HasRoom, SetsCells}
 use Rattle.skip_groups.specs.NewCells.{IsRenewed, IsNewCellsRead}
 use Rattle.skip_groups.proofs.GroupEnds.{few_group_pages}
 use Rattle.skip_groups.proofs.NewCellsSteps.{below_or_not}
 use Rattle.skip_groups.proofs.GroupSteps.{same_count}
+use Rattle.skip_groups.proofs.RunChanges.{run_inserts}
 
 get_front : (xs ys : List Page) (i : ℕ) (page : Page) → slice_get xs i ≡ Some page → slice_get (xs ++ ys) i ≡ Some page
 get_front [] ys i page e = absurd (cc)
@@ -93,7 +96,7 @@ module _ (level : ℕ) (lead : Lead) (cells others : List Cell) (made : NewCells
 
 -- ---- the calls
 
-module _ (old mid : PagesState) (level : ℕ) (lead : Lead) (key : List ℕ) (own : List Cell) (made : NewCells) (same : made.cells.level ≡ level) (read : IsNewCellsRead {T = Unit {0}} old mid level lead key own made (Ok (tt {0}))) where
+module _ (old mid : PagesState) (level : ℕ) (lead : Lead) (key : List ℕ) (own : List Cell) (made : NewCells) {S : Type 0} (answer : S) (same : made.cells.level ≡ level) (read : IsNewCellsRead {T = S} old mid level lead key own made (Ok answer)) where
   pub room_to_change : length own ≤ 1 → (IsObservable old → HasRoom old.pages level lead) → IsObservable mid → maps.len mid.pages + (made.count + length made.cells.cells) < most_pages
   room_to_change one room o =
       let h = room (read.hidden o) in
@@ -136,9 +139,53 @@ module _ (old mid : PagesState) (level : ℕ) (lead : Lead) (key : List ℕ) (ow
     lookups = λ o group holds. omega (arith, write.lookups, (read.observed o).lookups group holds);
   }
 
-pub cells_not_read : (old mid : PagesState) (level : ℕ) (lead : Lead) (key : List ℕ) (own : List Cell) (made : NewCells) (fault : Fault) → IsNewCellsRead {T = Unit {0}} old mid level lead key own made (Err fault) → SetsCells old mid level lead key own (Err fault)
-cells_not_read old mid level lead key own made fault read = record {
-  call = record { faults = read.faults ∙ same_count (Unit {0}) declared.Lead old.faults fault; lookups_kept = read.lookups_kept; hidden = read.hidden; observable = λ o. (read.observed o).observable };
+-- cells that one page has room for make one run
+one_run : (level : ℕ) (cells : List Cell) → length cells ≤ page_room level → length (runs (page_room level) cells) ≤ 1
+one_run level cells few = omega (arith, length-runs level cells, at_most_one (level == 0) (length cells) few)
+  where
+    at_most_one : (b : Bool) (count : ℕ) → count ≤ cond b 10 31 → run_count (cond b 10 31) count ≤ 1
+    at_most_one true count is = omega arith
+    at_most_one false count is = omega arith
+
+-- one page of the group takes the key's cell
+module _ (old mid : PagesState) (level : ℕ) (lead : Lead) (key : List ℕ) (own : List Cell) (made : NewCells) (at : ℕ) {S : Type 0} (answer : S) (same : made.cells.level ≡ level) (read : IsPlaceRead {T = S} old mid level lead key own made at (Ok answer)) where
+  abbrev cell : Cell
+  cell = read.place.cell
+
+  abbrev now : NewCells
+  now = with_place made read.page at cell
+
+  own_cell : (given : Cell) → given ≡ get_or own 0 given → given ≡ cell
+  own_cell given is = is ∙ ap (λ xs. get_or xs 0 given) read.place.own_is
+
+  pub takes_cell : (given : Cell) (l : Label) → given ≡ get_or own 0 given → l ≡ label_of level lead made.kept → IsObservable mid → HasPlace mid.pages l at given
+  takes_cell given l is label_is o = subst (HasPlace mid.pages l at) (sym (own_cell given is)) (record { page = read.page; found = ap (page_at mid.pages) label_is ∙ read.found o; takes = read.place.takes })
+
+  module _ {T : Type 0} (new : PagesState) (l : Label) (result : Result T Fault) (below : made.kept < 4294967296) (map : IsObservable mid → IsPageMap mid.pages) (label_is : l ≡ label_of level lead made.kept) (given : Cell) (is : given ≡ get_or own 0 given) (insert : IsCellInsert mid new l at given result) where
+    changes : IsRunChange mid new lead made.kept 1 now.cells 1 result
+    changes =
+        subst (λ n. IsRunChange mid new lead made.kept 1 (record { level = n; cells = now.cells.cells }) 1 result) (sym same)
+        (run_inserts mid new level lead made.kept read.page at cell l result below read.place.room map read.found label_is (subst (λ c. IsCellInsert mid new l at c result) (own_cell given is) insert))
+
+  pub cell_inserted : {T : Type 0} (new : PagesState) (l : Label) (unit : T) → made.kept < 4294967296 → (IsObservable mid → IsPageMap mid.pages) → l ≡ label_of level lead made.kept → (given : Cell) → given ≡ get_or own 0 given → IsCellInsert mid new l at given (Ok unit)
+      → SetsCells old new level lead key own (Ok made.next)
+  cell_inserted new l unit below map label_is given is insert =
+      cells_set old mid level lead key own now answer same read.read new unit 1 one (changes new l (Ok unit) below map label_is given is insert)
+    where
+      one : 1 ≡ max 1 (length (runs (page_room made.cells.level) now.cells.cells))
+      one =
+          let longer : length now.cells.cells ≡ length read.page.cells + 1 =
+          omega (arith, length-append (take at read.page.cells) (cell ∷ drop at read.page.cells), length-append (take at read.page.cells) (drop at read.page.cells), ap length (take-append-drop at read.page.cells)) in
+          omega (arith, one_run made.cells.level now.cells.cells (omega (arith, longer, read.place.room, ap page_room same)))
+
+  pub cell_not_inserted : {T : Type 0} (new : PagesState) (l : Label) (fault : Fault) → made.kept < 4294967296 → (IsObservable mid → IsPageMap mid.pages) → l ≡ label_of level lead made.kept → (given : Cell) → given ≡ get_or own 0 given → IsCellInsert {T = T} mid new l at given (Err fault)
+      → SetsCells old new level lead key own (Err fault)
+  cell_not_inserted {T} new l fault below map label_is given is insert =
+      cells_not_set old mid level lead key own now answer same read.read {T = T} new 1 fault (changes {T = T} new l (Err fault) below map label_is given is insert)
+
+pub cells_not_read : {T : Type 0} (old mid : PagesState) (level : ℕ) (lead : Lead) (key : List ℕ) (own : List Cell) (made : NewCells) (fault : Fault) → IsNewCellsRead {T = T} old mid level lead key own made (Err fault) → SetsCells old mid level lead key own (Err fault)
+cells_not_read {T} old mid level lead key own made fault read = record {
+  call = record { faults = read.faults ∙ same_count T declared.Lead old.faults fault; lookups_kept = read.lookups_kept; hidden = read.hidden; observable = λ o. (read.observed o).observable };
   set = λ o group front back h. tt;
   lookups = λ o group holds. (read.observed o).lookups group holds;
 }

@@ -14,11 +14,14 @@ ghost use Rattle.skip_groups.specs.GroupParts.{run_past};
 use base_types::Fault;
 use node_pages::{Cell, Cells, Pages, room};
 use page_labels::{Key, Lead};
-use skip_groups::{NewCells, append_own, change_run, lead_behind, part_group, read_new_cells};
+use skip_groups::{
+    NewCells, append_own, change_run, label_in_group, lead_behind, part_group, read_new_cells,
+};
 use std::alloc::Global;
 
 /// Sets the key's cells, one or none, in the group that `lead` leads on the level, in the place of the cell that the key
-/// had there. `fresh` lends its memory. The answer is what leads the group of the next lower level, strictly below the key.
+/// had there. `fresh` lends its memory; it is not needed where one page takes one cell more, which is then changed where it lies. The answer
+/// is what leads the group of the next lower level, strictly below the key.
 pub fn set_cells<P: Pages>(
     pages: &mut P,
     fresh: &mut NewCells,
@@ -33,7 +36,10 @@ pub fn set_cells<P: Pages>(
     ensures follows { P.follows pages.old pages.new }
 {
     fresh.restart(level, lead);
-    read_new_cells(pages, lead, key, own, fresh)?;
+    if let Some(at) = read_new_cells(pages, lead, key, own, fresh)? {
+        pages.insert_cell(&label_in_group(level, lead, fresh.kept), at, &own[0])?;
+        return Ok(fresh.next);
+    }
     change_run(pages, lead, fresh.kept, fresh.count, &fresh.cells)?;
     Ok(fresh.next)
 }

@@ -1,4 +1,5 @@
 mod Answered
+pub mod CellInserts
 pub mod EntryLemmas
 pub mod Joined
 pub mod PackedLists

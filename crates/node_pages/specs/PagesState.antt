@@ -1,11 +1,12 @@
 -- What a store of pages means at one moment, and what a call on it does.
-use Rattle.std.specs.Prelude.{◌≡◌, ℕ, ◌+◌, ◌≤◌, Option, Result, Ok, Err, IfOk, OnOk, OnErr, option_copied}
+use Rattle.std.specs.Prelude.{◌≡◌, ℕ, ◌+◌, ◌≤◌, Option, Some, Result, Ok, Err, IfOk, OnOk, OnErr, option_copied}
 use Rattle.std.specs.Borrow.{Bor}
 use Rattle.base_types.specs.declared.store_fault.Fault.{Fault}
 use Rattle.base_types.specs.Faults.{disk_faults_after}
 use Rattle.store_model.specs.Labels.{Label}
-use Rattle.store_model.specs.Pages.{Page}
+use Rattle.store_model.specs.Pages.{Cell, Page}
 use Rattle.store_model.specs.PageMaps.{PageMap, page_at, with_page, without_page}
+use Rattle.page_values.specs.Insertions.{TakesCell, with_cell}
 
 -- Pages at one moment. Only where they are observable does the map mean anything.
 pub record PagesState : Type 1 where
@@ -70,3 +71,16 @@ pub record IsPageDrop {T : Type 0} (old new : PagesState) (label : Label) (resul
   pub lookups : new.lookups ≡ old.lookups
   pub hidden : IsObservable new → IsObservable old
   pub observed : IsObservable old → DropsPage old new label result
+
+-- the map has a page under the label, and it takes a cell at this place
+pub record HasPlace (m : PageMap) (label : Label) (at : ℕ) (cell : Cell) : Type 0 where
+  pub page : Page
+  pub found : page_at m label ≡ Some page
+  pub takes : TakesCell page at cell
+
+-- A cell inserted into the page under a label: the page with it is put.
+pub record IsCellInsert {T : Type 0} (old new : PagesState) (label : Label) (at : ℕ) (cell : Cell) (result : Result T Fault) : Type 0 where
+  pub faults : new.faults ≡ disk_faults_after old.faults result
+  pub lookups : new.lookups ≡ old.lookups
+  pub hidden : IsObservable new → IsObservable old
+  pub observed : IsObservable old → (page : Page) → page_at old.pages label ≡ Some page → PutsPage old new (with_cell page at cell) result

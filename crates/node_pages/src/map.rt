@@ -1,6 +1,6 @@
 //! The pages in memory.
 
-ghost use Rattle.std.specs.Prelude.{◌≡◌, map, IsTrue, OnOk};
+ghost use Rattle.std.specs.Prelude.{◌≡◌, map, IsOk, IsTrue, OnOk};
 ghost use Rattle.std.specs.List.{AllByRecursion};
 ghost use Rattle.std.specs.FinMap as maps;
 ghost use Rattle.std.specs.FinMap.{is_sorted};
@@ -10,13 +10,13 @@ ghost use Rattle.store_model.specs.Labels.{label_bytes, label_cmp};
 ghost use Rattle.store_model.specs.Pages.{IsPage};
 ghost use Rattle.node_pages.specs.Entries.{entry_of, map_of_sorted, ArePages-prop};
 ghost use Rattle.node_pages.specs.EntriesLemmas.{IsPageMap-sorted};
-ghost use Rattle.node_pages.specs.PagesState.{IsPageGet};
+ghost use Rattle.node_pages.specs.PagesState.{HasPlace, IsCellInsert, IsPageGet};
 ghost use Rattle.node_pages.specs.Places.{IsPlaceOf};
 
 use crate::pages::Pages;
 use base_types::Fault;
 use page_labels::Label;
-use page_values::Page;
+use page_values::{Cell, Page};
 use std::alloc::Global;
 use std::cmp::Ordering;
 
@@ -96,6 +96,20 @@ impl Pages for MapPages {
             }
         }
         Ok(())
+    }
+
+    fn insert_cell(&mut self, label: &Label, at: u32, cell: &Cell) -> Result<(), Fault>
+        requires place { HasPlace (⟦<MapPages as Pages>⟧.state self.old).pages label.now at cell.now }
+        ensures call { IsCellInsert (⟦<MapPages as Pages>⟧.state self.old) (⟦<MapPages as Pages>⟧.state self.new) label.now at cell.now result }
+        ensures done { IsOk result }
+        ensures follows { ⟦<MapPages as Pages>⟧.follows self.old self.new }
+    {
+        if let Ok(place) = place_of(&self.pages, label) {
+            if self.pages[place].insert(at, cell) {
+                return Ok(());
+            }
+        }
+        Err(Fault::NoMemory)
     }
 
     fn drop_page(&mut self, label: &Label) -> Result<(), Fault> {

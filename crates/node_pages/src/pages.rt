@@ -7,11 +7,11 @@ ghost use Rattle.std.specs.Io.BufRead.{Rests};
 ghost use Rattle.store_model.specs.PageMaps.{IsPageMap};
 ghost use Rattle.store_model.specs.Pages.{IsPage};
 ghost use Rattle.page_values.specs.Cells.{ArePacked, cells_in};
-ghost use Rattle.node_pages.specs.PagesState.{PagesState, IsObservable, IsPageGet, IsPagePut, IsPageDrop, looked_at, most_pages};
+ghost use Rattle.node_pages.specs.PagesState.{PagesState, IsObservable, IsPageGet, IsPagePut, IsPageDrop, IsCellInsert, HasPlace, looked_at, most_pages};
 
 use base_types::Fault;
 use page_labels::Label;
-use page_values::Page;
+use page_values::{Cell, Page};
 
 /// Pages, each under its label.
 ///
@@ -52,6 +52,13 @@ pub trait Pages {
     {
         self.put(Page::of_run(*label, count, run))
     }
+
+    /// Inserts a cell before that of number `at`, or behind all, in the page under the label, which has to be there and to take it. It may
+    /// answer `Fault::NoMemory`. After a fault the pages are as they were. It counts as no lookup, and there are as many pages as before.
+    fn insert_cell(&mut self, label: &Label, at: u32, cell: &Cell) -> Result<(), Fault>
+        requires place { IsObservable (state self.old) → HasPlace (state self.old).pages label.now at cell.now }
+        ensures call { IsCellInsert (state self.old) (state self.new) label.now at cell.now result }
+        ensures follows { follows self.old self.new };
 
     /// Drops the page under the label, if there is one. After a fault the pages are as they were.
     fn drop_page(&mut self, label: &Label) -> Result<(), Fault>

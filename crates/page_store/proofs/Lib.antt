@@ -1,3 +1,4 @@
+pub mod CellCalls
 pub mod CommitLemmas
 pub mod FindLemmas
 pub mod SettleLemmas

@@ -26,7 +26,7 @@ use Rattle.page_store.proofs.StagedLemmas.{IsReadLater, read_later, staged_later
 -- ---- the count of pages
 
 -- with a change of one label
-len_after : (m : PageMap) (l : Label) (change : Option Page) (used : ℕ) (is_there : Bool) → used ≡ maps.len m → is_there ≡ maps.contains_key m (label_bytes l) → used_after used is_there (is_some change) ≡ maps.len (with_change m l change)
+pub len_after : (m : PageMap) (l : Label) (change : Option Page) (used : ℕ) (is_there : Bool) → used ≡ maps.len m → is_there ≡ maps.contains_key m (label_bytes l) → used_after used is_there (is_some change) ≡ maps.len (with_change m l change)
 len_after m l (Some page) used is_there is there = added used is_there ∙ ap₂ (λ (n : ℕ) (b : Bool). cond b n (n + 1)) is there ∙ sym (len-insert nat_list_cmp_total m (label_bytes l) page)
   where
     added : (n : ℕ) (was : Bool) → used_after n was true ≡ cond was n (n + 1)

@@ -1,11 +1,14 @@
 -- What a call does that stages one change.
-use Rattle.std.specs.Prelude.{◌≡◌, Option, Result, OnOk, OnErr}
+use Rattle.std.specs.Prelude.{◌≡◌, ℕ, Option, Some, Result, OnOk, OnErr}
 use Rattle.base_types.specs.declared.store_fault.Fault.{Fault}
 use Rattle.base_types.specs.Faults.{disk_faults_after}
 use Rattle.store_model.specs.Labels.{Label}
-use Rattle.store_model.specs.Pages.{Page}
+use Rattle.store_model.specs.Pages.{Cell, Page}
+use Rattle.store_model.specs.PageMaps.{PageMap}
+use Rattle.page_values.specs.Insertions.{TakesCell, with_cell}
 use Rattle.node_pages.specs.PagesState.{PagesState, IsObservable}
-use Rattle.slot_memory.specs.Staging.{with_change}
+use Rattle.slot_memory.specs.Memos.{Remembered, IsKnown}
+use Rattle.slot_memory.specs.Staging.{Changes, with_change, with_changes}
 
 -- what it does to observable pages; one that fails leaves them
 pub record StagesChange {T : Type 0} (old new : PagesState) (l : Label) (change : Option Page) (result : Result T Fault) : Type 0 where
@@ -19,3 +22,17 @@ pub record Stages {T : Type 0} (old new : PagesState) (l : Label) (change : Opti
   pub lookups : new.lookups ≡ old.lookups
   pub hidden : IsObservable new → IsObservable old
   pub observed : IsObservable old → StagesChange old new l change result
+
+-- a change that was a page, and is that page with one cell more
+pub record InsertsCell (old new : Option Page) (at : ℕ) (cell : Cell) : Type 0 where
+  pub page : Page
+  pub was : old ≡ Some page
+  pub takes : TakesCell page at cell
+  pub now : new ≡ Some (with_cell page at cell)
+
+-- a page is known of the label, and over each map that page with one cell more is staged under it
+pub record StagesCell (old new : Changes) (memo : Remembered) (l : Label) (at : ℕ) (cell : Cell) : Type 0 where
+  pub page : Page
+  pub known : IsKnown old memo l (Some page)
+  pub takes : TakesCell page at cell
+  pub staged : (m : PageMap) → with_changes m new ≡ with_change (with_changes m old) l (Some (with_cell page at cell))

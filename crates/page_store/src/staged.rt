@@ -1,6 +1,6 @@
 //! The staged pages.
 
-ghost use Rattle.std.specs.Prelude.{[], ◌≡◌, ◌≤◌, ◌<◌, ℕ, Bool, true, false, min, IsSome, IfOk, OnOk, OnErr};
+ghost use Rattle.std.specs.Prelude.{[], ◌≡◌, ◌≢◌, ◌↔◌, ◌≤◌, ◌<◌, ℕ, Bool, true, false, min, None, Some, IsSome, IfOk, Ok, OnOk, OnErr};
 ghost use Rattle.std.specs.BTreeMap.{insert_entry};
 ghost use Rattle.std.specs.FinMap as maps;
 ghost use Rattle.base_types.specs.Faults.{disk_faults_after};
@@ -9,13 +9,16 @@ ghost use Rattle.store_model.specs.Parameters.{image_len};
 ghost use Rattle.disk_model.specs.DiskState.{IsObservable};
 ghost use Rattle.sha2.specs.Sha256.{sha256};
 ghost use Rattle.journal_steps.specs.Places.{AreCalls, ReadsOnly};
+ghost use Rattle.store_model.specs.Pages as model;
 ghost use Rattle.store_model.specs.PageMaps.{PageMap, IsPageMap, page_at};
+ghost use Rattle.page_values.specs.Insertions.{TakesCell};
 ghost use Rattle.node_pages.specs.PagesState.{IsPageGet, IsPagePut, IsPageDrop, looked_at, most_pages};
-ghost use Rattle.slot_memory.specs.Memos.{place_of, IsMemoOf};
+ghost use Rattle.slot_memory.specs.Memos.{Remembered, place_of, staged_at, IsMemoOf};
 ghost use Rattle.slot_memory.specs.Starts.{AreStarts};
 ghost use Rattle.slot_memory.specs.OverlayState.{overlaid};
 ghost use Rattle.page_store.specs.PageImages.{pages_in_table, StandsAt};
 ghost use Rattle.slot_memory.specs.Staging.{with_change, used_after};
+ghost use Rattle.page_store.specs.Stagings.{InsertsCell, StagesCell};
 ghost use Rattle.page_store.specs.Settling.{Settles};
 
 use crate::commit::commit_slots;
@@ -25,7 +28,7 @@ use base_types::{DiskFault, Fault, NoMemory};
 use disk_model::Disk;
 use gate_journal::Journal;
 use image_areas::Params;
-use node_pages::{Page, Pages};
+use node_pages::{Cell, Page, Pages};
 use page_labels::Label;
 use seeded_draw::Draw;
 use slot_cache::{
@@ -96,6 +99,84 @@ fn keep_change(
 {
     spares.take(changes.insert(label, change)?.flatten());
     Ok(())
+}
+
+/// Inserts a cell into the page that a change is, where it lies, and answers whether it did. A change that does not take it is
+/// as it was. It takes no memory.
+fn insert_into(change: &mut Option<Boxed<Page>>, at: u32, cell: &Cell) -> bool
+    ensures done { result ≡ true → InsertsCell change.old change.new at cell.now }
+    ensures kept { result ≡ false → change.new ≡ change.old }
+    ensures takes { (page : model.Page) → change.old ≡ Some page → TakesCell page at cell.now → result ≡ true }
+{
+    match change {
+        Some(page) => page.insert(at, cell),
+        None => false,
+    }
+}
+
+/// Inserts a cell into the page that is staged under the label, where it lies, and answers whether it did, or that nothing is
+/// staged there. Where it did not the changes are as they were. It takes no memory.
+fn insert_staged(
+    changes: &mut BTreeMap<Label, Option<Boxed<Page>>>,
+    label: &Label,
+    at: u32,
+    cell: &Cell,
+) -> Option<bool>
+    ensures done { (memo : Remembered) → result ≡ Some true → StagesCell changes.old.entries changes.new.entries memo label.now at cell.now }
+    ensures kept { result ≢ Some true → changes.new.entries ≡ changes.old.entries }
+    ensures absent { result ≡ None ↔ staged_at changes.old.entries label.now ≡ None }
+    ensures takes { (page : model.Page) → staged_at changes.old.entries label.now ≡ Some (Some page) → TakesCell page at cell.now → result ≡ Some true }
+{
+    match changes.get_mut(label) {
+        Some(change) => Some(insert_into(change, at, cell)),
+        None => None,
+    }
+}
+
+/// Inserts a cell into a copy of the page that is remembered of the label, under which nothing is staged, and stages it.
+/// After want of memory the changes are as they were.
+fn insert_remembered(
+    changes: &mut BTreeMap<Label, Option<Boxed<Page>>>,
+    memo: &PageMemo,
+    spares: &mut Spares<Page>,
+    label: &Label,
+    at: u32,
+    cell: &Cell,
+) -> Result<(), NoMemory>
+    requires { staged_at changes.old.entries label.now ≡ None }
+    ensures ok { OnOk result (StagesCell changes.old.entries changes.new.entries memo.now label.now at cell.now) }
+    ensures err { OnErr result (changes.new.entries ≡ changes.old.entries) }
+{
+    let Some(Some(page)) = memo.recall(place_of(label), label) else {
+        return Err(NoMemory);
+    };
+    let mut kept = spares.copy(page.get())?;
+    if !kept.insert(at, cell) {
+        spares.take(Some(kept));
+        return Err(NoMemory);
+    }
+    keep_change(changes, spares, *label, Some(kept))
+}
+
+/// Inserts a cell into the page that is known of the label, and stages it: where it lies, if it is staged, which takes no
+/// memory. After want of memory the changes are as they were.
+fn insert_known(
+    changes: &mut BTreeMap<Label, Option<Boxed<Page>>>,
+    memo: &PageMemo,
+    spares: &mut Spares<Page>,
+    label: &Label,
+    at: u32,
+    cell: &Cell,
+) -> Result<(), NoMemory>
+    ensures ok { OnOk result (StagesCell changes.old.entries changes.new.entries memo.now label.now at cell.now) }
+    ensures err { OnErr result (changes.new.entries ≡ changes.old.entries) }
+    ensures takes { (page : model.Page) → staged_at changes.old.entries label.now ≡ Some (Some page) → TakesCell page at cell.now → result ≡ Ok tt }
+{
+    match insert_staged(changes, label, at, cell) {
+        Some(true) => Ok(()),
+        Some(false) => Err(NoMemory),
+        None => insert_remembered(changes, memo, spares, label, at, cell),
+    }
 }
 
 impl<D: Disk, W: Draw> Staged<D, W> {
@@ -334,6 +415,12 @@ impl<D: Disk, W: Draw> Pages for Staged<D, W> {
     fn put_run(&mut self, label: &Label, count: u8, run: &[u8]) -> Result<(), Fault> {
         let kept = self.spares.page(label, count, run)?;
         self.stage(*label, Some(kept))
+    }
+
+    fn insert_cell(&mut self, label: &Label, at: u32, cell: &Cell) -> Result<(), Fault> {
+        let changes = &mut self.changes;
+        insert_known(changes, &self.memo, &mut self.spares, label, at, cell)?;
+        Ok(())
     }
 
     fn drop_page(&mut self, label: &Label) -> Result<(), Fault> {

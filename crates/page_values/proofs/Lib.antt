@@ -1,4 +1,5 @@
 pub mod CellBytes
 pub mod Filled
+pub mod Inserted
 pub mod Packed
 pub mod PageBytes

@@ -28,11 +28,11 @@ back_each level n cells each = all_back (IsCell level) (take n cells) (drop n ce
 length-front : (level n : ℕ) (cells : List Cell) → AllByRecursion (IsCell level) cells → n ≤ length cells → length (flat_map cell_bytes (take n cells)) ≡ cell_size level * n
 length-front level n cells each within = length-cells_bytes level (take n cells) (front_each level n cells each) ∙ ap (λ k. cell_size level * k) (length-take-le n cells within)
 
-halves : (n : ℕ) (cells : List Cell) → flat_map cell_bytes cells ≡ flat_map cell_bytes (take n cells) ++ flat_map cell_bytes (drop n cells)
+pub halves : (n : ℕ) (cells : List Cell) → flat_map cell_bytes cells ≡ flat_map cell_bytes (take n cells) ++ flat_map cell_bytes (drop n cells)
 halves n cells = ap (flat_map cell_bytes) (sym (take-append-drop n cells)) ∙ flat_map-append cell_bytes (take n cells) (drop n cells)
 
 -- the bytes of the first cells
-front_bytes : (level n : ℕ) (cells : List Cell) (rest : List ℕ) → AllByRecursion (IsCell level) cells → n ≤ length cells → take (cell_size level * n) (flat_map cell_bytes cells ++ rest) ≡ flat_map cell_bytes (take n cells)
+pub front_bytes : (level n : ℕ) (cells : List Cell) (rest : List ℕ) → AllByRecursion (IsCell level) cells → n ≤ length cells → take (cell_size level * n) (flat_map cell_bytes cells ++ rest) ≡ flat_map cell_bytes (take n cells)
 front_bytes level n cells rest each within =
     let front = flat_map cell_bytes (take n cells) in
     let back = flat_map cell_bytes (drop n cells) in

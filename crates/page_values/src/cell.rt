@@ -22,7 +22,7 @@ impl Model for Cell {
 }
 
 impl Cell {
-    ghost use Rattle.std.specs.Prelude.{◌≡◌, ℕ, ◌<◌, Some, None};
+    ghost use Rattle.std.specs.Prelude.{◌≡◌, ◌↔◌, ℕ, ◌<◌, Some, None, IsTrue};
     ghost use Rattle.store_model.specs.Pages.{IsCell};
 
     /// A cell of level 0: a key and its value.
@@ -45,5 +45,19 @@ impl Cell {
     {
         let _ = key.as_bytes();
         Cell { key, value: None }
+    }
+
+    /// Whether it is one of the level: a value is there at level 0 alone.
+    pub fn is_of(&self, level: u8) -> bool
+        ensures { IsTrue result ↔ IsCell level self.now }
+    {
+        let _ = self.key.as_bytes();
+        match &self.value {
+            Some(value) => {
+                let _ = value.as_slice();
+                level == 0
+            }
+            None => level > 0,
+        }
     }
 }

@@ -1,10 +1,11 @@
 //! Pages, and their slots.
 
-ghost use Rattle.std.specs.Prelude.{◌≡◌, ◌+◌, ◌-◌, ◌*◌, ◌<◌, ◌≤◌, ◌↔◌, [], ◌∷◌, ◌++◌, length, map, take, drop, None, Some, IfSome, IsTrue, nat_eq, slice_get, slice_index};
-ghost use Rattle.std.specs.List.{flat_map};
+ghost use Rattle.std.specs.Prelude.{◌≡◌, ◌+◌, ◌-◌, ◌*◌, ◌<◌, ◌≤◌, ◌↔◌, [], ◌∷◌, ◌++◌, length, map, take, drop, None, Some, IfSome, IsTrue, true, false, nat_eq, slice_get, slice_index};
+ghost use Rattle.std.specs.List.{flat_map, AllByRecursion};
 ghost use Rattle.std.specs.List.Sorted.{IsStrictlySortedBy};
 ghost use Rattle.std.specs.Cmp.{partial_equiv_from_equiv, on_equiv, on_per};
 ghost use Rattle.std.specs.Cmp.Lexicographic.{pointwise, nat_list_eq_equiv};
+ghost use Rattle.std.specs.declared.cmp.Ordering.TheVariants.{Less};
 ghost use Rattle.store_model.specs.Lists.{zeros};
 ghost use Rattle.store_model.specs.Parameters.{block_len};
 ghost use Rattle.store_model.specs.Paths.{key_cmp};
@@ -16,11 +17,12 @@ ghost use Rattle.store_model.specs.Labels.{IsLabel, label_bytes};
 ghost use Rattle.page_labels.specs.Keys.{IsKey};
 ghost use Rattle.cell_spelling.specs.Spelling as spelled;
 ghost use Rattle.page_values.specs.Cells as cells;
+ghost use Rattle.page_values.specs.Insertions.{TakesCell, with_cell};
 
 use crate::cell::Cell;
 use crate::spelling;
 use base_types::Value;
-use cell_spelling::{are_whole, cell_len};
+use cell_spelling::{are_whole, cell_len, is_below, room};
 use page_labels::{Key, Label};
 use std::marker::Model;
 use store_model::{BLOCK, Slot};
@@ -108,6 +110,26 @@ fn fill(label: &Label, slot: &mut Slot, count: u8, run: &[u8])
 {
     slot[COUNT_AT] = count;
     slot[CELLS_AT..CELLS_AT + run.len()].copy_from_slice(run);
+}
+
+/// Puts a cell into the slot of a page of the label, before that of number `at` or behind all.
+fn put_before(label: &Label, slot: &mut Slot, at: u32, cell: &Cell)
+    requires holds { cells.IsSlotOf label.now slot.old }
+    requires within { at ≤ slice_index slot.old COUNT_AT }
+    requires cell { IsCell label.now.level cell.now }
+    requires room { slice_index slot.old COUNT_AT < page_room label.now.level }
+    ensures { slot.new ≡ page_bytes (with_cell (cells.page_in label.now slot.old) at cell.now) }
+{
+    let size = cell_len(label.level);
+    let end = size * usize::from(slot[COUNT_AT]);
+    slot[COUNT_AT] += 1;
+    spelling::insert_cell(
+        label.level,
+        &mut slot[CELLS_AT..],
+        size * at as usize,
+        end,
+        cell,
+    );
 }
 
 /// The label of the page that a slot holds, by its first 131 bytes alone: the cells are not looked at.
@@ -219,6 +241,60 @@ impl Page {
         self.slot = [0; BLOCK];
         begin(label, &mut self.slot);
         fill(label, &mut self.slot, count, run);
+    }
+
+    /// Whether the keys of the first `past` cells are below this one.
+    fn are_below(&self, past: u32, key: &Key) -> bool
+        requires { past ≤ length self.now.cells }
+        ensures { IsTrue result ↔ AllByRecursion (λ k. key_cmp k key.now ≡ Less) (map (λ c. c.key) (take past self.now.cells)) }
+    {
+        past == 0 || is_below(self.key_bytes(past - 1), key.as_bytes())
+    }
+
+    /// Whether the keys of the cells from number `first` on are above this one.
+    fn are_above(&self, first: u32, key: &Key) -> bool
+        requires { first ≤ length self.now.cells }
+        ensures { IsTrue result ↔ AllByRecursion (λ k. key_cmp key.now k ≡ Less) (map (λ c. c.key) (drop first self.now.cells)) }
+    {
+        first == self.len() || is_below(key.as_bytes(), self.key_bytes(first))
+    }
+
+    /// Whether a key stands between those of the first `at` cells and those of the others.
+    fn is_between(&self, at: u32, key: &Key) -> bool
+        requires { at ≤ length self.now.cells }
+        ensures { IsTrue result ↔ IsStrictlySortedBy key_cmp (map (λ c. c.key) (take at self.now.cells) ++ key.now ∷ map (λ c. c.key) (drop at self.now.cells)) }
+    {
+        let _ = self.len();
+        self.are_below(at, key) && self.are_above(at, key)
+    }
+
+    /// Whether it has so many cells, has room for one more, and the cell is one of its level.
+    fn may_take(&self, at: u32, cell: &Cell) -> bool
+        ensures { IsTrue result ↔ ((at ≤ length self.now.cells) × (length self.now.cells < page_room self.now.label.level) × IsCell self.now.label.level cell.now) }
+    {
+        at <= self.len() && self.len() < u32::from(room(self.level())) && cell.is_of(self.level())
+    }
+
+    /// Whether it takes a cell before that of number `at`, or behind all.
+    fn takes(&self, at: u32, cell: &Cell) -> bool
+        ensures { IsTrue result ↔ TakesCell self.now at cell.now }
+    {
+        let _ = self.len();
+        self.may_take(at, cell) && self.is_between(at, &cell.key)
+    }
+
+    /// Inserts a cell before that of number `at`, or behind all, and answers whether it did: it does where the page with it is
+    /// one. Else the page is as it was.
+    pub fn insert(&mut self, at: u32, cell: &Cell) -> bool
+        ensures takes { IsTrue result ↔ TakesCell self.old at cell.now }
+        ensures value { result ≡ true → self.new ≡ with_cell self.old at cell.now }
+        ensures kept { result ≡ false → self.new ≡ self.old }
+    {
+        let takes = self.takes(at, cell);
+        if takes {
+            put_before(&self.label, &mut self.slot, at, cell);
+        }
+        takes
     }
 
     /// Its label.

@@ -1,7 +1,8 @@
 //! Cells read from their bytes, and written.
 
-ghost use Rattle.std.specs.Prelude.{◌≡◌, ◌*◌, ◌≤◌, length, take, drop, Some};
+ghost use Rattle.std.specs.Prelude.{◌≡◌, ◌+◌, ◌*◌, ◌≤◌, ◌++◌, length, take, drop, Some};
 ghost use Rattle.store_model.specs.Lists.{zeros, zero_filled};
+ghost use Rattle.store_model.specs.Pages.{IsCell};
 ghost use Rattle.store_model.specs.Images.{cell_bytes, value_bytes};
 ghost use Rattle.cell_spelling.specs.Spelling as spelled;
 ghost use Rattle.page_values.specs.Cells as cells;
@@ -104,4 +105,26 @@ pub fn write_cell(area: &mut [u8], cell: &Cell)
     if let Some(value) = &cell.value {
         write_value(&mut area[KEY_LEN..], value);
     }
+}
+
+/// Moves the bytes from `from` up to `end` by `size`, over what stands behind them, and leaves zeros in front of them.
+fn make_room(area: &mut [u8], from: usize, end: usize, size: usize)
+    requires order { from ≤ end }
+    requires room { end + size ≤ length area.old }
+    ensures { area.new ≡ take from area.old ++ zeros size ++ drop from (take end area.old) ++ drop (end + size) area.old }
+{
+    area.copy_within(from..end, from + size);
+    area[from..from + size].fill(0);
+}
+
+/// Puts a cell of the level before the bytes from `from` up to `end`, which move over what stands behind them.
+pub fn insert_cell(level: u8, area: &mut [u8], from: usize, end: usize, cell: &Cell)
+    requires cell { IsCell level cell.now }
+    requires order { from ≤ end }
+    requires room { end + spelled.cell_size level ≤ length area.old }
+    ensures { area.new ≡ take from area.old ++ cell_bytes cell.now ++ drop from (take end area.old) ++ drop (end + spelled.cell_size level) area.old }
+{
+    let size = cell_len(level);
+    make_room(area, from, end, size);
+    write_cell(&mut area[from..from + size], cell);
 }

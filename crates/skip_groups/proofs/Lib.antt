@@ -4,6 +4,7 @@ pub mod GroupEnds
 pub mod GroupLookups
 pub mod GroupSteps
 pub mod Halving
+pub mod Insertions
 pub mod KeptPages
 pub mod KeyRanges
 pub mod Looks
@@ -14,5 +15,6 @@ pub mod NewCellsSteps
 pub mod PartReads
 pub mod PartSteps
 pub mod RunChanges
+pub mod SearchFrom
 pub mod Sides
 pub mod Walks

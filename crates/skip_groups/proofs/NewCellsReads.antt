@@ -4,9 +4,11 @@ use Rattle.std.specs.List.{slice_get}
 use Rattle.std.proofs.lemmas.List.{length-append, append-nil, take_all, take-append-drop}
 use Rattle.base_types.specs.declared.store_fault.Fault.{Fault}
 use Rattle.base_types.specs.declared.store_fault.Fault.TheVariants.{NoMemory}
+use Rattle.page_labels.specs.declared.label.Lead as declared
 use Rattle.page_labels.specs.Leads as leads
 use Rattle.store_model.specs.Labels.{Lead}
 use Rattle.store_model.specs.Pages.{Cell, Page, page_room, group_pages}
+use Rattle.store_model.specs.PageMaps.{page_at}
 use Rattle.node_pages.specs.Cells.{CellList}
 use Rattle.node_pages.specs.Groups.{pages_from}
 use Rattle.node_pages.specs.PagesState.{PagesState, IsPageGet, most_pages}
@@ -15,14 +17,16 @@ use Rattle.node_pages.proofs.Runs.{next_page, no_page}
 use Rattle.skip_groups.specs.declared.new_cells.NewCells.{NewCells}
 use Rattle.skip_groups.specs.Groups.{label_of}
 use Rattle.skip_groups.specs.declared.new_cells.Step.TheVariants.{Done, Same}
+use Rattle.skip_groups.specs.Floors.{last_of, lead_from}
 use Rattle.skip_groups.specs.GroupCells.{AreCells, side, merged}
+use Rattle.skip_groups.specs.Insertions.{IsPlace, IsPlaceRead, with_place}
 use Rattle.skip_groups.specs.NewCells.{cells_in, ComeIn, IsSet, IsAlone, IsStep, IsEnd, IsMade, AreNew, IsNewCellsRead}
 use Rattle.skip_groups.proofs.CellLists.{front_cells, back_cells}
 use Rattle.skip_groups.proofs.GroupEnds.{last_page, within_room}
 use Rattle.skip_groups.proofs.GroupSteps.{WalksTo, begins, breaks, ends, goes_on, is_over, same_count}
 use Rattle.skip_groups.proofs.MapChanges.{nothing_behind}
 use Rattle.skip_groups.proofs.NewCellsMade.{cells_both, are_above, news_valid, made_to_end, made_alone, made_same, made_behind}
-use Rattle.skip_groups.proofs.NewCellsSteps.{page_at_end, below_or_not}
+use Rattle.skip_groups.proofs.NewCellsSteps.{page_at_end, below_or_not, set_begins}
 
 -- new cells whose parts are the same
 same_made : (a b : NewCells) → b.next ≡ a.next → b.kept ≡ a.kept → b.count ≡ a.count → b.cells ≡ a.cells → a ≡ b
@@ -161,20 +165,20 @@ module _ (old : PagesState) (level : ℕ) (lead : Lead) (key : List ℕ) (own : 
   first_pages index cells = sym (take-append-drop index (group_pages level lead cells))
 
   module _ (now next : PagesState) (index : ℕ) (made : NewCells) (w : AreSeen now index made) where
-    pub seen_fails : (other : NewCells) (fault : Fault) → IsPageGet now next (label_of level lead index) (Err fault) → IsNewCellsRead {T = Unit {0}} old next level lead key own other (Err fault)
-    seen_fails other fault get = breaks old level lead now next index (Sees made index) w (Err fault) fault (λ cells. Unit {0}) (λ cells. tt) (same_count (Option Page) (Unit {0}) old.faults fault) get
+    pub seen_fails : (other : NewCells) (fault : Fault) → IsPageGet now next (label_of level lead index) (Err fault) → IsNewCellsRead {T = Option ℕ} old next level lead key own other (Err fault)
+    seen_fails other fault get = breaks old level lead now next index (Sees made index) w (Err fault) fault (λ cells. Unit {0}) (λ cells. tt) (same_count (Option Page) (Option ℕ) old.faults fault) get
 
     -- memory ran out for what was found
-    pub seen_lacks_memory : (other : NewCells) (page : Option Page) → IsPageGet now next (label_of level lead index) (Ok page) → IsNewCellsRead {T = Unit {0}} old next level lead key own other (Err NoMemory)
+    pub seen_lacks_memory : (other : NewCells) (page : Option Page) → IsPageGet now next (label_of level lead index) (Ok page) → IsNewCellsRead {T = Option ℕ} old next level lead key own other (Err NoMemory)
     seen_lacks_memory other page get = breaks old level lead now next index (Sees made index) w (Ok page) NoMemory (λ cells. Unit {0}) (λ cells. tt) refl get
 
-    seen_to : (other : NewCells) (page : Option Page) → index < 4294967296 → IsPageGet now next (label_of level lead index) (Ok page)
-        → ((cells : List Cell) → Sees made index cells → slice_get (group_pages level lead cells) index ≡ page → AreNew level lead key own cells other) → IsNewCellsRead old next level lead key own other (Ok (tt {0}))
-    seen_to other page below get found = ends old level lead now next index (Sees made index) w page (tt {0}) (λ cells. AreNew level lead key own cells other) below get found
+    seen_to : (answer : Option ℕ) (other : NewCells) (page : Option Page) → index < 4294967296 → IsPageGet now next (label_of level lead index) (Ok page)
+        → ((cells : List Cell) → Sees made index cells → slice_get (group_pages level lead cells) index ≡ page → AreNew level lead key own cells other) → IsNewCellsRead old next level lead key own other (Ok answer)
+    seen_to answer other page below get found = ends old level lead now next index (Sees made index) w page answer (λ cells. AreNew level lead key own cells other) below get found
 
     -- there is no further page
-    pub seen_ends : (other : NewCells) → IsEnd level key own made other → index < 4294967296 → IsPageGet now next (label_of level lead index) (Ok None) → IsNewCellsRead old next level lead key own other (Ok (tt {0}))
-    seen_ends other e below get = seen_to other None below get (λ cells seen none.
+    pub seen_ends : (other : NewCells) → IsEnd level key own made other → index < 4294967296 → IsPageGet now next (label_of level lead index) (Ok None) → IsNewCellsRead {T = Option ℕ} old next level lead key own other (Ok None)
+    seen_ends other e below get = seen_to None other None below get (λ cells seen none.
         new_behind level lead key own cells made (take index (group_pages level lead cells)) (drop index (group_pages level lead cells)) (first_pages index cells) seen other e (nothing_behind index (group_pages level lead cells) none))
 
     -- a page was taken in
@@ -185,8 +189,8 @@ module _ (old : PagesState) (level : ℕ) (lead : Lead) (key : List ℕ) (own : 
       pub seen_more : page_room level ≤ length page.cells → AreSeen next (index + 1) other
       seen_more full = goes_on old level lead now next index (Sees made index) w page (Sees other (index + 1)) full below get with_page
 
-      pub seen_done : IsStep level lead page other Done → IsNewCellsRead old next level lead key own other (Ok (tt {0}))
-      seen_done step = seen_to other (Some page) below get (λ cells seen there. by_step cells (with_page cells seen there) there step.1)
+      pub seen_done : (answer : Option ℕ) → IsStep level lead page other Done → IsNewCellsRead old next level lead key own other (Ok answer)
+      seen_done answer step = seen_to answer other (Some page) below get (λ cells seen there. by_step cells (with_page cells seen there) there step.1)
         where
           to_end : (cells : List Cell) → Sees other (index + 1) cells → slice_get (group_pages level lead cells) index ≡ Some page → length page.cells < page_room level → AreNew level lead key own cells other
           to_end cells h there short =
@@ -203,10 +207,27 @@ module _ (old : PagesState) (level : ℕ) (lead : Lead) (key : List ℕ) (own : 
               ]
 
       -- nothing changes
-      pub seen_same : IsStep level lead page other Same → (none : CellList) → none.cells ≡ [] → IsNewCellsRead old next level lead key own (record { next = other.next; kept = other.kept; count = 0; cells = none }) (Ok (tt {0}))
-      seen_same step none empty = seen_to (record { next = other.next; kept = other.kept; count = 0; cells = none }) (Some page) below get (λ cells seen there.
+      pub seen_same : IsStep level lead page other Same → (none : CellList) → none.cells ≡ [] → IsNewCellsRead {T = Option ℕ} old next level lead key own (record { next = other.next; kept = other.kept; count = 0; cells = none }) (Ok None)
+      seen_same step none empty = seen_to None (record { next = other.next; kept = other.kept; count = 0; cells = none }) (Some page) below get (λ cells seen there.
           let group = group_pages level lead cells in
           new_same level lead key own cells other (take (index + 1) group) (drop (index + 1) group) (first_pages (index + 1) cells) (with_page cells seen there) (take index group) page (take_next group index page there) step.0 step.1 none empty)
 
-  pub seen_all : (now : PagesState) (index : ℕ) (made : NewCells) → AreSeen now index made → most_pages ≤ index → IsNewCellsRead old now level lead key own made (Ok (tt {0}))
-  seen_all now index made w far = is_over old level lead now index (Sees made index) (tt {0}) (λ cells. AreNew level lead key own cells made) w far
+    -- a page takes the key's cell
+    pub seen_place : (page : Page) (at : ℕ) (ahead : declared.Lead) (place : IsPlace level key own page at) → made.count ≡ 0 → made.kept ≡ index → leads.lead_of ahead ≡ lead_from (last_of (take at page.cells)) (leads.lead_of made.next)
+        → index < 4294967296 → IsPageGet now next (label_of level lead index) (Ok (Some page)) → IsPlaceRead {T = Option ℕ} old next level lead key own (record { next = ahead; kept = made.kept; count = made.count; cells = made.cells }) at (Ok (Some at))
+    seen_place page at ahead place none kept_is led below get =
+        let other = with_place (record { next = ahead; kept = made.kept; count = made.count; cells = made.cells }) page at place.cell in
+        let few : length other.cells.cells ≤ length own + (length page.cells + length page.cells) =
+        omega (arith, length-append (take at page.cells) (place.cell ∷ drop at page.cells), length-append (take at page.cells) (drop at page.cells), ap length (take-append-drop at page.cells), ap length place.own_is) in
+        record {
+          page = page;
+          place = place;
+          found = λ o.
+              let g = get.observed (w.observed (w.hidden (get.hidden o))).observable in
+              ap (λ m. page_at m (label_of level lead made.kept)) g.unchanged ∙ ap (λ n. page_at now.pages (label_of level lead n)) kept_is ∙ sym g.found;
+          read = seen_done page other (λ pages h. set_begins level lead key own pages page made h none (inl place.room) ahead other.cells few (λ valid. record { next = led ∙ ap (λ xs. lead_from (last_of xs) (leads.lead_of made.next)) place.low; cells = place.made })) below get (Some at)
+              (omega arith, inl place.room);
+        }
+
+  pub seen_all : (now : PagesState) (index : ℕ) (made : NewCells) → AreSeen now index made → most_pages ≤ index → IsNewCellsRead {T = Option ℕ} old now level lead key own made (Ok None)
+  seen_all now index made w far = is_over old level lead now index (Sees made index) None (λ cells. AreNew level lead key own cells made) w far

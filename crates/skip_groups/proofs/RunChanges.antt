@@ -3,17 +3,21 @@ use Rattle.std.proofs.Common.{◌≡◌, ℕ, zero, suc, ◌+◌, ◌-◌, ◌*�
 use Rattle.std.specs.List.{slice_get}
 use Rattle.std.specs.FinMap.{len, len-remove, contains_key}
 use Rattle.std.specs.Cmp.Lexicographic.{nat_list_cmp_total}
+use Rattle.std.proofs.lemmas.List.{length-append, take-append-drop, take_all}
 use Rattle.base_types.specs.declared.store_fault.Fault.{Fault}
 use Rattle.base_types.specs.Faults.{disk_faults_after}
 use Rattle.store_model.specs.Lists.{runs}
 use Rattle.store_model.specs.Labels.{Lead, Label, label_bytes}
-use Rattle.store_model.specs.Pages.{Page, page_room}
-use Rattle.store_model.specs.PageMaps.{PageMap, with_page, without_page, map_of_pages}
+use Rattle.page_values.specs.Insertions.{with_cell}
+use Rattle.store_model.specs.Pages.{Cell, Page, page_room}
+use Rattle.store_model.specs.PageMaps.{PageMap, IsPageMap, with_page, without_page, map_of_pages}
+use Rattle.store_model.specs.PageMaps as maps
+use Rattle.store_model.proofs.TreesLemmasBytes.{labels_same}
 use Rattle.node_pages.specs.Cells.{CellList}
-use Rattle.node_pages.specs.Groups.{page_of_run}
-use Rattle.node_pages.specs.PagesState.{PagesState, IsPagePut, IsPageDrop}
+use Rattle.node_pages.specs.Groups.{page_of_run, pages_from}
+use Rattle.node_pages.specs.PagesState.{PagesState, IsObservable, IsCellInsert, IsPagePut, IsPageDrop}
 use Rattle.node_pages.proofs.EntryLemmas.{len-with_page}
-use Rattle.node_pages.proofs.Runs.{length-pages_from, page_at, run_within}
+use Rattle.node_pages.proofs.Runs.{length-pages_from, next_page, page_at, run_within}
 use Rattle.skip_groups.specs.Groups.{label_of}
 use Rattle.skip_groups.specs.GroupChanges.{changed_pages, IsRunChange}
 use Rattle.skip_groups.proofs.MapChanges.{label_at, page_put, page_dropped}
@@ -108,3 +112,36 @@ module _ (old : PagesState) (lead : Lead) (first count : ℕ) (list : CellList) 
     hidden = h.hidden;
     observed = λ o. let s = h.observed o in record { observable = s.observable; room = omega (arith, s.room); changed = λ olds news front back run change is. tt };
   }
+
+-- a page of the group is put with one cell more
+pub run_inserts : {T : Type 0} (old new : PagesState) (level : ℕ) (lead : Lead) (first : ℕ) (page : Page) (at : ℕ) (cell : Cell) (l : Label) (result : Result T Fault) → first < 4294967296 → length page.cells < page_room level
+    → (IsObservable old → IsPageMap old.pages) → (IsObservable old → maps.page_at old.pages (label_of level lead first) ≡ Some page) → l ≡ label_of level lead first → IsCellInsert old new l at cell result
+    → IsRunChange old new lead first 1 (record { level = level; cells = (with_cell page at cell).cells }) 1 result
+run_inserts old new level lead first page at cell l result below room map found label_is insert = record {
+  faults = insert.faults;
+  lookups = insert.lookups;
+  hidden = insert.hidden;
+  observed = λ o.
+      let put = insert.observed o page (ap (maps.page_at old.pages) label_is ∙ found o) in
+      record {
+        observable = put.observable;
+        room = let n = len-with_page old.pages (with_cell page at cell) in either_result result (λ changed. omega (arith, ap len changed, n)) (λ kept. omega (arith, ap len kept)) put.changed put.unchanged;
+        changed = λ olds news front back run change is.
+            let under = map o (label_bytes (label_of level lead first)) page (found o) in
+            let labelled : label_of level lead first ≡ page.label = labels_same (label_of level lead first) page.label (record { level = change.low; lead = change.led; index = below }) under.valid.label under.under in
+            let there = run.put 0 (with_cell page at cell) (pages_are (sym labelled)) in
+            let here : first + 0 ≡ first = omega arith in
+            where_ok result (λ changed. changed ∙ ap (λ m. with_page m (with_cell page at cell)) (is ∙ ap (λ ps. map_of_pages (front ++ (ps ++ back))) (sym run.start))
+            ∙ page_put level lead front back olds news change first below (with_cell page at cell) (ap (slice_get news) (sym here) ∙ there)) put.changed;
+      };
+}
+  where
+    longer : length (with_cell page at cell).cells ≡ length page.cells + 1
+    longer = omega (arith, length-append (take at page.cells) (cell ∷ drop at page.cells), length-append (take at page.cells) (drop at page.cells), ap length (take-append-drop at page.cells))
+
+    pages_are : page.label ≡ label_of level lead first → slice_get (pages_from level lead first (with_cell page at cell).cells) 0 ≡ Some (with_cell page at cell)
+    pages_are labelled =
+        let cells = (with_cell page at cell).cells in
+        ap (λ ps. slice_get ps 0) (next_page level lead first cells (omega (arith, longer)))
+        ∙ ap (λ run. Some (page_of_run level lead first run)) (take_all (page_room level) cells (omega (arith, longer, room)))
+        ∙ ap (λ k. Some (record { label = k; cells = cells })) (sym labelled)

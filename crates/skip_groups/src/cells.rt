@@ -1,31 +1,18 @@
 //! The cells of one group, and how a change of one key leaves them.
 
-ghost use Rattle.std.specs.Prelude.{◌≡◌, ◌↔◌, ◌+◌, ◌-◌, ◌<◌, ◌≤◌, ◌++◌, [], ◌∷◌, length, take, drop, IsTrue, IfOk, OnOk, true, false};
+ghost use Rattle.std.specs.Prelude.{◌≡◌, ◌↔◌, ◌+◌, ◌-◌, ◌<◌, ◌≤◌, ◌++◌, [], ◌∷◌, length, take, drop, IsTrue, IfSome, IfOk, OnOk, true, false};
 ghost use Rattle.std.specs.declared.cmp.Ordering.TheVariants.{Less, Equal, Greater};
 ghost use Rattle.store_model.specs.Pages.{IsCell};
 ghost use Rattle.page_labels.specs.Leads.{lead_of};
 ghost use Rattle.skip_groups.specs.Floors.{last_of, lead_from};
 ghost use Rattle.skip_groups.specs.GroupCells.{AreCells, IsRisingList, AreBetween, IsKept, IsFirst, IsMerged, last_key_of, is_behind, side, merged};
+ghost use Rattle.skip_groups.specs.Insertions.{IsPlace};
 
 use crate::group::is_last;
 use crate::search::count_not_above;
 use base_types::NoMemory;
 use node_pages::{Cell, Cells, Page};
 use page_labels::{Key, Lead};
-
-/// Whether a cell is one of the level: a value is there at level 0 alone.
-fn is_cell(level: u8, cell: &Cell) -> bool
-    ensures { IsTrue result ↔ IsCell level cell.now }
-{
-    let _ = cell.key.as_bytes();
-    match &cell.value {
-        Some(value) => {
-            let _ = value.as_slice();
-            level == 0
-        }
-        None => level > 0,
-    }
-}
 
 /// Whether two levels have the same cells: those of level 0 have values, and those of all others have none.
 fn have_same_cells(level: u8, other: u8) -> bool
@@ -71,7 +58,7 @@ fn push_rising(cells: &mut Cells, cell: &Cell) -> Result<(), NoMemory>
     ensures added { AreCells cells.old.level (cells.old.cells ++ cell.now ∷ []) → OnOk result (cells.new.cells ≡ cells.old.cells ++ cell.now ∷ []) }
     ensures few { length cells.new.cells ≤ length cells.old.cells + 1 }
 {
-    if !is_cell(cells.level(), cell) || !is_above(&cell.key, last_key(cells)) {
+    if !cell.is_of(cells.level()) || !is_above(&cell.key, last_key(cells)) {
         return Ok(());
     }
     cells.push(cell)
@@ -127,6 +114,37 @@ fn places_of(page: &Page, key: &Key) -> (u32, u32)
     } else {
         (past, past)
     }
+}
+
+/// Where the cell of the key, if it has just one and that is one of the level, comes into a page with room that lacks the key.
+pub fn place_of_own(level: u8, page: &Page, key: &Key, own: &[Cell]) -> Option<u32>
+    ensures { IfSome result (λ at. IsPlace level key.now own.now page.now at) }
+{
+    if !is_last(level, page) || page.level() != level || own.len() != 1 {
+        return None;
+    }
+    let cell = &own[0];
+    let _ = page.len();
+    if !cell.is_of(level) || !cell.key.cmp(key).is_eq() {
+        return None;
+    }
+    let (at, past) = places_of(page, key);
+    if at != past {
+        return None;
+    }
+    Some(at)
+}
+
+/// What leads the next lower group of a search path, where the cells before this place of a page are those below the key: the last
+/// of them, or else what leads this one.
+pub fn lead_before(page: &Page, at: u32, lead: &Lead) -> Lead
+    requires { at ≤ length page.now.cells }
+    ensures { lead_of result ≡ lead_from (last_of (take at page.now.cells)) (lead_of lead.now) }
+{
+    if at == 0 {
+        return *lead;
+    }
+    Lead::Key(page.key(at - 1))
 }
 
 /// Adds the cells of a page that are above the key behind the others, those left out that are not of the level or do not rise.

@@ -1,12 +1,12 @@
 //! What setting the cells of a key, or parting all cells by it, makes of the pages of its group.
 
-ghost use Rattle.std.specs.Prelude.{◌≡◌, ◌+◌, ◌<◌, ◌≤◌, [], ◌∷◌, ◌++◌, List, length, IfOk, OnOk, ℕ};
+ghost use Rattle.std.specs.Prelude.{◌≡◌, ◌+◌, ◌<◌, ◌≤◌, [], ◌∷◌, ◌++◌, List, length, IfSome, IfOk, OnOk, ℕ};
 ghost use Rattle.page_labels.specs.Leads.{lead_of};
 ghost use Rattle.store_model.specs.Labels as labels;
 ghost use Rattle.store_model.specs.Pages as model;
 ghost use Rattle.skip_groups.specs.GroupCells.{IsFirst, IsRisingList, AreCells};
 
-use crate::cells::{append_above, append_own, merge_page, part_page, stays};
+use crate::cells::{append_above, append_own, merge_page, part_page, place_of_own, stays};
 use crate::group::is_last;
 use base_types::NoMemory;
 use node_pages::{Cell, Cells, Page};
@@ -23,7 +23,7 @@ pub struct NewCells {
     pub kept: u32,
     /// How many pages behind them give way; any others stay.
     pub count: u32,
-    /// The cells that come in their place.
+    /// The cells that come in their place; none where one cell comes into a page that lies where it is.
     pub cells: Cells,
 }
 
@@ -41,6 +41,7 @@ pub enum Step {
 impl NewCells {
     ghost use Rattle.skip_groups.specs.GroupParts.{IsParted};
     ghost use Rattle.skip_groups.specs.NewCells.{IsSet, IsStep, IsStepBehind, IsEnd};
+    ghost use Rattle.skip_groups.specs.Insertions.{IsPlace};
 
     /// What is known behind a page that others may follow.
     fn step_behind(level: u8, page: &Page) -> Step
@@ -116,6 +117,17 @@ impl NewCells {
         } else {
             Ok(Step::Done)
         }
+    }
+
+    /// Where the cell of the key comes into a page behind those that stay, and changes no other page.
+    pub(crate) fn place(&self, page: &Page, key: &Key, own: &[Cell]) -> Option<u32>
+        ensures none { IfSome result (λ at. self.now.count ≡ 0) }
+        ensures place { IfSome result (λ at. IsPlace self.now.cells.level key.now own.now page.now at) }
+    {
+        if self.count > 0 {
+            return None;
+        }
+        place_of_own(self.cells.level(), page, key, own)
     }
 
     /// Goes on with the next page of the group that `lead` leads, and answers what is known behind it.

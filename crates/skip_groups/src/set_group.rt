@@ -11,8 +11,10 @@ ghost use Rattle.node_pages.specs.PagesState.{IsObservable, most_pages};
 ghost use Rattle.skip_groups.specs.GroupCells.{AreCells, IsRisingList};
 ghost use Rattle.skip_groups.specs.GroupChanges.{IsRunChange};
 ghost use Rattle.skip_groups.specs.GroupParts.{IsParted, IsGroupParted};
-ghost use Rattle.skip_groups.specs.NewCells.{IsSet, IsNewCellsRead};
+ghost use Rattle.skip_groups.specs.Insertions.{IsSetRead};
+ghost use Rattle.skip_groups.specs.NewCells.{IsSet};
 
+use crate::cells::lead_before;
 use crate::group::{is_last, label_in_group};
 use crate::new_cells::{NewCells, Step};
 use base_types::Fault;
@@ -20,18 +22,19 @@ use node_pages::{Cell, Cells, Pages};
 use page_labels::{Key, Lead};
 
 /// Reads the group that `lead` leads on the level, as far as it changes where the key's cells are set in it: each page is asked for
-/// once at most, and none behind a page with room. After a fault the pages are as they were.
+/// once at most, and none behind a page with room. Where one cell comes into the page behind those that stay, and nothing else changes,
+/// the answer is its place there, and no cells are gathered. After a fault the pages are as they were.
 pub fn read_new_cells<P: Pages>(
     pages: &mut P,
     lead: &Lead,
     key: &Key,
     own: &[Cell],
     made: &mut NewCells,
-) -> Result<(), Fault>
+) -> Result<Option<u32>, Fault>
     requires valid { AreCells made.old.cells.level made.old.cells.cells }
     requires empty { made.old.cells.cells ≡ [] }
     requires none { IsSet made.old.cells.level (lead_of lead.now) key.now own.now [] made.old }
-    ensures call { IsNewCellsRead (P.state pages.old) (P.state pages.new) made.old.cells.level (lead_of lead.now) key.now own.now made.new result }
+    ensures call { IsSetRead (P.state pages.old) (P.state pages.new) made.old.cells.level (lead_of lead.now) key.now own.now made.new result }
     ensures valid { OnOk result (IsRisingList made.old.cells.level made.new.cells) }
     ensures follows { P.follows pages.old pages.new }
 {
@@ -40,19 +43,23 @@ pub fn read_new_cells<P: Pages>(
         let found = pages.look(&label_in_group(level, lead, index))?;
         let Some(page) = found else {
             made.end(key, own)?;
-            return Ok(());
+            return Ok(None);
         };
+        if let Some(at) = made.place(page, key, own) {
+            made.next = lead_before(page, at, &made.next);
+            return Ok(Some(at));
+        }
         match made.go_on(lead, page, key, own)? {
             Step::More => {}
-            Step::Done => return Ok(()),
+            Step::Done => return Ok(None),
             Step::Same => {
                 made.count = 0;
                 made.cells.restart(level);
-                return Ok(());
+                return Ok(None);
             }
         }
     }
-    Ok(())
+    Ok(None)
 }
 
 /// Reads the group that `lead` leads on the level, and parts its cells by the key: the first full pages of cells below it stay, of the

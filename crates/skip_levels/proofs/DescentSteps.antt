@@ -13,7 +13,7 @@ use Rattle.node_pages.specs.PagesState.{PagesState, IsObservable}
 use Rattle.skip_groups.specs.Floors.{floor_of, after_of, lead_from, key_ahead}
 use Rattle.skip_groups.specs.Groups.{HoldsGroup}
 use Rattle.skip_levels.specs.SearchPath.{above, leader_behind, leader_ahead, not_above, levels_cost}
-use Rattle.skip_levels.specs.Descent.{HoldsPairs, IsSearched, LiesIn, IsPlace, IsWayFrom, IsWayDown, IsPlaceSearch, led_by, followed_by}
+use Rattle.skip_levels.specs.Descent.{HoldsPairs, IsSearched, LiesInKnown, IsPlace, IsWayFrom, IsWayDown, IsPlaceSearch, lead_in, led_by, followed_by}
 use Rattle.skip_levels.specs.declared.search.PathEnd.{PathEnd}
 use Rattle.skip_groups.specs.Searches.{seen, ReadsGroup, IsGroupSearch}
 use Rattle.skip_levels.proofs.PlaceGroups.{group_of_place}
@@ -235,8 +235,9 @@ module _ (old mid : PagesState) (height highest : ℕ) (known : Option PathEnd) 
 
 -- ---- to a group that is known
 
-pub lead_is_known : (old : PagesState) (height top : ℕ) (place : PathEnd) (key : List ℕ) → top ≡ 0 → LiesIn place key → IsPlaceSearch old old height (Some place) top key (Some place) (Ok place.lead)
-lead_is_known old height top place key lowest lies = record {
+pub lead_is_known : (old : PagesState) (height top : ℕ) (known : Option PathEnd) (key : List ℕ) → top ≡ 0 → LiesInKnown known key → IsPlaceSearch old old height known top key known (Ok (lead_in known))
+lead_is_known old height top None key lowest lies = absurd lies
+lead_is_known old height top (Some place) key lowest lies = record {
   faults = refl;
   lookups_kept = omega arith;
   hidden = λ o. o;

@@ -138,7 +138,7 @@ module _ (d : Draw) (s : List Pair) (key value : List ℕ) (valid : IsPairs s) (
         zero_from_test : (n : ℕ) → (n == 0) ≡ true → n ≡ 0
         zero_from_test n f = grind (arith, nat_tests)
     low_behind false e =
-        let own : PathEnd = record { lead = leads.Key key; next = low.next } in
+        let own : PathEnd = record { lead = leads.Key key; next = low.next; page = 0 } in
         known_at d made key own valid_behind (record { lead = sym (key_leads (some_from_test place.top e)); next = here.next ∙ ap (leader_ahead d 0) (sym higher_side) })
       where
         some_from_test : (n : ℕ) → (n == 0) ≡ false → 0 < n

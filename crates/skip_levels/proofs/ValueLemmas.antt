@@ -85,7 +85,7 @@ sees_value key cell value = value_at key (Some cell)
 abbrev pub sees_no_more : Cell → Option (List ℕ) → Option (List ℕ)
 sees_no_more cell value = value
 
-value_seen : (key : List ℕ) (floor after : Option Cell) → seen sees_no_more after (seen (sees_value key) floor None) ≡ value_at key floor
+pub value_seen : (key : List ℕ) (floor after : Option Cell) → seen sees_no_more after (seen (sees_value key) floor None) ≡ value_at key floor
 value_seen key None None = refl
 value_seen key None (Some cell) = refl
 value_seen key (Some cell) None = refl

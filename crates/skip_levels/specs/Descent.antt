@@ -47,6 +47,11 @@ pub record LiesIn (place : PathEnd) (key : List ℕ) : Type 0 where
   pub from : is_from (lead_of place.lead) key ≡ true
   pub before : is_before place.next key ≡ true
 
+-- a key lies in the group of level 0 that is known
+abbrev pub LiesInKnown : Option PathEnd → List ℕ → Type 0
+LiesInKnown None key = ⊥
+LiesInKnown (Some place) key = LiesIn place key
+
 -- what is known of a group of level 0, if anything is: that it is the place of each key that lies in it
 abbrev pub IsKnown : Draw → List Pair → Option PathEnd → Type 0
 IsKnown d s None = Unit {0}
@@ -83,10 +88,10 @@ pub record IsWayFrom (d : Draw) (s : List Pair) (m : PageMap) (top : ℕ) (key :
 
 -- of a place on the search path the cell that is not above the key becomes the lead, and the one above it what comes next
 abbrev pub led_by : Cell → PathEnd → PathEnd
-led_by cell end = record { lead = leads.Key cell.key; next = end.next }
+led_by cell end = record { lead = leads.Key cell.key; next = end.next; page = end.page }
 
 abbrev pub followed_by : Cell → PathEnd → PathEnd
-followed_by cell end = record { lead = end.lead; next = Some cell.key }
+followed_by cell end = record { lead = end.lead; next = Some cell.key; page = end.page }
 
 -- what going down from one level to another leaves of observable pages
 pub record GoesDown (old new : PagesState) (top : ℕ) (from : PathEnd) (bottom : ℕ) (key : List ℕ) (result : Result PathEnd Fault) : Type 0 where

@@ -30,7 +30,7 @@ is_leader key (Leader leader) = is_eq (key_cmp leader key)
 -- what is known behind a put of the key from a level down: a new key above level 0 leads a group of its own
 abbrev pub leads_own : List ℕ → Option PathEnd → Option PathEnd
 leads_own key None = None
-leads_own key (Some place) = Some (record { lead = leads.Key key; next = place.next })
+leads_own key (Some place) = Some (record { lead = leads.Key key; next = place.next; page = 0 })
 
 abbrev pub behind : ℕ → List ℕ → Option PathEnd → Option PathEnd
 behind top key known = if top == 0 then known else leads_own key known

@@ -70,5 +70,6 @@ pub fn know_behind(known: &mut Option<PathEnd>, top: u8, key: &Key)
     }
     if let Some(place) = known {
         place.lead = Lead::Key(*key);
+        place.page = 0;
     }
 }

@@ -1,12 +1,12 @@
 //! The search for a key in the pages of a list, on its search path from level to level.
 
 ghost use Rattle.std.specs.Prelude.{◌≡◌, ◌<◌, ◌≤◌, refl, ◌↔◌, IsTrue};
-ghost use Rattle.skip_levels.specs.Descent.{LiesIn, IsWayDown, IsPlaceSearch, IsKeySearch, ends_at, followed_by, lead_in, leads_in, led_by, placed};
+ghost use Rattle.skip_levels.specs.Descent.{LiesIn, LiesInKnown, IsWayDown, IsPlaceSearch, IsKeySearch, ends_at, followed_by, lead_in, leads_in, led_by, placed};
 
 use base_types::{Fault, Value};
 use node_pages::{Page, Pages};
 use page_labels::{Key, Lead};
-use skip_groups::{Wanted, search_group};
+use skip_groups::{Wanted, search_group, search_group_from};
 
 /// Where a descent on the search path of a key ends.
 #[derive(Clone, Copy)]
@@ -15,6 +15,9 @@ pub struct PathEnd {
     pub lead: Lead,
     /// The first key above that leads a group of that level, if there is one.
     pub next: Option<Key>,
+    /// At which page the last search in that group ended, or 0. It is a guess at where the next one finds its key, and right for any
+    /// group whatever it is.
+    pub page: u32,
 }
 
 impl Wanted for PathEnd {
@@ -70,6 +73,16 @@ fn lies_in(place: &PathEnd, key: &Key) -> bool
     is_from && is_before
 }
 
+/// Whether a key lies in the group of level 0 that is known.
+fn is_known(known: &Option<PathEnd>, key: &Key) -> bool
+    ensures { IsTrue result ↔ LiesInKnown known.now key.now }
+{
+    match known {
+        Some(place) => lies_in(place, key),
+        None => false,
+    }
+}
+
 /// Has the place of a key on level 0 known, in pages of this height, found by one group of each level above. Where it is known
 /// before, no page is asked for. After a fault what was known still is.
 pub fn go_to<P: Pages>(
@@ -82,14 +95,13 @@ pub fn go_to<P: Pages>(
     ensures call { IsPlaceSearch (P.state pages.old) (P.state pages.new) height known.old 0 key.now known.new (leads_in known.new result) }
     ensures follows { P.follows pages.old pages.new }
 {
-    if let Some(place) = &*known {
-        if lies_in(place, key) {
-            return Ok(());
-        }
+    if is_known(known, key) {
+        return Ok(());
     }
     let mut end = PathEnd {
         lead: Lead::Start,
         next: None,
+        page: 0,
     };
     descend(pages, height - 1, 0, key, &mut end)?;
     *known = Some(end);
@@ -117,6 +129,7 @@ pub fn find_lead<P: Pages>(
     let mut end = PathEnd {
         lead: Lead::Start,
         next: None,
+        page: 0,
     };
     descend(pages, height - 1, top, key, &mut end)?;
     let lead = end.lead;
@@ -135,6 +148,28 @@ pub fn known_lead(known: &Option<PathEnd>) -> Lead
     }
 }
 
+/// The value of a key that lies in the group of level 0 that is known, in the pages of a list of two levels or more, if the list has it.
+/// The group is read from the page on at which the last search in it ended, or else from its first page on. After a fault the pages are
+/// as they were, and what was known is still right.
+fn value_in_known<P: Pages>(
+    pages: &mut P,
+    known: &mut Option<PathEnd>,
+    height: u8,
+    key: &Key,
+) -> Result<Option<Value>, Fault>
+    requires high { 1 < height }
+    requires lies { LiesInKnown known.old key.now }
+    ensures call { IsKeySearch (P.state pages.old) (P.state pages.new) height known.old 0 key.now known.new (placed known.new result) }
+    ensures follows { P.follows pages.old pages.new }
+{
+    let Some(place) = known else {
+        return Ok(None);
+    };
+    let mut value = None;
+    place.page = search_group_from(pages, 0, &place.lead, place.page, key, &mut value)?;
+    Ok(value)
+}
+
 /// The value of a key in the pages of a list of this height, if the list has it. The groups of one search path are read, or that
 /// of level 0 alone where it is known. The place of the key on level 0 is then known. After a fault the pages are as they were,
 /// and what was known is still right.
@@ -148,6 +183,10 @@ pub fn find_value<P: Pages>(
     ensures call { IsKeySearch (P.state pages.old) (P.state pages.new) height known.old 0 key.now known.new (placed known.new result) }
     ensures follows { P.follows pages.old pages.new }
 {
+    // At height 1 the path is that one group, and no level above pays for a look in vain.
+    if height > 1 && is_known(known, key) {
+        return value_in_known(pages, known, height, key);
+    }
     go_to(pages, known, height, key)?;
     let mut value = None;
     search_group(pages, 0, &known_lead(known), key, &mut value)?;
@@ -163,8 +202,8 @@ pub struct KeyPlace {
     pub value: Option<Value>,
 }
 
-/// What leads the group of a key's own level, `top`, and its value, as `find_value` finds it.
-pub fn find_place<P: Pages>(
+/// What leads the group of a key's own level, `top`, by one way down to that and on to level 0, and the key's value there.
+fn place_from_above<P: Pages>(
     pages: &mut P,
     known: &mut Option<PathEnd>,
     height: u8,
@@ -179,4 +218,26 @@ pub fn find_place<P: Pages>(
     let mut value = None;
     search_group(pages, 0, &known_lead(known), key, &mut value)?;
     Ok(KeyPlace { lead, value })
+}
+
+/// What leads the group of a key's own level, `top`, and its value, as `find_value` finds it.
+pub fn find_place<P: Pages>(
+    pages: &mut P,
+    known: &mut Option<PathEnd>,
+    height: u8,
+    top: u8,
+    key: &Key,
+) -> Result<KeyPlace, Fault>
+    requires { top < height }
+    ensures call { IsKeySearch (P.state pages.old) (P.state pages.new) height known.old top key.now known.new result }
+    ensures follows { P.follows pages.old pages.new }
+{
+    if top > 0 {
+        return place_from_above(pages, known, height, top, key);
+    }
+    let value = find_value(pages, known, height, key)?;
+    Ok(KeyPlace {
+        lead: known_lead(known),
+        value,
+    })
 }

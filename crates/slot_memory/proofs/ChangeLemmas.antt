@@ -2,7 +2,7 @@
 use Rattle.std.proofs.Common.{◌≡◌, ℕ, Bool, true, false, cond, List, [], ◌∷◌, Option, Some, None, refl, sym, ap, ◌∙◌}
 use Rattle.std.specs.declared.cmp.Ordering.{Ordering}
 use Rattle.std.specs.declared.cmp.Ordering.TheVariants.{Less, Equal, Greater}
-use Rattle.std.specs.Map.{lookup}
+use Rattle.std.specs.Map.{lookup, set_value}
 use Rattle.std.specs.BTreeMap.{is_at, insert_entry}
 use Rattle.std.specs.Ordering.{nat_cmp, is_eq, eq_by_cmp, match_ordering}
 use Rattle.std.specs.Cmp.{tied_itself}
@@ -89,3 +89,38 @@ pub with_changes-insert : (m : PageMap) (changes : Changes) (k : Label) (v : Opt
 with_changes-insert m changes k v =
     same_map nat_list_cmp_total (slice_cmp-IsAntisymmetric nat_cmp-IsAntisymmetric) (with_changes m (insert_entry label_cmp changes k v)) (with_change (with_changes m changes) k v)
     (λ b. inserted m changes k v b ∙ sym (get-with_change (with_changes m changes) k v b))
+
+-- a change under a label that is written over
+written : (m : PageMap) (changes : Changes) (k : Label) (old v : Option Page) (b : List ℕ) → lookup (is_at (label_cmp k)) changes ≡ Some old
+    → maps.get (with_changes m (set_value (is_at (label_cmp k)) changes v)) b ≡ cond (eq_by_cmp (slice_cmp nat_cmp) b (label_bytes k)) v (maps.get (with_changes m changes) b)
+written m [] k old v b found = cc
+written m (e ∷ es) k old v b found = by_case (is_eq (label_cmp k e.0)) refl found (written m es k old v b)
+  where
+    below : maps.get (with_changes m (e ∷ es)) b ≡ cond (eq_by_cmp (slice_cmp nat_cmp) b (label_bytes e.0)) e.1 (maps.get (with_changes m es) b)
+    below = get-with_change (with_changes m es) e.0 e.1 b
+
+    apart : is_eq (label_cmp k e.0) ≡ false → eq_by_cmp (slice_cmp nat_cmp) b (label_bytes k) ≡ true → eq_by_cmp (slice_cmp nat_cmp) b (label_bytes e.0) ≡ true → ⊥
+    apart is first second =
+        let same : b ≡ label_bytes k = same_when_tied b (label_bytes k) first in
+        let tied : is_eq (slice_cmp nat_cmp (label_bytes k) (label_bytes e.0)) ≡ true = ap (λ (x : List ℕ). is_eq (slice_cmp nat_cmp x (label_bytes e.0))) (sym same) ∙ second in
+        cc
+
+    by_case : (r : Bool) → is_eq (label_cmp k e.0) ≡ r → cond r (Some e.1) (lookup (is_at (label_cmp k)) es) ≡ Some old
+        → (lookup (is_at (label_cmp k)) es ≡ Some old → maps.get (with_changes m (set_value (is_at (label_cmp k)) es v)) b ≡ cond (eq_by_cmp (slice_cmp nat_cmp) b (label_bytes k)) v (maps.get (with_changes m es) b))
+        → maps.get (with_changes m (cond r ((e.0, v) ∷ es) (e ∷ set_value (is_at (label_cmp k)) es v))) b ≡ cond (eq_by_cmp (slice_cmp nat_cmp) b (label_bytes k)) v (maps.get (with_changes m (e ∷ es)) b)
+    by_case true is found rest =
+        let same : label_bytes k ≡ label_bytes e.0 = same_when_tied (label_bytes k) (label_bytes e.0) is in
+        get-with_change (with_changes m es) e.0 v b
+        ∙ shadowed (eq_by_cmp (slice_cmp nat_cmp) b (label_bytes k)) (eq_by_cmp (slice_cmp nat_cmp) b (label_bytes e.0)) v e.1 (maps.get (with_changes m es) b) (ap (eq_by_cmp (slice_cmp nat_cmp) b) same)
+        ∙ ap (cond (eq_by_cmp (slice_cmp nat_cmp) b (label_bytes k)) v) (sym below)
+    by_case false is found rest =
+        get-with_change (with_changes m (set_value (is_at (label_cmp k)) es v)) e.0 e.1 b
+        ∙ ap (cond (eq_by_cmp (slice_cmp nat_cmp) b (label_bytes e.0)) e.1) (rest found)
+        ∙ exchanged (eq_by_cmp (slice_cmp nat_cmp) b (label_bytes k)) (eq_by_cmp (slice_cmp nat_cmp) b (label_bytes e.0)) v e.1 (maps.get (with_changes m es) b) (apart is)
+        ∙ ap (cond (eq_by_cmp (slice_cmp nat_cmp) b (label_bytes k)) v) (sym below)
+
+-- written over, it comes behind all others
+pub with_changes-set_value : (m : PageMap) (changes : Changes) (k : Label) (old v : Option Page) → lookup (is_at (label_cmp k)) changes ≡ Some old → with_changes m (set_value (is_at (label_cmp k)) changes v) ≡ with_change (with_changes m changes) k v
+with_changes-set_value m changes k old v found =
+    same_map nat_list_cmp_total (slice_cmp-IsAntisymmetric nat_cmp-IsAntisymmetric) (with_changes m (set_value (is_at (label_cmp k)) changes v)) (with_change (with_changes m changes) k v)
+    (λ b. written m changes k old v b found ∙ sym (get-with_change (with_changes m changes) k v b))

@@ -1,15 +1,16 @@
 //! Values on the heap.
 
-ghost use Rattle.std.specs.Prelude.{◌≡◌, ◌+◌, ◌≤◌, IfOk, length, option_copied};
+ghost use Rattle.std.specs.Prelude.{◌≡◌, ◌+◌, ◌≤◌, ◌↔◌, IfOk, IsTrue, true, false, length, option_copied};
 ghost use Rattle.store_model.specs.Parameters.{block_len};
 ghost use Rattle.disk_model.specs.DiskCalls.{IsRead};
 ghost use Rattle.store_model.specs.Pages.{IsPage};
 ghost use Rattle.page_values.specs.Cells.{ArePacked, cells_in};
+ghost use Rattle.page_values.specs.Insertions.{TakesCell, with_cell};
 
 use base_types::{DiskFault, NoMemory};
 use disk_model::Disk;
 use page_labels::Label;
-use page_values::Page;
+use page_values::{Cell, Page};
 use std::alloc::Global;
 use std::marker::Model;
 use store_model::Slot;
@@ -76,6 +77,16 @@ impl Boxed<Page> {
         ensures { self.new ≡ record { label = label.now; cells = cells_in label.now.level count run.now } }
     {
         self.inside.refill(label, count, run);
+    }
+
+    /// Inserts a cell before that of number `at`, or behind all, and answers whether it did. A page that does not take it is
+    /// as it was. It takes no memory.
+    pub fn insert(&mut self, at: u32, cell: &Cell) -> bool
+        ensures takes { IsTrue result ↔ TakesCell self.old at cell.now }
+        ensures value { result ≡ true → self.new ≡ with_cell self.old at cell.now }
+        ensures kept { result ≡ false → self.new ≡ self.old }
+    {
+        self.inside.insert(at, cell)
     }
 }
 

@@ -3,7 +3,7 @@
 ghost use Rattle.std.specs.Prelude.{◌≤◌, length};
 
 use base_types::Fault;
-use node_pages::{Page, Pages};
+use node_pages::{Cell, Page, Pages};
 use page_labels::Label;
 use std::alloc::Global;
 
@@ -90,6 +90,21 @@ impl Pages for CountedPages {
         let alloc = *self.pages.allocator();
         self.pages.insert(at, Box::new(alloc, page)?)?;
         Ok(())
+    }
+
+    fn insert_cell(&mut self, label: &Label, at: u32, cell: &Cell) -> Result<(), Fault> {
+        self.changes = self.changes.saturating_add(1);
+        let place = self.place(label);
+        match self.pages.get_mut(place) {
+            Some(page) if page.label() == *label => {
+                if page.insert(at, cell) {
+                    Ok(())
+                } else {
+                    Err(Fault::NoMemory)
+                }
+            }
+            _ => Err(Fault::NoMemory),
+        }
     }
 
     fn drop_page(&mut self, label: &Label) -> Result<(), Fault> {

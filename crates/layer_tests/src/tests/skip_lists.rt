@@ -242,6 +242,41 @@ fn value_that_is_overwritten(rt: HostRuntime) {
     }
 }
 
+/// The list of the first 25 blocks of /a, three pages of one group, which were not asked for yet.
+fn list_of_blocks(rt: &impl Abort, alloc: Global) -> SkipList<CountedPages, AnyDraw> {
+    let mut list = SkipList::new(alloc, CountedPages::new(alloc), ruler(rt));
+    for block in 1..26 {
+        list.put(path(rt, "/a").key(block), value_of(1))
+            .expect(rt, "memory");
+    }
+    let mut pages = list.into_pages();
+    pages.lookups();
+    SkipList::new(alloc, pages, ruler(rt))
+}
+
+/// How many pages are asked for where these blocks are found one after another.
+fn looks_for(rt: &impl Abort, alloc: Global, blocks: &[u32]) -> u64 {
+    let mut list = list_of_blocks(rt, alloc);
+    for block in blocks {
+        let found = list.get(&path(rt, "/a").key(*block));
+        assert!(rt; found == Ok(Some(value_of(1))));
+    }
+    list.into_pages().lookups()
+}
+
+#[test]
+fn search_from_the_page_of_the_last_one(rt: HostRuntime) {
+    // The way down asks for a page of each of two levels above. The first search in the known group begins with its first page, and
+    // the next where that one ended; a page that begins above the key is asked for in vain.
+    let alloc = rt.alloc();
+    assert!(rt; looks_for(&rt, alloc, &[25]) == 5);
+    assert!(rt; looks_for(&rt, alloc, &[25, 24]) == 8);
+    assert!(rt; looks_for(&rt, alloc, &[25, 24, 23]) == 9);
+    assert!(rt; looks_for(&rt, alloc, &[25, 24, 23, 1]) == 11);
+    assert!(rt; looks_for(&rt, alloc, &[25, 24, 23, 1, 2]) == 12);
+    assert!(rt; looks_for(&rt, alloc, &[1, 2, 15, 16]) == 7);
+}
+
 /// The pairs of /a with the value 1 and of /b with the value 2.
 fn two_pairs(rt: &impl Abort, alloc: Global) -> Result<MapPairs, Fault> {
     let mut pairs = MapPairs::new(alloc)?;

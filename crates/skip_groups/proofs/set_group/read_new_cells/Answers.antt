@@ -7,11 +7,12 @@ use Rattle.node_pages.specs.Cells.{CellList}
 use Rattle.skip_groups.specs.declared.new_cells.Step.TheVariants.{More, Done, Same}
 use Rattle.skip_groups.specs.Groups.{label_of}
 use Rattle.skip_groups.specs.GroupCells.{AreCells}
+use Rattle.skip_groups.specs.Insertions.{IsPlace}
 use Rattle.skip_groups.specs.NewCells.{IsSet, IsStep, IsEnd}
 use Rattle.skip_groups.proofs.CellLists.{no_cells}
 use Rattle.skip_groups.proofs.KeyRanges.{list_on}
 use Rattle.skip_groups.proofs.Looks.{looked_failed, looked_none, looked_some}
-use Rattle.skip_groups.proofs.NewCellsReads.{seen_none, seen_fails, seen_lacks_memory, seen_all, seen_ends, seen_more, seen_done, seen_same}
+use Rattle.skip_groups.proofs.NewCellsReads.{seen_none, seen_fails, seen_lacks_memory, seen_all, seen_ends, seen_more, seen_done, seen_same, seen_place}
 use Rattle.skip_groups.proofs.set_group.read_new_cells.Goals as goal
 
 pub loop-index-init : goal.loop-index-init
@@ -31,6 +32,17 @@ returns-in_default-clause-call g c =
     c.end.new.self (subst (λ n. IsEnd n c.args.key.now c.args.own.now c.loop-index.made c.end.new.self) c.loop-index.invariant.valid.level_is c.in_ok-end.ensures.ends) (omega arith)
     (looked_none label c.look.follows.holds-at-none.0 c.in_ok-found.was c.in_default.is)
 
+pub returns-in-Some-place-clause-call : goal.returns-in-Some-place-clause-call
+returns-in-Some-place-clause-call g c =
+    let level = c.args.made.now.cells.level in
+    let lead = lead_of c.args.lead.now in
+    let page = c.in-Some.page.now in
+    let label = c.label_in_group.ensures ∙ ap (λ n. label_of n lead c.loop-index.index) c.level-level.ensures.value in
+    let none = c.in-Some-place.ensures.none in
+    seen_place (g.P.Pages.state c.args.pages.now) level lead c.args.key.now c.args.own.now (g.P.Pages.state c.loop-index.pages) (g.P.Pages.state c.look.follows.lender-at-none) c.loop-index.index c.loop-index.made c.loop-index.invariant.seen
+    page c.in-Some-place.at c.lead_before-made.result (subst (λ n. IsPlace n c.args.key.now c.args.own.now page c.in-Some-place.at) c.loop-index.invariant.valid.level_is c.in-Some-place.ensures.place)
+    none (omega (arith, none, c.loop-index.invariant.counted)) c.lead_before-made.ensures (omega arith) (looked_some label c.look.follows.holds-at-none.0 c.in_ok-found.was c.in-Some.is)
+
 pub returns-in-Done-clause-call : goal.returns-in-Done-clause-call
 returns-in-Done-clause-call g c =
     let level = c.args.made.now.cells.level in
@@ -39,7 +51,7 @@ returns-in-Done-clause-call g c =
     let same = c.loop-index.invariant.valid.level_is in
     seen_done (g.P.Pages.state c.args.pages.now) level lead c.args.key.now c.args.own.now (g.P.Pages.state c.loop-index.pages) (g.P.Pages.state c.look.follows.lender-at-none) c.loop-index.index c.loop-index.made c.loop-index.invariant.seen
     c.in-Some.page.now c.go_on.new.self (subst (λ n. (pages : List Page) → IsSet n lead c.args.key.now c.args.own.now pages c.loop-index.made → IsSet n lead c.args.key.now c.args.own.now (pages ++ c.in-Some.page.now ∷ []) c.go_on.new.self) same c.in_ok-go_on.ensures.set)
-    (omega arith) (looked_some label c.look.follows.holds-at-none.0 c.in_ok-found.was c.in-Some.is)
+    (omega arith) (looked_some label c.look.follows.holds-at-none.0 c.in_ok-found.was c.in-Some.is) None
     (subst (λ n. IsStep n lead c.in-Some.page.now c.go_on.new.self Done) same (rw c.in-Done.is at c.in_ok-go_on.ensures.step))
 
 pub returns-in-Same-clause-call : goal.returns-in-Same-clause-call

@@ -1,13 +1,10 @@
-use Rattle.std.proofs.Common.{◌-◌, Ok, refl, sym, subst, arith}
+use Rattle.std.proofs.Common.{◌-◌, refl, arith}
 use Rattle.std.proofs.lemmas.Result.{err_from_is_err_and}
-use Rattle.skip_levels.specs.Descent.{IsPlaceSearch, lead_in}
 use Rattle.skip_levels.proofs.DescentSteps.{upper_fails, low_found, lead_is_known}
 use Rattle.skip_levels.proofs.search.go_to.Goals as goal
 
-pub returns-then-lies_in-clause-call : goal.returns-then-lies_in-clause-call
-returns-then-lies_in-clause-call g c =
-    subst (λ known. IsPlaceSearch (g.P.Pages.state c.args.pages.now) (g.P.Pages.state c.args.pages.now) c.args.height known 0 c.args.key.now known (Ok (lead_in known))) (sym c.in-Some.is)
-    (lead_is_known (g.P.Pages.state c.args.pages.now) c.args.height 0 c.in-Some.place c.args.key.now refl (c.lies_in.ensures.0 c.if-lies_in.true))
+pub returns-then-is_known-clause-call : goal.returns-then-is_known-clause-call
+returns-then-is_known-clause-call g c = lead_is_known (g.P.Pages.state c.args.pages.now) c.args.height 0 c.args.known.now c.args.key.now refl (c.is_known.ensures.0 c.if-is_known.true)
 
 pub returns-in_err-descend-clause-call : goal.returns-in_err-descend-clause-call
 returns-in_err-descend-clause-call g c =

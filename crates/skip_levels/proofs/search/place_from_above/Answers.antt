@@ -2,7 +2,7 @@ use Rattle.std.proofs.Common.{ap, arith}
 use Rattle.page_labels.specs.Leads.{lead_of}
 use Rattle.std.proofs.lemmas.Result.{err_from_is_err_and}
 use Rattle.skip_levels.proofs.ValueLemmas.{no_lead, no_value, place_found}
-use Rattle.skip_levels.proofs.search.find_place.Goals as goal
+use Rattle.skip_levels.proofs.search.place_from_above.Goals as goal
 
 pub returns-in_err-lead-clause-call : goal.returns-in_err-lead-clause-call
 returns-in_err-lead-clause-call g c =
