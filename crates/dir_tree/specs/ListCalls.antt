@@ -6,8 +6,8 @@ use Rattle.store_model.specs.Trees.{Tree, Node, is_directory, node_at, children}
 use Rattle.store_model.specs.Trees.Node.{Directory, File}
 use Rattle.store_model.specs.Commands.{Child}
 use Rattle.store_model.specs.Steps.{child_of}
-use Rattle.base_types.specs.declared.store_fault.Fault.{Fault}
-use Rattle.base_types.specs.Faults.{disk_faults_after}
+use Rattle.store_base.specs.declared.store_fault.Fault.{Fault}
+use Rattle.store_base.specs.Faults.{disk_faults_after}
 use Rattle.ordered_pairs.specs.PairsState.{PairsState, IsObservable}
 use Rattle.tree_pairs.specs.TreeCalls.{HoldsTree, KeepsPairs}
 

@@ -6,8 +6,8 @@ use Rattle.store_model.specs.Paths.{Path}
 use Rattle.store_model.specs.Trees.{Tree, is_directory}
 use Rattle.store_model.specs.Commands.{Command}
 use Rattle.store_model.specs.Steps.{refusal_of, has_child}
-use Rattle.base_types.specs.declared.store_fault.Fault.{Fault}
-use Rattle.base_types.specs.Faults.{disk_faults_after}
+use Rattle.store_base.specs.declared.store_fault.Fault.{Fault}
+use Rattle.store_base.specs.Faults.{disk_faults_after}
 use Rattle.ordered_pairs.specs.PairsState.{PairsState, IsObservable}
 use Rattle.tree_pairs.specs.TreeCalls.{HoldsTree, KeepsPairs}
 

@@ -7,9 +7,9 @@ ghost use Rattle.tree_pairs.specs.TreeCalls.{CarriesOut, HasRoom};
 ghost use Rattle.dir_tree.specs.RefusalCalls.{TellsRefusal, TellsChild};
 
 use crate::subtree::{next_within, take_subtree};
-use base_types::{Answer, Fault};
 use ordered_pairs::OrderedPairs;
 use path_keys::Path;
+use store_base::{Answer, Fault};
 use store_model::Refusal;
 use tree_pairs::{Kind, directory_value, kind_of};
 

@@ -6,10 +6,10 @@ ghost use Rattle.tree_pairs.specs.TreeCalls.{CarriesOut, KeepsPairs};
 ghost use Rattle.dir_tree.specs.ListCalls.{ListsChildren, TellsSize};
 
 use crate::subtree::next_within;
-use base_types::{Answer, Entries, Fault};
 use ordered_pairs::OrderedPairs;
 use path_keys::Path;
 use std::alloc::Global;
+use store_base::{Answer, Entries, Fault};
 use store_model::Refusal;
 use tree_pairs::{Kind, kind_of};
 

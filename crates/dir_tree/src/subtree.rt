@@ -4,10 +4,9 @@ ghost use Rattle.std.specs.Prelude.{◌≡◌, IfSome, IfNone};
 ghost use Rattle.store_model.specs.Paths as model;
 ghost use Rattle.dir_tree.specs.SubtreeCalls.{FindsBlock, TakesSubtree, IsWithin, IsOutside};
 
-use base_types::Fault;
 use ordered_pairs::OrderedPairs;
-use page_labels::Key;
 use path_keys::Path;
+use store_base::{Fault, Key};
 
 /// A pair of what stands at a path: the path, and the number of the block.
 #[derive(Clone, Copy, Debug)]

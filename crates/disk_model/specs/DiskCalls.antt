@@ -1,7 +1,7 @@
 -- What one call of a disk does, and what several calls after one another may leave.
 use Rattle.std.specs.Prelude.{◌≡◌, ◌↔◌, ◌⊎◌, ℕ, ◌+◌, ◌^◌, ◌<◌, ◌≤◌, List, length, take, drop, slice_index, Result, OnOk, OnErr}
 pub use Rattle.store_model.specs.Lists.{overwrite}
-pub use Rattle.base_types.specs.Counts.{raised_by, raised, Rose, faults_after}
+pub use Rattle.store_base.specs.Counts.{raised_by, raised, Rose, faults_after}
 use Rattle.disk_model.specs.DiskState.{DiskState, IsObservable, IsDurable}
 
 -- as many bytes, each outside the range of n bytes at this offset as it was, those in the range whatever they are

@@ -3,7 +3,7 @@ ghost use Rattle.std.specs.Prelude.{◌≡◌, ◌+◌, ◌≤◌, length};
 ghost use Rattle.disk_model.specs.DiskState.{DiskState, IsObservable, IsSound};
 ghost use Rattle.disk_model.specs.DiskCalls.{IsRead, IsWrite, IsSync};
 
-use base_types::DiskFault;
+use store_base::DiskFault;
 
 /// A disk of fixed length. Offsets and lengths are in bytes.
 ///

@@ -4,7 +4,7 @@ ghost use Rattle.disk_model.specs.DiskState.{IsObservable, IsDurable};
 ghost use Rattle.disk_model.specs.DiskCalls.{LeavesOnly, SameOutside, IsCall, overwrite, raised};
 
 use crate::Disk;
-use base_types::DiskFault;
+use store_base::DiskFault;
 
 /// Writes these bytes to a durable disk and makes them durable. At `Ok` a crash leaves exactly what is then read.
 ///

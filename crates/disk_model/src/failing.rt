@@ -1,6 +1,6 @@
 //! A disk that fails on purpose, to try what stands above it at each of its calls.
 use crate::Disk;
-use base_types::DiskFault;
+use store_base::DiskFault;
 
 /// A disk over another one, some of whose calls fail: those whose numbers are listed, and all from one number on.
 ///

@@ -3,10 +3,10 @@
 ghost use Rattle.std.specs.Prelude.{◌<◌, ◌^◌};
 
 use crate::Disk;
-use base_types::DiskFault;
 use std::fs::File;
 use std::io;
 use std::os::unix::fs::FileExt;
+use store_base::DiskFault;
 
 /// An open file of fixed length as a disk. An interrupted call is made again; every other error of the system is a
 /// fault, and so is a read or a write that moves nothing. A sync is of the data alone: the length does not change.

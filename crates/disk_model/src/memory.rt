@@ -7,9 +7,9 @@ ghost use Rattle.disk_model.specs.StopChoice.{IsChosen};
 
 use crate::Disk;
 use crate::record::{Call, StopChoice, copy_pending, crash, keep, note, put};
-use base_types::{DiskFault, NoMemory};
 use std::alloc::Global;
 use std::marker::Model;
+use store_base::{DiskFault, NoMemory};
 
 /// The room that each call takes in the record of a `MemDisk`, in bytes; a write takes as many again as it writes.
 const CALL_ROOM: usize = 16;

@@ -18,8 +18,8 @@ use Rattle.store_model.specs.Commands.Command.{Write, Cut, Read}
 use Rattle.store_model.specs.Steps.{Condition, first_refusal, conditions, refusal_of, next_tree, read_limit}
 use Rattle.store_model.proofs.TreesLemmas.{node_at-find, entry_at}
 use Rattle.store_model.proofs.TreesLemmasSteps.{IsTree-next_tree, all_fail}
-use Rattle.base_types.specs.declared.store_fault.Fault.{Fault}
-use Rattle.base_types.specs.Faults.{disk_faults_after}
+use Rattle.store_base.specs.declared.store_fault.Fault.{Fault}
+use Rattle.store_base.specs.Faults.{disk_faults_after}
 use Rattle.tree_pairs.specs.declared.kind.Kind.{Kind}
 use Rattle.tree_pairs.specs.declared.kind.Kind.TheVariants as kinds
 use Rattle.ordered_pairs.specs.PairsState.{PairsState, IsObservable}

@@ -9,8 +9,8 @@ use Rattle.store_model.specs.Lists.{run_at}
 use Rattle.store_model.specs.Paths.{Path, is_path, key, key_cmp}
 use Rattle.store_model.specs.Pairs.{Pair, file_block}
 use Rattle.store_model.proofs.ListsLemmasCuts.{length-filter-le}
-use Rattle.base_types.specs.declared.store_fault.Fault.{Fault}
-use Rattle.base_types.specs.Faults.{disk_faults_after}
+use Rattle.store_base.specs.declared.store_fault.Fault.{Fault}
+use Rattle.store_base.specs.Faults.{disk_faults_after}
 use Rattle.ordered_pairs.specs.PairsState.{PairsState, IsObservable, IsPairGet, IsPairPut, IsPairTake}
 use Rattle.tree_pairs.specs.Blocks.{BlockMap, run_value}
 use Rattle.tree_pairs.proofs.BlocksLemmas.{run_value-some, run_value-none, length-run_at}

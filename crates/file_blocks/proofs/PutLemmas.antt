@@ -3,8 +3,8 @@ use Rattle.std.proofs.Common.{◌≡◌, ℕ, ◌+◌, ◌-◌, ◌≤◌, List,
 use Rattle.std.specs.Prelude.{Result}
 use Rattle.std.proofs.lemmas.List.{length-append, length-take, take_all}
 use Rattle.store_model.specs.Paths.{Path}
-use Rattle.base_types.specs.declared.store_fault.Fault.{Fault}
-use Rattle.base_types.specs.Faults.{disk_faults_after}
+use Rattle.store_base.specs.declared.store_fault.Fault.{Fault}
+use Rattle.store_base.specs.Faults.{disk_faults_after}
 use Rattle.ordered_pairs.specs.PairsState.{PairsState}
 use Rattle.file_blocks.specs.FileCalls.{HasFile, PutsBytes}
 use Rattle.file_blocks.proofs.RunLemmas.{length-overwrite, overwrite-nothing, overwrite-overwrite}

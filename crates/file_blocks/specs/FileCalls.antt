@@ -3,8 +3,8 @@ use Rattle.std.specs.Prelude.{◌≡◌, ℕ, zero, suc, ◌+◌, ◌≤◌, Lis
 use Rattle.store_model.specs.Lists.{overwrite, run_at}
 use Rattle.store_model.specs.Paths.{Path}
 use Rattle.store_model.specs.Pairs.{Pair, file_block}
-use Rattle.base_types.specs.declared.store_fault.Fault.{Fault}
-use Rattle.base_types.specs.Faults.{disk_faults_after}
+use Rattle.store_base.specs.declared.store_fault.Fault.{Fault}
+use Rattle.store_base.specs.Faults.{disk_faults_after}
 use Rattle.ordered_pairs.specs.PairsState.{PairsState, IsObservable}
 use Rattle.tree_pairs.specs.Blocks.{BlockMap, run_value, with_blocks, HasBlocks}
 use Rattle.tree_pairs.specs.TreeCalls.{KeepsPairs}

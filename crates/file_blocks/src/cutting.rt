@@ -9,9 +9,9 @@ ghost use Rattle.file_blocks.specs.FileCalls.{CutsBytes};
 ghost use Rattle.file_blocks.specs.Refusals.{IsUnless, cut_conditions, size_of};
 
 use crate::FILE_BLOCK;
-use base_types::{Answer, Fault, Value};
 use ordered_pairs::OrderedPairs;
 use path_keys::Path;
+use store_base::{Answer, Fault, Value};
 use store_model::Refusal;
 use tree_pairs::{Kind, file_value, kind_of};
 

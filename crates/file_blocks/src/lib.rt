@@ -10,9 +10,9 @@ mod cutting;
 mod reading;
 mod writing;
 
-use base_types::Value;
 pub use cutting::cut;
 pub use reading::read_at;
+use store_base::Value;
 pub use writing::write_at;
 
 /// The bytes of a file in one pair; its last pair has the rest.

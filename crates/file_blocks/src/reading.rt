@@ -10,9 +10,9 @@ ghost use Rattle.file_blocks.specs.Refusals.{IsUnless, read_conditions, size_of}
 
 use crate::{FILE_BLOCK, bytes_of};
 use arrayvec::ArrayVec;
-use base_types::{Answer, Bytes, Fault};
 use ordered_pairs::OrderedPairs;
 use path_keys::Path;
+use store_base::{Answer, Bytes, Fault};
 use store_model::Refusal;
 use tree_pairs::{Kind, kind_of};
 

@@ -11,9 +11,9 @@ ghost use Rattle.file_blocks.specs.FileCalls.{PutsBytes};
 ghost use Rattle.file_blocks.specs.Refusals.{IsUnless, write_conditions, size_of};
 
 use crate::{FILE_BLOCK, bytes_of};
-use base_types::{Answer, Bytes, Fault, Value};
 use ordered_pairs::OrderedPairs;
 use path_keys::Path;
+use store_base::{Answer, Bytes, Fault, Value};
 use store_model::Refusal;
 use tree_pairs::{Kind, file_value, kind_of};
 

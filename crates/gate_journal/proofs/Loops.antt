@@ -7,12 +7,12 @@ use Rattle.gate_journal.specs.declared.commit.Pass.{Pass}
 use Rattle.gate_journal.specs.declared.commit.Pass.TheVariants.{Journal, Table, Erase}
 use Rattle.disk_model.specs.DiskState.{DiskState, IsObservable, IsSound}
 use Rattle.disk_model.specs.DiskCalls.{IsSync, overwrite}
-use Rattle.journal_steps.specs.Places.{SameAt, Keeps, Reaches, Makes, Comes}
-use Rattle.journal_steps.specs.Changes.{Changes, AreChanges, OutsideEntry, HasEntry, with_first}
+use Rattle.gate_journal.specs.Places.{SameAt, Keeps, Reaches, Makes, Comes}
+use Rattle.gate_journal.specs.Changes.{Changes, AreChanges, OutsideEntry, HasEntry, with_first}
 use Rattle.gate_journal.specs.Passes.{slot_writes, OutsideWrite, HasWritten, OutsidePass, HasPassed}
-use Rattle.journal_steps.proofs.Areas.{areas}
-use Rattle.journal_steps.proofs.Places.{Keeps-trans, Keeps-weaken, bytes_at-same}
-use Rattle.journal_steps.proofs.Calls.{Made-then, Made-as, Reaches-sync, Reaches-fault}
+use Rattle.gate_journal.proofs.Areas.{areas}
+use Rattle.gate_journal.proofs.Places.{Keeps-trans, Keeps-weaken, bytes_at-same}
+use Rattle.gate_journal.proofs.Calls.{Made-then, Made-as, Reaches-sync, Reaches-fault}
 
 -- the places outside all changed slots are outside one of them
 pub outside_one : (pass : Pass) (slots : ℕ) (changes : Changes) (k slot : ℕ) → k < changes.count → slot ≡ changes.slot k → (place : ℕ) → OutsidePass pass slots changes place → OutsideWrite pass slots slot place

@@ -1,1 +1,13 @@
 pub mod Passes
+pub mod Caches
+pub mod Changes
+pub mod Phases
+pub mod Places
+pub mod ReadingLaws
+pub mod Recovery
+pub mod ViewState
+pub mod Formats
+pub mod View
+pub mod Wipes
+pub mod Costs
+pub mod Disks

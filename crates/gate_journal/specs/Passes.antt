@@ -5,8 +5,8 @@ use Rattle.store_model.specs.Parameters.{block_len, table_at}
 use Rattle.disk_model.specs.DiskCalls.{overwrite}
 use Rattle.gate_journal.specs.declared.commit.Pass.{Pass}
 use Rattle.gate_journal.specs.declared.commit.Pass.TheVariants.{Journal, Table, Erase}
-use Rattle.journal_steps.specs.Places.{IsApart}
-use Rattle.journal_steps.specs.Changes.{Changes, OutsideEntry, HasEntry, AreJournaled, AreErased, with_first}
+use Rattle.gate_journal.specs.Places.{IsApart}
+use Rattle.gate_journal.specs.Changes.{Changes, OutsideEntry, HasEntry, AreJournaled, AreErased, with_first}
 
 -- how many writes a pass makes for each changed slot
 abbrev pub slot_writes : Pass → ℕ

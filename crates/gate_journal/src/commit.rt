@@ -3,15 +3,15 @@ ghost use Rattle.std.specs.Prelude.{◌≡◌, ℕ, ◌+◌, ◌*◌, ◌<◌, �
 ghost use Rattle.store_model.specs.Parameters.{image_len, slots_limit};
 ghost use Rattle.disk_model.specs.DiskState.{DiskState, IsObservable, IsDurable};
 ghost use Rattle.disk_model.specs.DiskCalls.{IsCall, Rose};
-ghost use Rattle.journal_steps.specs.Places.{Reaches, Makes};
-ghost use Rattle.journal_steps.specs.Phases.{HasEmptyJournal};
-ghost use Rattle.journal_steps.specs.Changes.{AreChanges, Commits};
+ghost use Rattle.gate_journal.specs.Places.{Reaches, Makes};
+ghost use Rattle.gate_journal.specs.Phases.{HasEmptyJournal};
+ghost use Rattle.gate_journal.specs.Changes.{AreChanges, Commits};
 ghost use Rattle.gate_journal.specs.Passes.{slot_writes, OutsideWrite, HasWritten, OutsidePass, HasPassed};
 
-use base_types::DiskFault;
+use crate::changes::SlotChanges;
+use crate::entry::{write_entry, write_flag};
 use disk_model::Disk;
-use image_areas::table_at;
-use journal_steps::{SlotChanges, write_entry, write_flag};
+use store_base::{DiskFault, table_at};
 use store_model::{BLOCK, Slot};
 
 /// The block that clears a shadow block.

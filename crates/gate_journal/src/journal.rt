@@ -4,23 +4,25 @@ ghost use Rattle.store_model.specs.Parameters.{image_len, block_len};
 ghost use Rattle.store_model.specs.Images.{first_byte, recovered_slot};
 ghost use Rattle.disk_model.specs.DiskState.{IsObservable, IsDurable};
 ghost use Rattle.disk_model.specs.DiskCalls.{Rose, raised, LeavesOnly};
-ghost use Rattle.journal_steps.specs.Places.{AreCalls, Makes, ReadsOnly};
-ghost use Rattle.journal_steps.specs.Phases.{HasEmptyJournal};
-ghost use Rattle.journal_steps.specs.Changes.{AreChanges, Commits};
-ghost use Rattle.journal_steps.specs.Recovery.{Recovers, redo_writes, redo_syncs, erase_writes};
+ghost use Rattle.gate_journal.specs.Places.{AreCalls, Makes, ReadsOnly};
+ghost use Rattle.gate_journal.specs.Phases.{HasEmptyJournal};
+ghost use Rattle.gate_journal.specs.Changes.{AreChanges, Commits};
+ghost use Rattle.gate_journal.specs.Recovery.{Recovers, redo_writes, redo_syncs, erase_writes};
 ghost use Rattle.sha2.specs.Sha256.{sha256};
-ghost use Rattle.journal_steps.specs.Wipes.{Wipes, block_count};
-ghost use Rattle.journal_steps.specs.Formats.{IsEmptyOrNone, Formats, faults_after_format};
+ghost use Rattle.gate_journal.specs.Wipes.{Wipes, block_count};
+ghost use Rattle.gate_journal.specs.Formats.{IsEmptyOrNone, Formats, faults_after_format};
 
+use crate::cache::JournalCache;
+use crate::changes::SlotChanges;
 use crate::commit::commit_changes;
+use crate::digest::digest_disk;
+use crate::fault::JournalFault;
+use crate::format::{is_image, write_image};
 use crate::recover::recover_durable;
-use base_types::DiskFault;
+use crate::view::read_slot;
+use crate::wipe::wipe_disk;
 use disk_model::Disk;
-use image_areas::{Params, image_len as len_of};
-use journal_steps::{
-    JournalCache, JournalFault, SlotChanges, digest_disk, is_image, read_slot, wipe_disk,
-    write_image,
-};
+use store_base::{DiskFault, Params, image_len as len_of};
 use store_model::Slot;
 
 /// The redo journal of an image. Its calls take no memory.

@@ -5,13 +5,25 @@
 //! durable, and erases marks and shadow. Recovery goes on from wherever a crash cut it short. So an image recovers to
 //! the old table or to the new one, never to one between.
 //!
-//! Besides, a disk is formatted, wiped and digested here. This crate stands on the steps of these calls (`journal_steps`);
-//! what the slots hold is nothing to it. No call takes memory.
+//! Besides, a disk is formatted, wiped and digested here, and the slots that recovery would leave are seen without recovering
+//! (`View`). This crate stands on a disk and on where the areas of an image lie; what the slots hold is nothing to it. No call
+//! takes memory. Its name is that of the block with the commit flag, the gate block.
 #![tactic(auto)]
 
+mod cache;
+mod changes;
 mod commit;
+mod digest;
+mod entry;
+mod fault;
+mod format;
 mod journal;
 mod recover;
+mod redo;
+mod view;
+mod wipe;
 
+pub use changes::SlotChanges;
+pub use fault::JournalFault;
 pub use journal::Journal;
-pub use journal_steps::{JournalFault, SlotChanges, View};
+pub use view::View;

@@ -3,13 +3,14 @@
 ghost use Rattle.std.specs.Prelude.{◌≡◌, ℕ, ◌+◌, ◌^◌, ◌<◌, ◌≤◌};
 ghost use Rattle.store_model.specs.Parameters.{image_len, slots_limit};
 ghost use Rattle.disk_model.specs.DiskState.{DiskState, IsObservable, IsDurable};
-ghost use Rattle.journal_steps.specs.Places.{SameAt, AreCalls, Makes, ReadsOnly};
-ghost use Rattle.journal_steps.specs.Phases.{HasEmptyJournal};
-ghost use Rattle.journal_steps.specs.Recovery.{IsBehindFlag, SettlesFlag, RecoversDurable, erase_writes, redo_writes, redo_syncs};
+ghost use Rattle.gate_journal.specs.Places.{SameAt, AreCalls, Makes, ReadsOnly};
+ghost use Rattle.gate_journal.specs.Phases.{HasEmptyJournal};
+ghost use Rattle.gate_journal.specs.Recovery.{IsBehindFlag, SettlesFlag, RecoversDurable, erase_writes, redo_writes, redo_syncs};
 
-use base_types::DiskFault;
+use crate::entry::write_flag;
+use crate::redo::{erase_area, is_flag_set, is_journal_zero, redo_table};
 use disk_model::Disk;
-use journal_steps::{erase_area, is_flag_set, is_journal_zero, redo_table, write_flag};
+use store_base::DiskFault;
 
 /// Redoes the marked slots where the commit flag is set, and clears it.
 fn settle_flag<D: Disk>(disk: &mut D, slots: u32) -> Result<(), DiskFault>

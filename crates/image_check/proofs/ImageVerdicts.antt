@@ -5,12 +5,12 @@ use Rattle.store_model.specs.Trees.{Tree}
 use Rattle.store_model.specs.Images.{slots_of, Represents}
 use Rattle.store_model.proofs.TreesLemmasBytes.{headers_same}
 use Rattle.store_model.proofs.TreesLemmasLayouts.{images_tell}
-use Rattle.base_types.specs.declared.store_fault.Fault.{Fault}
-use Rattle.base_types.specs.Faults.{disk_faults_after}
+use Rattle.store_base.specs.declared.store_fault.Fault.{Fault}
+use Rattle.store_base.specs.Faults.{disk_faults_after}
 use Rattle.disk_model.specs.DiskState.{DiskState, IsObservable}
-use Rattle.journal_steps.specs.Places.{ReadsOnly}
-use Rattle.journal_steps.specs.ReadingLaws.{ReadsOnly-trans}
-use Rattle.journal_steps.specs.ViewState.{viewed, KeepsView}
+use Rattle.gate_journal.specs.Places.{ReadsOnly}
+use Rattle.gate_journal.specs.ReadingLaws.{ReadsOnly-trans}
+use Rattle.gate_journal.specs.ViewState.{viewed, KeepsView}
 use Rattle.image_check.specs.declared.contents.Contents.{Contents}
 use Rattle.image_check.specs.declared.contents.Finding.{Finding}
 use Rattle.image_check.specs.declared.contents.Finding.TheVariants as findings

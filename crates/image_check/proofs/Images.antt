@@ -12,10 +12,10 @@ use Rattle.store_model.specs.Pages.{Page, pages}
 use Rattle.store_model.specs.Images.{slot_bytes, slots_of, recovered_slot, Represents}
 use Rattle.store_model.proofs.ListsLemmas.{length-numbers_from}
 use Rattle.store_model.proofs.PlacementLemmas.{length-place}
-use Rattle.journal_steps.proofs.Layouts.{represented-slots, slots-represent}
+use Rattle.gate_journal.proofs.Layouts.{represented-slots, slots-represent}
 use Rattle.image_check.specs.Contents.{table_of, HaveLayout}
 use Rattle.image_check.specs.Verdicts.{IsImageWith}
-use Rattle.layout_compare.proofs.ReadLemmas.{same_gets}
+use Rattle.layout_scratch.proofs.ReadLemmas.{same_gets}
 
 -- the slots that recovery would leave
 abbrev pub slots_in : ℕ → List ℕ → List (List ℕ)

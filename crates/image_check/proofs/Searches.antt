@@ -3,9 +3,9 @@ use Rattle.std.proofs.Common.{◌≡◌, Some, None, Ok, refl, sym, subst}
 use Rattle.store_model.specs.Parameters.{Parameters}
 use Rattle.store_model.specs.Trees.{Tree}
 use Rattle.store_model.specs.Images.{slots_of}
-use Rattle.base_types.specs.SlotsState.{SlotsState, IsObservable}
-use Rattle.layout_compare.specs.SlotReads.{ReadsSlots}
-use Rattle.layout_compare.proofs.ReadLemmas.{reads_then, reads_answered}
+use Rattle.store_base.specs.SlotsState.{SlotsState, IsObservable}
+use Rattle.layout_scratch.specs.SlotReads.{ReadsSlots}
+use Rattle.layout_scratch.proofs.ReadLemmas.{reads_then, reads_answered}
 use Rattle.image_check.specs.declared.contents.Contents.{Contents}
 use Rattle.image_check.specs.declared.verdict.Verdict.{Verdict}
 use Rattle.image_check.specs.Contents.{HaveLayout, AreContents}

@@ -6,3 +6,5 @@ pub mod ImageCalls
 pub mod Parents
 pub mod SlotCalls
 pub mod Verdicts
+pub mod Faults
+pub mod Standing

@@ -6,9 +6,8 @@ ghost use Rattle.store_model.specs.Lists.{run_count};
 ghost use Rattle.store_model.specs.Pairs.{file_block};
 ghost use Rattle.image_check.specs.Entries.{AreBlocks};
 
-use base_types::Value;
-use page_labels::Key;
 use path_keys::Path;
+use store_base::{Key, Value};
 
 /// The most bytes of a file.
 pub const MAX_FILE: u32 = 1_048_576;

@@ -6,15 +6,13 @@ ghost use Rattle.store_model.specs.Parameters.{IsParameters};
 ghost use Rattle.store_model.specs.Pages as pages;
 ghost use Rattle.store_model.specs.Placement.{Table};
 ghost use Rattle.store_model.specs.Images.{slot_bytes, slots_of};
-ghost use Rattle.base_types.specs.SlotsState.{IsObservable};
-ghost use Rattle.layout_compare.specs.SlotReads.{ReadsSlots};
+ghost use Rattle.store_base.specs.SlotsState.{IsObservable};
+ghost use Rattle.layout_scratch.specs.SlotReads.{ReadsSlots};
 ghost use Rattle.image_check.specs.Collected.{MayHold, pair_of, pairs_in, pairs_of, most_pairs};
 
-use base_types::{Fault, NoMemory, ReadSlots, Value};
-use image_areas::Params;
 use node_pages::{Cell, Page, decode_page, label_in};
-use page_labels::Key;
 use std::alloc::Global;
+use store_base::{Fault, Key, NoMemory, Params, ReadSlots, Value};
 use store_model::{BLOCK, Slot};
 
 /// Adds the pairs of a page of level 0.

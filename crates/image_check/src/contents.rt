@@ -1,8 +1,8 @@
 //! What an image holds.
 
-use image_areas::Params;
 use layout_scratch::Layout;
 use node_pages::PairList;
+use store_base::Params;
 
 /// How much a tree holds.
 #[derive(Clone, Copy, Debug)]

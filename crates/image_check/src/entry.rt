@@ -9,9 +9,8 @@ ghost use Rattle.image_check.specs.Entries.{IsKind, value_of, kind_of, IsFirst, 
 
 use crate::blocks::{MAX_FILE, are_blocks, block_count};
 use crate::kind::{Entry, Kind};
-use base_types::Value;
-use page_labels::Key;
 use path_keys::Path;
+use store_base::{Key, Value};
 
 /// The byte that is a directory's value.
 const DIRECTORY: u8 = 1;

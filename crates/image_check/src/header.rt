@@ -3,13 +3,12 @@
 ghost use Rattle.std.specs.Prelude.{◌≡◌, ◌≤◌, IfSome, IfOk, Some};
 ghost use Rattle.store_model.specs.Parameters as model;
 ghost use Rattle.disk_model.specs.DiskState.{IsObservable};
-ghost use Rattle.journal_steps.specs.Places.{ReadsOnly};
+ghost use Rattle.gate_journal.specs.Places.{ReadsOnly};
 ghost use Rattle.disk_model.specs.DiskCalls.{faults_after};
 ghost use Rattle.image_check.specs.Verdicts.{IsImageWith, HasParameters};
 
-use base_types::DiskFault;
 use disk_model::Disk;
-use image_areas::{Params, image_len, read_header};
+use store_base::{DiskFault, Params, image_len, read_header};
 use store_model::{BLOCK, Slot};
 
 /// The bytes of a header, which is one block.

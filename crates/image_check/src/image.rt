@@ -7,10 +7,10 @@ use crate::contents::{Contents, Finding};
 use crate::header::read_params;
 use crate::slots::{clean, find_contents};
 use crate::verdict::Verdict;
-use base_types::Fault;
 use disk_model::Disk;
-use journal_steps::View;
+use gate_journal::View;
 use std::alloc::Global;
+use store_base::Fault;
 
 /// What is found on a disk whose slots hold this.
 fn finding_of(found: Option<Contents>) -> Finding

@@ -2,13 +2,14 @@
 //!
 //! The slots that recovery would leave are read, the pairs of their pages of level 0 are sorted, and it is tested
 //! whether they are a tree's. Then they are laid out anew, and each slot is compared with the layout. Nothing is
-//! written: the slots are seen through a view (`journal_steps`).
+//! written: the slots are seen through a view (`gate_journal`).
 #![tactic(auto)]
 
 mod blocks;
 mod collect;
 mod contents;
 mod entry;
+mod fault;
 mod header;
 mod image;
 mod kind;
@@ -18,6 +19,7 @@ mod tree;
 mod verdict;
 
 pub use contents::{Contents, Counts, Finding};
+pub use fault::{ApplyFault, AttachFault};
 pub use header::read_params;
 pub use image::{check, find_image};
 pub use slots::{check_slots, find_contents};

@@ -6,11 +6,10 @@ ghost use Rattle.std.specs.FinMap.{is_sorted};
 ghost use Rattle.store_model.specs.Paths.{key_cmp};
 ghost use Rattle.layout_scratch.specs.Sorting.{pair_cmp};
 
-use base_types::{NoMemory, Value};
 use node_pages::PairList;
-use page_labels::Key;
 use std::alloc::Global;
 use std::cmp::Ordering;
+use store_base::{Key, NoMemory, Value};
 
 /// Sorts pairs by their keys.
 pub fn sort_pairs(pairs: &mut Vec<(Key, Value)>) -> Result<(), NoMemory>

@@ -14,13 +14,10 @@ use crate::contents::{Contents, Counts};
 use crate::order::{do_rise, list_of, sort_pairs};
 use crate::tree::count_tree;
 use crate::verdict::Verdict;
-use base_types::{Fault, NoMemory, ReadSlots, Value};
-use image_areas::Params;
-use layout_compare::are_layout;
-use layout_scratch::{ScratchFault, build};
+use layout_scratch::{ScratchFault, are_layout, build};
 use node_pages::PairList;
-use page_labels::Key;
 use std::alloc::Global;
+use store_base::{Fault, Key, NoMemory, Params, ReadSlots, Value};
 
 /// Pairs in the order of their keys, with what their tree holds; `None` exactly where they are no tree's.
 fn tree_pairs(

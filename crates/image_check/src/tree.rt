@@ -15,10 +15,9 @@ ghost use Rattle.image_check.specs.Entries.{IsKind, CountsMore};
 use crate::contents::Counts;
 use crate::entry::first_entry;
 use crate::kind::Kind;
-use base_types::Value;
-use page_labels::Key;
 use path_keys::Path;
 use std::cmp::Ordering;
+use store_base::{Key, Value};
 use tree_pairs::directory_value;
 
 /// The place of a key among sorted pairs: of its pair, or as the error the place where its pair would stand.

@@ -8,3 +8,5 @@ pub mod LevelPages
 pub mod Rising
 pub mod SortedPairs
 pub mod WholeCut
+pub mod ComparedSlots
+pub mod ReadLemmas

@@ -2,3 +2,4 @@ pub mod Faults
 pub mod Layouts
 pub mod Ranks
 pub mod Sorting
+pub mod SlotReads

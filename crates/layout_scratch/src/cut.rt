@@ -16,10 +16,10 @@ use crate::count::page_count;
 use crate::fault::ScratchFault;
 use crate::groups::{cells_of_group, first_group, lead_of_group};
 use crate::ranked::{Ranked, sorted_pairs};
-use base_types::NoMemory;
 use node_pages::{PageList, PairList, append_group};
 use seeded_draw::Draw;
 use std::alloc::Global;
+use store_base::NoMemory;
 
 /// Appends the pages of a level to those of the levels below it.
 fn cut_level(

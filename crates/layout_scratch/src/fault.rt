@@ -3,7 +3,7 @@
 ghost use Rattle.std.specs.Prelude.{◌≡◌};
 ghost use Rattle.layout_scratch.specs.declared.fault.ScratchFault.TheVariants as faults;
 
-use base_types::NoMemory;
+use store_base::NoMemory;
 use thiserror::Error;
 
 /// Why a layout was not made.

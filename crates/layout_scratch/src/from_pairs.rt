@@ -13,10 +13,10 @@ use crate::cut::cut_pages;
 use crate::fault::ScratchFault;
 use crate::layout::Layout;
 use crate::place::place_pages;
-use image_areas::Params;
 use node_pages::PairList;
 use seeded_draw::{AnyDraw, Draw};
 use std::alloc::Global;
+use store_base::Params;
 
 /// The layout of a list of pairs under a draw.
 fn build_by<W: Draw>(alloc: Global, draw: &W, pairs: &PairList) -> Result<Layout, ScratchFault>

@@ -6,15 +6,14 @@ ghost use Rattle.std.specs.List.{AllByRecursion, take_while};
 ghost use Rattle.store_model.specs.Draws.{Draw};
 ghost use Rattle.store_model.specs.Pages as model;
 ghost use Rattle.store_model.specs.Pages.{cell_on, IsCell};
-ghost use Rattle.page_labels.specs.Leads.{lead_of};
+ghost use Rattle.store_base.specs.Leads.{lead_of};
 ghost use Rattle.layout_scratch.specs.Sorting.{pairs_limit};
 ghost use Rattle.layout_scratch.specs.Ranks.{AreRanked, cells_on, IsFirstGroup};
 
 use crate::ranked::Ranked;
-use base_types::{NoMemory, Value};
 use node_pages::{Cell, Cells};
-use page_labels::{Key, Lead};
 use std::alloc::Global;
+use store_base::{Key, Lead, NoMemory, Value};
 
 /// How many pairs stand in front of the next that begins a group.
 fn follower_count(level: u8, others: &[Ranked]) -> usize

@@ -1,9 +1,11 @@
 //! The layout of a list of pairs, computed from nothing: the pairs are sorted by their keys, cut into groups and
 //! pages, and the pages placed by rank.
 //!
-//! This is the plain program of the layout: what a store in place must come to, and what loads many pairs at once.
+//! This is the plain program of the layout: what a store in place must come to, and what loads many pairs at once. Slots can be
+//! compared with it (`are_layout`).
 #![tactic(auto)]
 
+mod compare;
 mod count;
 mod cut;
 mod fault;
@@ -13,6 +15,7 @@ mod layout;
 mod place;
 mod ranked;
 
+pub use compare::are_layout;
 pub use fault::ScratchFault;
 pub use from_pairs::build;
 pub use layout::Layout;

@@ -10,10 +10,10 @@ ghost use Rattle.store_model.specs.Placement.{place, probe, is_free, put_first_f
 ghost use Rattle.layout_scratch.specs.Layouts.{table_of, IsNumber};
 
 use crate::layout::Layout;
-use base_types::NoMemory;
 use node_pages::PageList;
 use seeded_draw::Draw;
 use std::alloc::Global;
+use store_base::NoMemory;
 
 /// The first place with no number, if there is one.
 fn first_none(places: &[Option<u32>]) -> Option<usize>

@@ -10,12 +10,11 @@ ghost use Rattle.store_model.specs.Pairs.{IsPair, IsPairs};
 ghost use Rattle.layout_scratch.specs.Sorting.{HasDistinctKeys, by_key};
 ghost use Rattle.layout_scratch.specs.Ranks.{key_of, pairs_of, AreRanked};
 
-use base_types::{NoMemory, Value};
 use node_pages::PairList;
-use page_labels::Key;
 use seeded_draw::Draw;
 use std::alloc::Global;
 use std::cmp::Ordering;
+use store_base::{Key, NoMemory, Value};
 
 /// A pair where it lies, and the level that is drawn for its key. Such pairs are ordered as their keys, so that
 /// sorting moves no pair.

@@ -6,7 +6,7 @@ use Rattle.store_model.specs.Paths.{key_cmp}
 use Rattle.store_model.specs.Labels.{Label, label_bytes}
 use Rattle.store_model.specs.Pages.{Cell, Page, IsPage}
 use Rattle.store_model.specs.PageMaps.{PageMap, page_at, with_page}
-use Rattle.page_values.specs.Insertions.{TakesCell, with_cell}
+use Rattle.node_pages.specs.Insertions.{TakesCell, with_cell}
 use Rattle.node_pages.specs.Entries.{entry_of, map_of_sorted}
 use Rattle.node_pages.specs.EntriesLemmas.{IsPageMap-sorted}
 use Rattle.node_pages.specs.PagesState.{HasPlace}

@@ -11,14 +11,14 @@ use Rattle.store_model.specs.Labels.{Lead, Label, IsLabel}
 use Rattle.store_model.specs.Pages.{Cell, Page, page_room, IsCell, IsPage}
 use Rattle.store_model.specs.Images.{cell_bytes}
 use Rattle.store_model.proofs.ListsLemmas.{all_append}
-use Rattle.cell_spelling.specs.Spelling.{cell_size}
-use Rattle.page_values.specs.Cells.{cells_in, ArePacked}
+use Rattle.node_pages.specs.CellAreas.{cell_size}
+use Rattle.node_pages.specs.PageSlots.{cells_in, ArePacked}
 use Rattle.node_pages.specs.Cells.{CellList, IsCellList, list_in}
-use Rattle.page_values.proofs.CellBytes.{length-cells_bytes, cells_in-cell_bytes}
+use Rattle.node_pages.proofs.CellBytes.{length-cells_bytes, cells_in-cell_bytes}
 use Rattle.node_pages.specs.Groups.{pages_from}
 use Rattle.node_pages.proofs.Runs.{run_within, run_is_page, page_at}
-use Rattle.page_values.proofs.PageBytes.{length-cells_in}
-use Rattle.page_values.proofs.Packed.{front_each, back_each, between_bytes, front_within, IsCellAt, cell_at, page_with}
+use Rattle.node_pages.proofs.PageBytes.{length-cells_in}
+use Rattle.node_pages.proofs.Packed.{front_each, back_each, between_bytes, front_within, IsCellAt, cell_at, page_with}
 
 -- ---- lists of packed cells
 

@@ -2,7 +2,7 @@
 use Rattle.std.specs.Prelude.{ℕ, ◌<◌, length, List}
 use Rattle.std.specs.List.{AllByRecursion}
 use Rattle.store_model.specs.Pages.{Cell, IsCell}
-use Rattle.page_values.specs.Cells.{cells_in}
+use Rattle.node_pages.specs.PageSlots.{cells_in}
 
 -- cells of one level
 pub record CellList : Type 0 where

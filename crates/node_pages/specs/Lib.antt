@@ -4,3 +4,6 @@ pub mod EntriesLemmas
 pub mod Groups
 pub mod PagesState
 pub mod Places
+pub mod CellAreas
+pub mod PageSlots
+pub mod Insertions

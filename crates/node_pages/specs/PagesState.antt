@@ -1,12 +1,12 @@
 -- What a store of pages means at one moment, and what a call on it does.
 use Rattle.std.specs.Prelude.{◌≡◌, ℕ, ◌+◌, ◌≤◌, Option, Some, Result, Ok, Err, IfOk, OnOk, OnErr, option_copied}
 use Rattle.std.specs.Borrow.{Bor}
-use Rattle.base_types.specs.declared.store_fault.Fault.{Fault}
-use Rattle.base_types.specs.Faults.{disk_faults_after}
+use Rattle.store_base.specs.declared.store_fault.Fault.{Fault}
+use Rattle.store_base.specs.Faults.{disk_faults_after}
 use Rattle.store_model.specs.Labels.{Label}
 use Rattle.store_model.specs.Pages.{Cell, Page}
 use Rattle.store_model.specs.PageMaps.{PageMap, page_at, with_page, without_page}
-use Rattle.page_values.specs.Insertions.{TakesCell, with_cell}
+use Rattle.node_pages.specs.Insertions.{TakesCell, with_cell}
 
 -- Pages at one moment. Only where they are observable does the map mean anything.
 pub record PagesState : Type 1 where

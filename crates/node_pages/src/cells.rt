@@ -9,20 +9,20 @@ ghost use Rattle.store_model.specs.Paths.{key_cmp};
 ghost use Rattle.store_model.specs.Pages.{IsCell, page_room};
 ghost use Rattle.store_model.specs.Labels.{IsLabel};
 ghost use Rattle.store_model.specs.Images.{cell_bytes};
-ghost use Rattle.page_labels.specs.Keys.{IsKey};
-ghost use Rattle.page_labels.specs.Leads.{lead_of};
+ghost use Rattle.store_base.specs.Keys.{IsKey};
+ghost use Rattle.store_base.specs.Leads.{lead_of};
 ghost use Rattle.node_pages.specs.Cells.{IsCellList};
 ghost use Rattle.node_pages.specs.Groups.{page_of_run, pages_from};
 ghost use Rattle.node_pages.specs.PagesState.{IsObservable, IsPagePut, most_pages};
 
+use crate::cell::Cell;
+use crate::cell_area::{cell_len, room};
+use crate::cell_bytes::{cells_between, key_part, push_cell, read_cell, read_key};
+use crate::page::Page;
 use crate::pages::Pages;
-use crate::spelling::push_cell;
-use base_types::{Fault, NoMemory};
-use cell_spelling::{cell_len, room};
-use page_labels::{Key, Label, Lead};
-use page_values::{Cell, Page, cells_between, key_part, read_cell, read_key};
 use std::alloc::Global;
 use std::marker::Model;
+use store_base::{Fault, Key, Label, Lead, NoMemory};
 
 /// A list of fewer than 2^32 cells of one level. Contracts see its level and the list of its cells; each is one of the
 /// level, as `IsCellList` says.
@@ -34,7 +34,7 @@ pub struct Cells {
 }
 
 impl Model for Cells {
-    ghost use Rattle.page_values.specs.Cells.{ArePacked};
+    ghost use Rattle.node_pages.specs.PageSlots.{ArePacked};
     ghost use Rattle.node_pages.specs.Cells.{CellList, list_in};
 
     ghost Value = { CellList };

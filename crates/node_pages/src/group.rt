@@ -6,13 +6,12 @@ ghost use Rattle.std.specs.List.Sorted.{IsStrictlySortedBy};
 ghost use Rattle.store_model.specs.Paths.{key_cmp};
 ghost use Rattle.store_model.specs.Pages.{Cell as ModelCell, group_pages};
 ghost use Rattle.store_model.specs.Labels.{Lead as ModelLead};
-ghost use Rattle.page_labels.specs.Leads.{lead_of};
+ghost use Rattle.store_base.specs.Leads.{lead_of};
 
 use crate::cells::Cells;
 use crate::sequence::PageList;
-use base_types::NoMemory;
-use page_labels::Lead;
 use std::alloc::Global;
+use store_base::{Lead, NoMemory};
 
 /// The pages of the group that `lead` leads on the level of the cells: these cut into runs of 10 at level 0 and of 31
 /// above, the last run holding the rest, with labels numbered from 0.

@@ -1,18 +1,26 @@
-//! The pages of the store: lists of cells and of pages, stores of pages, and the pages of a group. Of one page and its
-//! bytes `page_values` speaks.
+//! The page layer: pages and their bytes, the groups that they hold, and stores of pages.
+//!
+//! A page holds the cells of one run of a group under its label. It is kept as the slot that it has in an image, so that it is
+//! written by one copy; cells are read from it where they are asked for. A group's cells are one run of bytes (`Cells`), cut into
+//! pages (`cut_group`). `Pages` is the trait of a finite map from labels to pages, and `MapPages` the one in memory. Where a page lies
+//! in a table is nothing to this crate.
 #![tactic(auto)]
 
+mod cell;
+mod cell_area;
+mod cell_bytes;
 mod cells;
 mod group;
 mod map;
+mod page;
 mod pages;
 mod sequence;
-mod spelling;
 
-pub use cell_spelling::room;
+pub use cell::Cell;
+pub use cell_area::room;
 pub use cells::Cells;
 pub use group::{append_group, cut_group, join_group};
 pub use map::MapPages;
-pub use page_values::{Cell, Page, decode_page, encode_page, label_in};
+pub use page::{Page, decode_page, encode_page, label_in};
 pub use pages::Pages;
 pub use sequence::{PageList, PairList, Sequence};

@@ -4,7 +4,7 @@ ghost use Rattle.std.specs.Prelude.{◌≡◌, map, IsOk, IsTrue, OnOk};
 ghost use Rattle.std.specs.List.{AllByRecursion};
 ghost use Rattle.std.specs.FinMap as maps;
 ghost use Rattle.std.specs.FinMap.{is_sorted};
-ghost use Rattle.base_types.specs.Counts.{raised};
+ghost use Rattle.store_base.specs.Counts.{raised};
 ghost use Rattle.store_model.specs.Paths.{key_cmp};
 ghost use Rattle.store_model.specs.Labels.{label_bytes, label_cmp};
 ghost use Rattle.store_model.specs.Pages.{IsPage};
@@ -13,12 +13,12 @@ ghost use Rattle.node_pages.specs.EntriesLemmas.{IsPageMap-sorted};
 ghost use Rattle.node_pages.specs.PagesState.{HasPlace, IsCellInsert, IsPageGet};
 ghost use Rattle.node_pages.specs.Places.{IsPlaceOf};
 
+use crate::cell::Cell;
+use crate::page::Page;
 use crate::pages::Pages;
-use base_types::Fault;
-use page_labels::Label;
-use page_values::{Cell, Page};
 use std::alloc::Global;
 use std::cmp::Ordering;
+use store_base::{Fault, Label};
 
 /// Pages in memory, always observable. A page is found by halving. It never answers `Fault::Disk`: its count of
 /// faults is always 0.

@@ -6,12 +6,12 @@ ghost use Rattle.std.specs.FinMap as maps;
 ghost use Rattle.std.specs.Io.BufRead.{Rests};
 ghost use Rattle.store_model.specs.PageMaps.{IsPageMap};
 ghost use Rattle.store_model.specs.Pages.{IsPage};
-ghost use Rattle.page_values.specs.Cells.{ArePacked, cells_in};
+ghost use Rattle.node_pages.specs.PageSlots.{ArePacked, cells_in};
 ghost use Rattle.node_pages.specs.PagesState.{PagesState, IsObservable, IsPageGet, IsPagePut, IsPageDrop, IsCellInsert, HasPlace, looked_at, most_pages};
 
-use base_types::Fault;
-use page_labels::Label;
-use page_values::{Cell, Page};
+use crate::cell::Cell;
+use crate::page::Page;
+use store_base::{Fault, Label};
 
 /// Pages, each under its label.
 ///

@@ -2,12 +2,11 @@
 
 ghost use Rattle.std.specs.Prelude.{◌≡◌, ◌<◌, ◌↔◌, [], ◌∷◌, ◌++◌, length, Some, IfOk, OnOk, OnErr, IsTrue, slice_get};
 
-use base_types::{NoMemory, Value};
-use page_labels::Key;
-use page_values::Page;
+use crate::page::Page;
 use std::alloc::Global;
 use std::marker::Model;
 use std::slice;
+use store_base::{Key, NoMemory, Value};
 
 /// A list of pages.
 pub type PageList = Sequence<Page>;

@@ -5,7 +5,7 @@ use Rattle.std.specs.List.{AllByRecursion}
 use Rattle.std.specs.FinMap.{put}
 use Rattle.std.specs.FinMap.Entries.{by_order, is_sorted-put, is_sorted-where_key}
 use Rattle.std.specs.Cmp.Lexicographic.{nat_list_cmp_total}
-use Rattle.page_labels.specs.Keys.{IsKey}
+use Rattle.store_base.specs.Keys.{IsKey}
 use Rattle.store_model.specs.Paths.{key_cmp}
 use Rattle.store_model.specs.Pairs.{Pair, IsPair, IsPairs, IsValue}
 use Rattle.store_model.proofs.ListsLemmas.{all_filter}

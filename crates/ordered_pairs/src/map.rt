@@ -9,11 +9,10 @@ ghost use Rattle.node_pages.specs.Places.{IsPlaceOf};
 ghost use Rattle.ordered_pairs.specs.ValidPairs.{IsPairs-prop};
 
 use crate::ordered::OrderedPairs;
-use base_types::{Fault, NoMemory, Value};
 use node_pages::PairList;
-use page_labels::Key;
 use std::alloc::Global;
 use std::cmp::Ordering;
+use store_base::{Fault, Key, NoMemory, Value};
 
 /// A list of pairs in memory, always observable. A key is found by halving. It never answers `Fault::Disk`: its
 /// count of faults is always 0.

@@ -4,8 +4,7 @@ ghost use Rattle.std.specs.Prelude.{◌<◌, ◌≤◌, length};
 ghost use Rattle.store_model.specs.Pairs.{IsPairs};
 ghost use Rattle.ordered_pairs.specs.PairsState.{PairsState, IsObservable, IsPairGet, IsPairPut, IsPairTake, IsNextPair, most_pairs};
 
-use base_types::{Fault, Value};
-use page_labels::Key;
+use store_base::{Fault, Key, Value};
 
 /// A list of pairs, each a key and its value, in the order of the keys: no key stands twice.
 ///

@@ -13,9 +13,9 @@ use Rattle.store_model.specs.Placement.{probe}
 use Rattle.store_model.specs.Images.{page_bytes, slot_bytes}
 use Rattle.store_model.specs.PageMaps.{PageMap, with_page, HoldsPages}
 use Rattle.store_model.proofs.PageMapsLemmas.{IsPageMap-with_page}
-use Rattle.base_types.specs.declared.store_fault.Fault.{Fault}
-use Rattle.base_types.specs.SlotsState.{SlotsState, IsObservable, AreSlotCalls, IsGet, IsSet}
-use Rattle.base_types.proofs.SlotsCalls.{AreSlotCalls-none, AreSlotCalls-then, IsObservable-later}
+use Rattle.store_base.specs.declared.store_fault.Fault.{Fault}
+use Rattle.store_base.specs.SlotsState.{SlotsState, IsObservable, AreSlotCalls, IsGet, IsSet}
+use Rattle.store_base.proofs.SlotsCalls.{AreSlotCalls-none, AreSlotCalls-then, IsObservable-later}
 use Rattle.ordered_table.specs.Tables.{HasRoomFor, Inserts}
 use Rattle.ordered_table.specs.Carrying.{Carries, Inserting}
 use Rattle.ordered_table.proofs.Reading.{probe_first, probe_next, probe_within, Seen, seen, seen_page}

@@ -3,9 +3,9 @@ use Rattle.std.proofs.Common.{◌≡◌, ℕ, List, Option, sym, subst, ◌∙�
 use Rattle.std.specs.Prelude.{Ok, Err}
 use Rattle.std.specs.declared.cmp.Ordering.{Ordering}
 use Rattle.std.proofs.lemmas.Option.{same_Some}
-use Rattle.base_types.specs.declared.store_fault.Fault.{Fault}
-use Rattle.base_types.specs.SlotsState.{SlotsState, IsGet}
-use Rattle.base_types.proofs.SlotsCalls.{AreSlotCalls-value, AreSlotCalls-fault}
+use Rattle.store_base.specs.declared.store_fault.Fault.{Fault}
+use Rattle.store_base.specs.SlotsState.{SlotsState, IsGet}
+use Rattle.store_base.proofs.SlotsCalls.{AreSlotCalls-value, AreSlotCalls-fault}
 use Rattle.ordered_table.specs.Tables.{TellsOrder, Orders}
 
 pub orders_read : (old new : SlotsState) (at : ℕ) (buffer wanted : List ℕ) (order : Option Ordering) → IsGet {T = Unit {0}} old new at buffer (Ok tt) → TellsOrder buffer wanted order → Orders old new at wanted (Ok order)

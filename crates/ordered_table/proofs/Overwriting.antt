@@ -21,8 +21,8 @@ use Rattle.store_model.proofs.PlacementLemmasOrder.{one_page}
 use Rattle.store_model.proofs.PlacementLemmasTables.{tied_label_bytes, held_page}
 use Rattle.store_model.proofs.TreesLemmasBytes.{slots_same, labels_same}
 use Rattle.store_model.proofs.PageMapsLemmas.{found_stands, standing_found, page_at-with_page, IsPageMap-with_page, HoldsPages-lookups}
-use Rattle.base_types.specs.declared.store_fault.Fault.{Fault}
-use Rattle.base_types.specs.SlotsState.{SlotsState, IsObservable, IsSet}
+use Rattle.store_base.specs.declared.store_fault.Fault.{Fault}
+use Rattle.store_base.specs.SlotsState.{SlotsState, IsObservable, IsSet}
 use Rattle.ordered_table.specs.Tables.{HasInSlot, Overwrites}
 use Rattle.ordered_table.proofs.Reading.{Seen, seen}
 use Rattle.ordered_table.proofs.Searching.{held_table}

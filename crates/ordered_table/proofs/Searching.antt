@@ -24,9 +24,9 @@ use Rattle.store_model.proofs.PlacementLemmas.{length-numbers_from, get_or-numbe
 use Rattle.store_model.proofs.PlacementLemmasTables.{tied_label_bytes}
 use Rattle.store_model.proofs.TreesLemmasBytes.{labels_same}
 use Rattle.store_model.proofs.PageMapsLemmas.{IsOrderedTable-page_map, pages_of_placed_map, found_stands, standing_found}
-use Rattle.base_types.specs.declared.store_fault.Fault.{Fault}
-use Rattle.base_types.specs.SlotsState.{SlotsState, IsObservable, AreSlotCalls}
-use Rattle.base_types.proofs.SlotsCalls.{AreSlotCalls-none, AreSlotCalls-then, AreSlotCalls-value, AreSlotCalls-fault, IsObservable-later}
+use Rattle.store_base.specs.declared.store_fault.Fault.{Fault}
+use Rattle.store_base.specs.SlotsState.{SlotsState, IsObservable, AreSlotCalls}
+use Rattle.store_base.proofs.SlotsCalls.{AreSlotCalls-none, AreSlotCalls-then, AreSlotCalls-value, AreSlotCalls-fault, IsObservable-later}
 use Rattle.ordered_table.specs.Tables.{is_passed, looks, TellsOrder, Orders, IsSlotOf, Finds, Looks}
 use Rattle.ordered_table.proofs.Reading.{probe_first, probe_next, probe_within, stands_in, seen_page}
 

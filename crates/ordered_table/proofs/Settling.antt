@@ -6,9 +6,9 @@ use Rattle.store_model.specs.Labels.{Label, label_cmp}
 use Rattle.store_model.specs.Draws.{Draw, IsLawful}
 use Rattle.store_model.specs.Pages.{Page, IsPage}
 use Rattle.store_model.specs.Images.{slot_bytes}
-use Rattle.base_types.specs.declared.store_fault.Fault.{Fault}
-use Rattle.base_types.specs.SlotsState.{SlotsState, AreSlotCalls, IsGet, IsSet}
-use Rattle.base_types.proofs.SlotsCalls.{AreSlotCalls-none, AreSlotCalls-then, AreSlotCalls-value, AreSlotCalls-fault}
+use Rattle.store_base.specs.declared.store_fault.Fault.{Fault}
+use Rattle.store_base.specs.SlotsState.{SlotsState, AreSlotCalls, IsGet, IsSet}
+use Rattle.store_base.proofs.SlotsCalls.{AreSlotCalls-none, AreSlotCalls-then, AreSlotCalls-value, AreSlotCalls-fault}
 use Rattle.ordered_table.specs.Tables.{Inserts}
 use Rattle.ordered_table.specs.Carrying.{Inserting, Settles, CarriesOn}
 use Rattle.ordered_table.specs.declared.change.Way.{Way}

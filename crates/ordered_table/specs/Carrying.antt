@@ -7,8 +7,8 @@ use Rattle.store_model.specs.Pages.{Page, IsPage}
 use Rattle.store_model.specs.Placement.{Table, probe, HoldsPage, IsOrderedTable}
 use Rattle.store_model.specs.Images.{slot_bytes, slots_of}
 use Rattle.store_model.specs.PageMaps.{PageMap, page_at, with_page}
-use Rattle.base_types.specs.declared.store_fault.Fault.{Fault}
-use Rattle.base_types.specs.SlotsState.{SlotsState, IsObservable, AreSlotCalls}
+use Rattle.store_base.specs.declared.store_fault.Fault.{Fault}
+use Rattle.store_base.specs.SlotsState.{SlotsState, IsObservable, AreSlotCalls}
 use Rattle.ordered_table.specs.Tables.{HasRoomFor, Inserts}
 use Rattle.ordered_table.specs.declared.change.Way.{Way}
 

@@ -1,9 +1,9 @@
 -- Slots in memory that fail the calls that they were told to fail, as their clauses see them.
 use Rattle.std.specs.Prelude.{◌≡◌, ◌↔◌, ℕ, ◌==◌, Bool, true, List, IsTrue, Result, IsErr, length}
 use Rattle.std.specs.List.{list_any}
-use Rattle.base_types.specs.Counts.{raised}
-use Rattle.base_types.specs.declared.store_fault.Fault.{Fault}
-use Rattle.base_types.specs.SlotsState.{SlotsState}
+use Rattle.store_base.specs.Counts.{raised}
+use Rattle.store_base.specs.declared.store_fault.Fault.{Fault}
+use Rattle.store_base.specs.SlotsState.{SlotsState}
 use Rattle.ordered_table.specs.declared.mem_slots.MemSlots.{MemSlots}
 
 -- observable slots that take no memory

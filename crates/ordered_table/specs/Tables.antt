@@ -11,8 +11,8 @@ use Rattle.store_model.specs.Pages.{Page, IsPage}
 use Rattle.store_model.specs.Placement.{Table, probes, place}
 use Rattle.store_model.specs.Images.{slot_bytes}
 use Rattle.store_model.specs.PageMaps.{PageMap, page_at, with_page, without_page, pages_of_map, HoldsPages}
-use Rattle.base_types.specs.declared.store_fault.Fault.{Fault}
-use Rattle.base_types.specs.SlotsState.{SlotsState, IsObservable, AreSlotCalls}
+use Rattle.store_base.specs.declared.store_fault.Fault.{Fault}
+use Rattle.store_base.specs.SlotsState.{SlotsState, IsObservable, AreSlotCalls}
 
 -- a search for the label goes on past what a slot holds: a page of smaller label
 abbrev pub is_passed : Label → Option (Option Page) → Bool

@@ -5,10 +5,9 @@ ghost use Rattle.ordered_table.specs.Carrying.{Settles, CarriesOn};
 ghost use Rattle.ordered_table.specs.Tables.{Inserts, Overwrites};
 
 use crate::round::next_slot;
-use base_types::{Fault, Slots};
-use page_labels::Label;
-use page_values::{Page, label_in};
+use node_pages::{Page, label_in};
 use seeded_draw::Draw;
+use store_base::{Fault, Label, Slots};
 use store_model::{BLOCK, Slot};
 
 /// The way of a page that has no slot yet.

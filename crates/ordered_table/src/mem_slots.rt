@@ -1,10 +1,10 @@
 //! Slots in memory, for tests: calls fail where they are told to.
 
-ghost use Rattle.base_types.specs.SlotsState.{AreWhole};
+ghost use Rattle.store_base.specs.SlotsState.{AreWhole};
 
 use crate::order::OrderSlots;
-use base_types::{Fault, NoMemory, ReadSlots, Slots};
 use std::alloc::Global;
+use store_base::{Fault, NoMemory, ReadSlots, Slots};
 use store_model::{BLOCK, Slot};
 
 /// Slots in memory. `get` and `set` take no memory.
@@ -23,7 +23,7 @@ pub struct MemSlots {
 impl MemSlots {
     ghost use Rattle.std.specs.Prelude.{◌≡◌, IfOk, replicate, if◌then◌else◌};
     ghost use Rattle.store_model.specs.Lists.{zeros};
-    ghost use Rattle.base_types.specs.Counts.{raised};
+    ghost use Rattle.store_base.specs.Counts.{raised};
     ghost use Rattle.ordered_table.specs.MemSlots.{mem_state, call_number, listed, will_fail};
 
     /// So many empty slots, of whose calls those fail whose numbers are listed. `NoMemory` where there is none for
@@ -76,7 +76,7 @@ impl MemSlots {
 impl ReadSlots for MemSlots {
     ghost use Rattle.std.specs.Prelude.{◌≡◌, ◌<◌};
     ghost use Rattle.std.proofs.Common.{refl, ◌∙◌};
-    ghost use Rattle.base_types.specs.SlotsState.{IsGet};
+    ghost use Rattle.store_base.specs.SlotsState.{IsGet};
     ghost use Rattle.ordered_table.specs.MemSlots.{mem_state, listed, CountsCall, FailsAsTold};
 
     ghost state = { mem_state };
@@ -108,7 +108,7 @@ impl ReadSlots for MemSlots {
 
 impl Slots for MemSlots {
     ghost use Rattle.std.specs.Prelude.{◌≡◌, ◌<◌};
-    ghost use Rattle.base_types.specs.SlotsState.{IsSet};
+    ghost use Rattle.store_base.specs.SlotsState.{IsSet};
     ghost use Rattle.ordered_table.specs.MemSlots.{mem_state, listed, CountsCall, FailsAsTold};
 
     fn set(&mut self, at: u32, slot: &Slot) -> Result<(), Fault>

@@ -3,9 +3,8 @@
 ghost use Rattle.std.specs.Prelude.{◌<◌};
 ghost use Rattle.ordered_table.specs.Tables.{Orders, TellsOrder};
 
-use base_types::{Fault, ReadSlots};
-use page_labels::byte_order;
 use std::cmp::Ordering;
+use store_base::{Fault, ReadSlots, byte_order};
 use store_model::{BLOCK, Slot};
 
 /// Where the bytes of the label begin in the slot of a page, and where they end.

@@ -6,11 +6,10 @@ ghost use Rattle.ordered_table.specs.Tables.{Finds, Looks};
 use crate::order::{ByOrder, ByRead, Compare, OrderSlots};
 use crate::round::next_slot;
 use crate::steps::Steps;
-use base_types::{Fault, ReadSlots};
-use page_labels::Label;
 use seeded_draw::Draw;
 use std::cmp::Ordering;
 use std::sync::ledger::Ledger;
+use store_base::{Fault, Label, ReadSlots};
 
 /// Whether slot `at` holds the page of the label. A fault of the slots ends the call; it writes nothing.
 ///

@@ -9,15 +9,15 @@ use Rattle.store_model.specs.Draws.{Draw}
 use Rattle.store_model.specs.Pages.{Cell, Page}
 use Rattle.store_model.specs.PageMaps.{PageMap, IsPageMap, page_at, with_page}
 use Rattle.store_model.proofs.PageMapsLemmas.{IsPageMap-with_page}
-use Rattle.base_types.specs.declared.store_fault.Fault.TheVariants as causes
+use Rattle.store_base.specs.declared.store_fault.Fault.TheVariants as causes
 use Rattle.disk_model.specs.DiskState.{DiskState, IsObservable}
-use Rattle.page_values.specs.Insertions.{TakesCell, with_cell}
+use Rattle.node_pages.specs.Insertions.{TakesCell, with_cell}
 use Rattle.node_pages.specs.PagesState.{IsCellInsert}
-use Rattle.slot_memory.specs.Memos.{Remembered, staged_at, IsRemembered, IsMemoOf}
-use Rattle.slot_memory.specs.OverlayState.{overlaid}
-use Rattle.slot_memory.specs.Staging.{Changes, with_change, with_changes}
-use Rattle.slot_memory.proofs.ChangeLemmas.{with_changes-insert, with_changes-set_value}
-use Rattle.slot_cache.proofs.KnownLemmas.{known_read}
+use Rattle.table_memory.specs.Memos.{Remembered, staged_at, IsRemembered, IsMemoOf}
+use Rattle.table_memory.specs.OverlayState.{overlaid}
+use Rattle.table_memory.specs.Staging.{Changes, with_change, with_changes}
+use Rattle.table_memory.proofs.ChangeLemmas.{with_changes-insert, with_changes-set_value}
+use Rattle.page_store.proofs.KnownLemmas.{known_read}
 use Rattle.page_store.specs.PageImages.{pages_in_table}
 use Rattle.page_store.specs.StagedState.{StagedState, staged_state, IsStaged, IsTold, pages_state}
 use Rattle.page_store.specs.Stagings.{InsertsCell, StagesCell}

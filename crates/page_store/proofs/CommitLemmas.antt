@@ -12,13 +12,13 @@ use Rattle.store_model.specs.Images.{slot_bytes, slots_of}
 use Rattle.store_model.specs.PageMaps.{PageMap, pages_of_map, IsPageMap}
 use Rattle.store_model.proofs.PlacementLemmas.{length-place}
 use Rattle.disk_model.specs.DiskState.{DiskState, IsSound}
-use Rattle.journal_steps.specs.Changes as journal
-use Rattle.journal_steps.specs.Costs.{CountsCommit}
-use Rattle.journal_steps.specs.Phases.{table_slot}
-use Rattle.journal_steps.specs.Places.{Makes, ReadsOnly}
-use Rattle.journal_steps.proofs.Committing.{find_slot, new_header, new_empty}
-use Rattle.journal_steps.proofs.Layouts.{with-slots-changed, with-slots-kept}
-use Rattle.changed_slots.specs.Differences.{AreDifferences}
+use Rattle.gate_journal.specs.Changes as journal
+use Rattle.gate_journal.specs.Costs.{CountsCommit}
+use Rattle.gate_journal.specs.Phases.{table_slot}
+use Rattle.gate_journal.specs.Places.{Makes, ReadsOnly}
+use Rattle.gate_journal.proofs.Committing.{find_slot, new_header, new_empty}
+use Rattle.gate_journal.proofs.Layouts.{with-slots-changed, with-slots-kept}
+use Rattle.table_memory.specs.Differences.{AreDifferences}
 use Rattle.page_store.specs.PageImages.{table_slots, placed_slot, IsLayoutOf, StandsAt, RepresentsPages}
 use Rattle.page_store.proofs.FindLemmas.{placed}
 use Rattle.page_store.proofs.TreeLayouts.{slots_by_number}

@@ -2,8 +2,8 @@
 use Rattle.std.proofs.Common.{◌≡◌, ℕ, ◌+◌, ◌<◌, List, [], map, Option, Some, None, Result, Ok, Err, slice_get, sym, ap, subst, ◌∙◌, arith}
 use Rattle.std.specs.Option.{option_map, option_map_or}
 use Rattle.std.proofs.lemmas.Option.{same_Some, slice_get-map}
-use Rattle.base_types.specs.declared.store_fault.Fault.{Fault}
-use Rattle.base_types.specs.Faults.{disk_faults_after}
+use Rattle.store_base.specs.declared.store_fault.Fault.{Fault}
+use Rattle.store_base.specs.Faults.{disk_faults_after}
 use Rattle.store_model.specs.Lists.{numbers_below}
 use Rattle.store_model.specs.Parameters.{Parameters}
 use Rattle.store_model.specs.Draws.{Draw}
@@ -12,20 +12,20 @@ use Rattle.store_model.specs.Placement.{place}
 use Rattle.store_model.specs.Images.{slot_bytes}
 use Rattle.store_model.specs.PageMaps.{PageMap, pages_of_map, HoldsPages}
 use Rattle.disk_model.specs.DiskState.{DiskState}
-use Rattle.journal_steps.specs.Changes.{AreChanges}
-use Rattle.journal_steps.specs.Phases.{table_slot}
-use Rattle.journal_steps.specs.ViewState.{KeepsView}
-use Rattle.changed_slots.specs.declared.changed.ChangedSlots.{ChangedSlots}
-use Rattle.slot_cache.specs.Carrying.{CarriesOut}
-use Rattle.changed_slots.specs.Differences.{AreDifferences}
-use Rattle.slot_memory.specs.OverlayState.{slot_over, overlaid}
+use Rattle.gate_journal.specs.Changes.{AreChanges}
+use Rattle.gate_journal.specs.Phases.{table_slot}
+use Rattle.gate_journal.specs.ViewState.{KeepsView}
+use Rattle.table_memory.specs.declared.changed.ChangedSlots.{ChangedSlots}
+use Rattle.page_store.specs.Carrying.{CarriesOut}
+use Rattle.table_memory.specs.Differences.{AreDifferences}
+use Rattle.table_memory.specs.OverlayState.{slot_over, overlaid}
 use Rattle.page_store.specs.PageImages.{table_slots, placed_slot}
-use Rattle.slot_memory.specs.Caches.{Kept, changes_of}
-use Rattle.changed_slots.specs.Comparing.{FindsChanges}
+use Rattle.table_memory.specs.Caches.{Kept, changes_of}
+use Rattle.table_memory.specs.Comparing.{FindsChanges}
 use Rattle.page_store.specs.Preparing.{FindsSlots}
-use Rattle.slot_memory.specs.Staging.{Changes, with_changes}
-use Rattle.changed_slots.proofs.DifferLemmas.{differences_as}
-use Rattle.slot_cache.proofs.OverlayLemmas.{get_number}
+use Rattle.table_memory.specs.Staging.{Changes, with_changes}
+use Rattle.table_memory.proofs.DifferLemmas.{differences_as}
+use Rattle.page_store.proofs.OverlayLemmas.{get_number}
 
 -- the bytes of slots that hold a map are those of its placement
 pub placed : (d : Draw) (slots : ℕ) (f : ℕ → List ℕ) (m : PageMap) → HoldsPages d (map f (numbers_below slots)) m → (i : ℕ) → i < slots → f i ≡ placed_slot d m i

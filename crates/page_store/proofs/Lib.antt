@@ -6,3 +6,9 @@ pub mod SlotLemmas
 pub mod StagedCalls
 pub mod StagedLemmas
 pub mod TreeLayouts
+pub mod CarriedLemmas
+pub mod CarryLemmas
+pub mod KnownLemmas
+pub mod LayingLemmas
+pub mod LookupLemmas
+pub mod OverlayLemmas

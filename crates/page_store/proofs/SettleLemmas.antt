@@ -1,39 +1,39 @@
 -- Lemmas on settles: refused, failed and done.
 use Rattle.std.proofs.Common.{◌≡◌, ◌⊎◌, ℕ, ◌+◌, ◌*◌, ◌<◌, ◌≤◌, Bool, true, false, List, [], length, Result, Ok, Err, refl, sym, ap, ap₂, subst, ◌∙◌, inl, arith}
 use Rattle.std.specs.FinMap as maps
-use Rattle.base_types.specs.Counts.{raised, Rose}
-use Rattle.base_types.specs.Faults.{disk_faults_after}
-use Rattle.base_types.specs.declared.store_fault.Fault.{Fault}
-use Rattle.base_types.specs.declared.store_fault.Fault.TheVariants as below
+use Rattle.store_base.specs.Counts.{raised, Rose}
+use Rattle.store_base.specs.Faults.{disk_faults_after}
+use Rattle.store_base.specs.declared.store_fault.Fault.{Fault}
+use Rattle.store_base.specs.declared.store_fault.Fault.TheVariants as below
 use Rattle.store_model.specs.Parameters.{Parameters, image_len}
 use Rattle.store_model.specs.Draws.{Draw, IsLawful}
 use Rattle.store_model.specs.PageMaps.{PageMap, page_at, IsPageMap, HoldsPages}
 use Rattle.disk_model.specs.DiskState.{DiskState, IsObservable, IsDurable, IsSound}
 use Rattle.disk_model.specs.DiskCalls.{LeavesOnly}
 use Rattle.disk_model.proofs.Crashes.{LeavesOnly-trans, LeavesOnly-weaken}
-use Rattle.journal_steps.specs.Changes as journal
-use Rattle.journal_steps.specs.Costs.{CountsCommit}
-use Rattle.journal_steps.specs.Disks.{KeepsDisk}
-use Rattle.journal_steps.specs.Phases.{HasEmptyJournal}
-use Rattle.journal_steps.specs.Places.{AreCalls, Makes, ReadsOnly}
-use Rattle.journal_steps.specs.ViewState.{KeepsView}
-use Rattle.journal_steps.proofs.Phases.{recovered_empty}
-use Rattle.changed_slots.specs.declared.changed.ChangedSlots.{ChangedSlots}
+use Rattle.gate_journal.specs.Changes as journal
+use Rattle.gate_journal.specs.Costs.{CountsCommit}
+use Rattle.gate_journal.specs.Disks.{KeepsDisk}
+use Rattle.gate_journal.specs.Phases.{HasEmptyJournal}
+use Rattle.gate_journal.specs.Places.{AreCalls, Makes, ReadsOnly}
+use Rattle.gate_journal.specs.ViewState.{KeepsView}
+use Rattle.gate_journal.proofs.Phases.{recovered_empty}
+use Rattle.table_memory.specs.declared.changed.ChangedSlots.{ChangedSlots}
 use Rattle.page_store.specs.declared.fault.SettleFault.{SettleFault}
 use Rattle.page_store.specs.declared.fault.SettleFault.TheVariants as causes
-use Rattle.changed_slots.specs.Differences.{AreDifferences}
+use Rattle.table_memory.specs.Differences.{AreDifferences}
 use Rattle.page_store.specs.Faults.{settle_faults_after, settle_fault_of}
-use Rattle.slot_memory.specs.Caches.{changes_of}
-use Rattle.slot_memory.specs.Memos.{Remembered, IsMemoOf, Renews}
-use Rattle.slot_memory.specs.OverlayState.{overlaid}
+use Rattle.table_memory.specs.Caches.{changes_of}
+use Rattle.table_memory.specs.Memos.{Remembered, IsMemoOf, Renews}
+use Rattle.table_memory.specs.OverlayState.{overlaid}
 use Rattle.page_store.specs.PageImages.{table_slots, pages_in_table, placed_slot, IsLayoutOf, StandsAt, RepresentsPages, slots_between}
 use Rattle.page_store.specs.Preparing.{FindsSlots}
 use Rattle.page_store.specs.Settling.{AnswersFull, SettlesDisk, Settles}
 use Rattle.page_store.specs.StagedState.{StagedState, staged_state, IsCounted, IsStaged}
-use Rattle.slot_memory.specs.Staging.{Changes, with_changes}
+use Rattle.table_memory.specs.Staging.{Changes, with_changes}
 use Rattle.page_store.proofs.CommitLemmas.{becomes, either, counts_commit}
-use Rattle.changed_slots.proofs.DifferLemmas.{differing-itself}
-use Rattle.slot_memory.proofs.MemoLemmas.{renewed}
+use Rattle.table_memory.proofs.DifferLemmas.{differing-itself}
+use Rattle.table_memory.proofs.MemoLemmas.{renewed}
 use Rattle.page_store.proofs.SlotLemmas.{pages_in_held}
 use Rattle.page_store.proofs.StagedLemmas.{IsReadLater, read_later, staged_later, memo_later}
 

@@ -8,10 +8,10 @@ use Rattle.store_model.specs.Placement.{Table, pages_in}
 use Rattle.store_model.specs.Images.{page_bytes, slot_bytes, slots_of}
 use Rattle.store_model.specs.PageMaps.{PageMap, map_of_pages, HoldsPages}
 use Rattle.store_model.proofs.PageMapsLemmas.{table_of_held_map}
-use Rattle.page_values.specs.Cells.{page_in}
-use Rattle.page_values.proofs.PageBytes.{shown}
-use Rattle.slot_memory.specs.Spelled.{label_in}
-use Rattle.slot_memory.proofs.SpelledLemmas.{label_in-label_bytes}
+use Rattle.node_pages.specs.PageSlots.{page_in}
+use Rattle.node_pages.proofs.PageBytes.{shown}
+use Rattle.table_memory.specs.Spelled.{label_in}
+use Rattle.table_memory.proofs.SpelledLemmas.{label_in-label_bytes}
 use Rattle.page_store.specs.PageImages.{page_in_slot, pages_in_slots}
 
 -- a page is told by its slot

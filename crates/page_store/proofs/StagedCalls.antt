@@ -9,16 +9,16 @@ use Rattle.store_model.specs.Labels.{Label, label_bytes, label_cmp}
 use Rattle.store_model.specs.Draws.{Draw}
 use Rattle.store_model.specs.Pages.{Page}
 use Rattle.store_model.specs.PageMaps.{PageMap, IsPageMap, page_at}
-use Rattle.base_types.specs.declared.store_fault.Fault.{Fault}
-use Rattle.base_types.specs.declared.store_fault.Fault.TheVariants as causes
-use Rattle.base_types.specs.Faults.{disk_faults_after}
+use Rattle.store_base.specs.declared.store_fault.Fault.{Fault}
+use Rattle.store_base.specs.declared.store_fault.Fault.TheVariants as causes
+use Rattle.store_base.specs.Faults.{disk_faults_after}
 use Rattle.disk_model.specs.DiskState.{DiskState, IsObservable}
-use Rattle.journal_steps.specs.ViewState.{KeepsView}
+use Rattle.gate_journal.specs.ViewState.{KeepsView}
 use Rattle.node_pages.specs.PagesState.{IsPageGet, IsPagePut, most_pages}
-use Rattle.slot_memory.specs.OverlayState.{overlaid}
+use Rattle.table_memory.specs.OverlayState.{overlaid}
 use Rattle.page_store.specs.PageImages.{pages_in_table}
-use Rattle.slot_memory.specs.Staging.{Changes, with_change, with_changes, used_after}
-use Rattle.slot_cache.specs.Lookups.{Finds}
+use Rattle.table_memory.specs.Staging.{Changes, with_change, with_changes, used_after}
+use Rattle.page_store.specs.Lookups.{Finds}
 use Rattle.page_store.specs.StagedState.{StagedState, staged_state, IsStaged, IsTold, Follows, pages_state}
 use Rattle.page_store.specs.Stagings.{Stages}
 use Rattle.page_store.proofs.StagedLemmas.{IsReadLater, read_later, staged_later, staged_change, changed_map, same_table}

@@ -9,15 +9,15 @@ use Rattle.store_model.specs.Draws.{Draw}
 use Rattle.store_model.specs.Pages.{Page}
 use Rattle.store_model.specs.PageMaps.{PageMap, IsPageMap, HoldsPages}
 use Rattle.disk_model.specs.DiskState.{DiskState, IsObservable}
-use Rattle.journal_steps.specs.Places.{ReadsOnly}
-use Rattle.journal_steps.specs.ViewState.{KeepsView}
-use Rattle.slot_memory.specs.Memos.{Remembered, IsMemoOf}
-use Rattle.slot_memory.specs.OverlayState.{slot_over, overlaid}
+use Rattle.gate_journal.specs.Places.{ReadsOnly}
+use Rattle.gate_journal.specs.ViewState.{KeepsView}
+use Rattle.table_memory.specs.Memos.{Remembered, IsMemoOf}
+use Rattle.table_memory.specs.OverlayState.{slot_over, overlaid}
 use Rattle.page_store.specs.PageImages.{table_slots, pages_in_table, IsLayoutOf, StandsAt}
-use Rattle.slot_memory.specs.Staging.{Changes, with_change, with_changes}
-use Rattle.slot_cache.specs.Lookups.{Finds}
+use Rattle.table_memory.specs.Staging.{Changes, with_change, with_changes}
+use Rattle.page_store.specs.Lookups.{Finds}
 use Rattle.page_store.specs.StagedState.{IsCounted, IsStaged}
-use Rattle.slot_memory.proofs.ChangeLemmas.{with_changes-insert}
+use Rattle.table_memory.proofs.ChangeLemmas.{with_changes-insert}
 
 -- all changes are taken back
 pub discarded : (d : Draw) (p : Parameters) (disk : DiskState) (touched : List (ℕ × List ℕ)) (changes none : Changes) (used settled : ℕ) (is_spent : Bool) → IsStaged d p disk touched changes used settled is_spent → none ≡ []

@@ -13,11 +13,11 @@ use Rattle.store_model.specs.PageMaps.{map_of_pages, HoldsPages}
 use Rattle.store_model.proofs.ImagesLemmas.{header-layout}
 use Rattle.store_model.proofs.PlacementLemmas.{length-place}
 use Rattle.store_model.proofs.PageMapsLemmas.{HoldsPages-tree}
-use Rattle.journal_steps.specs.Phases.{table_slot}
-use Rattle.journal_steps.proofs.Layouts.{layout-slots, layout-has-empty-journal, slots-make-layout, recovered-represents}
-use Rattle.journal_steps.proofs.Recovering.{long-recovered}
+use Rattle.gate_journal.specs.Phases.{table_slot}
+use Rattle.gate_journal.proofs.Layouts.{layout-slots, layout-has-empty-journal, slots-make-layout, recovered-represents}
+use Rattle.gate_journal.proofs.Recovering.{long-recovered}
 use Rattle.page_store.specs.PageImages.{table_slots, IsLayoutOf, RepresentsPages}
-use Rattle.slot_cache.proofs.OverlayLemmas.{get_number}
+use Rattle.page_store.proofs.OverlayLemmas.{get_number}
 
 -- slots that are those of a table, one by one
 pub slots_by_number : (f : ℕ → List ℕ) (first : ℕ) (table : List (Option Page)) → ((i : ℕ) (content : Option Page) → slice_get table i ≡ Some content → f (first + i) ≡ slot_bytes content) → map f (numbers_from first (length table)) ≡ map slot_bytes table

@@ -6,7 +6,7 @@ use Rattle.store_model.specs.declared.draw_kind.DrawKind.{DrawKind}
 use Rattle.store_model.specs.declared.draw_kind.DrawKind.TheVariants.{Ruler, Sha256}
 use Rattle.store_model.specs.Parameters.{Parameters}
 use Rattle.store_model.specs.PageMaps.{PageMap}
-use Rattle.slot_memory.specs.Codes.{page_code}
+use Rattle.table_memory.specs.Codes.{page_code}
 use Rattle.page_store.specs.StagedState.{StagedState}
 
 abbrev pub page_map_code : Coded PageMap

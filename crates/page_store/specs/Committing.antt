@@ -2,9 +2,9 @@
 use Rattle.std.specs.Prelude.{◌≡◌, ℕ, ◌+◌, ◌*◌, ◌<◌, Result, OnErr}
 use Rattle.disk_model.specs.DiskState.{DiskState, IsObservable}
 use Rattle.disk_model.specs.DiskCalls.{Rose}
-use Rattle.journal_steps.specs.Changes as journal
-use Rattle.journal_steps.specs.Places.{AreCalls, Makes}
-use Rattle.slot_memory.specs.Caches.{Kept, IsCacheOf}
+use Rattle.gate_journal.specs.Changes as journal
+use Rattle.gate_journal.specs.Places.{AreCalls, Makes}
+use Rattle.table_memory.specs.Caches.{Kept, IsCacheOf}
 
 -- The changed slots are committed, as the journal does it, and what is kept of the table are its slots then too.
 pub record CommitsSlots {D T E : Type 0} (state : D → DiskState) (slots : ℕ) (changes : journal.Changes) (old new : D) (cache : Kept) (result : Result T E) : Type 0 where

@@ -1,8 +1,8 @@
 -- What the answers of a settle make of the disk's count of failed calls, and the faults that it hands on.
 use Rattle.std.specs.Prelude.{ℕ, Result, Ok, Err}
-use Rattle.base_types.specs.Counts.{raised}
-use Rattle.base_types.specs.declared.store_fault.Fault.{Fault}
-use Rattle.base_types.specs.declared.store_fault.Fault.TheVariants as below
+use Rattle.store_base.specs.Counts.{raised}
+use Rattle.store_base.specs.declared.store_fault.Fault.{Fault}
+use Rattle.store_base.specs.declared.store_fault.Fault.TheVariants as below
 use Rattle.page_store.specs.declared.fault.SettleFault.{SettleFault}
 use Rattle.page_store.specs.declared.fault.SettleFault.TheVariants as causes
 

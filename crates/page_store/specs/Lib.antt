@@ -6,3 +6,6 @@ pub mod Preparing
 pub mod Settling
 pub mod StagedState
 pub mod Stagings
+pub mod Carrying
+pub mod Lookups
+pub mod Overlays

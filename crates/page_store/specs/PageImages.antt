@@ -9,11 +9,11 @@ use Rattle.store_model.specs.Pages.{Page}
 use Rattle.store_model.specs.Placement.{place}
 use Rattle.store_model.specs.PageMaps.{PageMap, map_of_pages, pages_of_map, HoldsPages}
 use Rattle.store_model.specs.Images.{header, recovered, slot_bytes}
-use Rattle.page_values.specs.Cells.{page_in}
+use Rattle.node_pages.specs.PageSlots.{page_in}
 use Rattle.disk_model.specs.DiskState.{DiskState, IsDurable}
-use Rattle.journal_steps.specs.Phases.{table_slot, HasEmptyJournal}
-use Rattle.slot_memory.specs.Spelled.{label_in}
-use Rattle.changed_slots.specs.Differences.{differing}
+use Rattle.gate_journal.specs.Phases.{table_slot, HasEmptyJournal}
+use Rattle.table_memory.specs.Spelled.{label_in}
+use Rattle.table_memory.specs.Differences.{differing}
 
 -- the page that the bytes of a slot spell, and none in a slot whose byte 0 is not 1
 unfoldable pub page_in_slot : List ℕ → Option Page

@@ -1,19 +1,19 @@
 -- How the slots are found that a settle commits.
 use Rattle.std.specs.Prelude.{◌≡◌, ◌≤◌, ℕ, List, Result, IfOk}
 use Rattle.std.specs.FinMap as maps
-use Rattle.base_types.specs.declared.store_fault.Fault.{Fault}
-use Rattle.base_types.specs.Faults.{disk_faults_after}
+use Rattle.store_base.specs.declared.store_fault.Fault.{Fault}
+use Rattle.store_base.specs.Faults.{disk_faults_after}
 use Rattle.store_model.specs.Parameters.{Parameters}
 use Rattle.store_model.specs.Draws.{Draw}
 use Rattle.store_model.specs.PageMaps.{PageMap, IsPageMap, HoldsPages}
 use Rattle.disk_model.specs.DiskState.{DiskState, IsObservable}
-use Rattle.journal_steps.specs.Changes.{AreChanges}
-use Rattle.slot_memory.specs.Caches.{changes_of}
-use Rattle.changed_slots.specs.declared.changed.ChangedSlots.{ChangedSlots}
-use Rattle.changed_slots.specs.Differences.{AreDifferences}
-use Rattle.slot_memory.specs.OverlayState.{overlaid}
+use Rattle.gate_journal.specs.Changes.{AreChanges}
+use Rattle.table_memory.specs.Caches.{changes_of}
+use Rattle.table_memory.specs.declared.changed.ChangedSlots.{ChangedSlots}
+use Rattle.table_memory.specs.Differences.{AreDifferences}
+use Rattle.table_memory.specs.OverlayState.{overlaid}
 use Rattle.page_store.specs.PageImages.{table_slots, placed_slot}
-use Rattle.slot_memory.specs.Staging.{Changes, with_changes}
+use Rattle.table_memory.specs.Staging.{Changes, with_changes}
 
 -- Changes are carried out on the slots over a disk, and the slots are found that have other bytes in the placement of the pages
 -- then than in that of the pages before.

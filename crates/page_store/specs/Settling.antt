@@ -6,9 +6,9 @@ use Rattle.store_model.specs.Draws.{Draw}
 use Rattle.store_model.specs.PageMaps.{PageMap}
 use Rattle.disk_model.specs.DiskState.{DiskState, IsObservable}
 use Rattle.disk_model.specs.DiskCalls.{Rose, LeavesOnly}
-use Rattle.journal_steps.specs.Places.{ReadsOnly}
-use Rattle.journal_steps.specs.Disks.{KeepsDisk}
-use Rattle.journal_steps.specs.Costs.{CountsCommit}
+use Rattle.gate_journal.specs.Places.{ReadsOnly}
+use Rattle.gate_journal.specs.Disks.{KeepsDisk}
+use Rattle.gate_journal.specs.Costs.{CountsCommit}
 use Rattle.page_store.specs.declared.fault.SettleFault.{SettleFault}
 use Rattle.page_store.specs.declared.fault.SettleFault.TheVariants as causes
 use Rattle.page_store.specs.Faults.{settle_faults_after}

@@ -6,11 +6,11 @@ use Rattle.store_model.specs.Parameters.{Parameters}
 use Rattle.store_model.specs.Draws.{Draw}
 use Rattle.store_model.specs.PageMaps.{PageMap, IsPageMap}
 use Rattle.disk_model.specs.DiskState.{DiskState, IsObservable, IsSound}
-use Rattle.journal_steps.specs.ViewState.{KeepsView, KeepsView-refl, KeepsView-trans}
+use Rattle.gate_journal.specs.ViewState.{KeepsView, KeepsView-refl, KeepsView-trans}
 use Rattle.node_pages.specs.PagesState.{PagesState}
-use Rattle.slot_memory.specs.OverlayState.{overlaid}
+use Rattle.table_memory.specs.OverlayState.{overlaid}
 use Rattle.page_store.specs.PageImages.{table_slots, pages_in_table, StandsAt}
-use Rattle.slot_memory.specs.Staging.{Changes, with_changes}
+use Rattle.table_memory.specs.Staging.{Changes, with_changes}
 
 -- Staged pages at one moment: what the image is made with, its draw, the pages now, those in the table, the disk, whether the value is
 -- spent, and how many pages were asked for. Where the disk is not observable, and of a value that is spent, the maps mean

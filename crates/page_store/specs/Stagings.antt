@@ -1,14 +1,14 @@
 -- What a call does that stages one change.
 use Rattle.std.specs.Prelude.{◌≡◌, ℕ, Option, Some, Result, OnOk, OnErr}
-use Rattle.base_types.specs.declared.store_fault.Fault.{Fault}
-use Rattle.base_types.specs.Faults.{disk_faults_after}
+use Rattle.store_base.specs.declared.store_fault.Fault.{Fault}
+use Rattle.store_base.specs.Faults.{disk_faults_after}
 use Rattle.store_model.specs.Labels.{Label}
 use Rattle.store_model.specs.Pages.{Cell, Page}
 use Rattle.store_model.specs.PageMaps.{PageMap}
-use Rattle.page_values.specs.Insertions.{TakesCell, with_cell}
+use Rattle.node_pages.specs.Insertions.{TakesCell, with_cell}
 use Rattle.node_pages.specs.PagesState.{PagesState, IsObservable}
-use Rattle.slot_memory.specs.Memos.{Remembered, IsKnown}
-use Rattle.slot_memory.specs.Staging.{Changes, with_change, with_changes}
+use Rattle.table_memory.specs.Memos.{Remembered, IsKnown}
+use Rattle.table_memory.specs.Staging.{Changes, with_change, with_changes}
 
 -- what it does to observable pages; one that fails leaves them
 pub record StagesChange {T : Type 0} (old new : PagesState) (l : Label) (change : Option Page) (result : Result T Fault) : Type 0 where

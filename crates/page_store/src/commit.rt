@@ -3,18 +3,16 @@
 ghost use Rattle.std.specs.Prelude.{◌≡◌};
 ghost use Rattle.store_model.specs.Parameters.{image_len};
 ghost use Rattle.disk_model.specs.DiskState.{IsObservable, IsDurable};
-ghost use Rattle.journal_steps.specs.Changes.{AreChanges};
-ghost use Rattle.journal_steps.specs.Phases.{HasEmptyJournal};
-ghost use Rattle.slot_memory.specs.Caches.{changes_of, IsCacheOf};
+ghost use Rattle.gate_journal.specs.Changes.{AreChanges};
+ghost use Rattle.gate_journal.specs.Phases.{HasEmptyJournal};
+ghost use Rattle.table_memory.specs.Caches.{changes_of, IsCacheOf};
 ghost use Rattle.page_store.specs.Committing.{CommitsSlots};
 
-use base_types::DiskFault;
-use changed_slots::ChangedSlots;
 use disk_model::Disk;
 use gate_journal::Journal;
-use image_areas::Params;
-use slot_cache::{SlotCache, Spares};
+use store_base::{DiskFault, Params};
 use store_model::Slot;
+use table_memory::{ChangedSlots, SlotCache, Spares};
 
 /// Commits the changed slots of the table of a disk of these parameters, and gives those that are kept their new bytes.
 /// After `DiskFault` the disk may have the old slots or the new ones, and none is kept.

@@ -1,19 +1,19 @@
 //! How the changed pages become the slots that a settle commits.
 
 ghost use Rattle.std.specs.Prelude.{◌≡◌};
-ghost use Rattle.journal_steps.specs.ViewState.{KeepsView};
-ghost use Rattle.slot_cache.specs.Overlays.{disk_of, params_of, touched_of};
+ghost use Rattle.gate_journal.specs.ViewState.{KeepsView};
+ghost use Rattle.page_store.specs.Overlays.{disk_of, params_of, touched_of};
 ghost use Rattle.page_store.specs.Preparing.{FindsSlots};
-ghost use Rattle.slot_memory.specs.Starts.{AreStarts};
+ghost use Rattle.table_memory.specs.Starts.{AreStarts};
 
-use base_types::Fault;
-use changed_slots::{ChangedSlots, find_changes};
+use crate::carry::carry_out;
+use crate::overlay::Overlay;
 use disk_model::Disk;
 use node_pages::Page;
-use page_labels::Label;
 use seeded_draw::Draw;
-use slot_cache::{Boxed, Hints, Overlay, carry_out};
 use std::collections::BTreeMap;
+use store_base::{Fault, Label};
+use table_memory::{Boxed, ChangedSlots, Hints, find_changes};
 
 /// The slots in which the table differs once the changes are carried out. The disk is only read; which slots the overlay
 /// has written after the call is not said.

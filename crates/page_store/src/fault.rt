@@ -2,7 +2,7 @@
 
 ghost use Rattle.std.specs.Prelude.{◌≡◌};
 
-use base_types::Fault;
+use store_base::Fault;
 use thiserror::Error;
 
 /// Why pages were not settled. What stands after it is said at `Staged::settle`.

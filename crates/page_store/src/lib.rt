@@ -4,15 +4,20 @@
 //! is written. A settle carries the changes out on an overlay of the slots that they touch, and commits the slots whose
 //! bytes differ, so that the table is again the placement of the pages; a crash leaves the old pages or the new ones.
 //!
-//! What is kept in memory of the table, so that it is not read again, is `slot_cache`'s; which slots differ is found by
-//! `changed_slots`.
+//! Slots that were written lie over those of the disk (`Overlay`), which are read through a cache. What is remembered of a label is
+//! not looked up again, and the slot where a page was found last is looked at first. What is remembered, and which of the slots
+//! that were written differ, is `table_memory`'s.
 #![tactic(auto)]
 
+mod carry;
 mod commit;
 mod compare;
 mod fault;
+mod label_order;
+mod overlay;
+mod search;
 mod staged;
 
 pub use fault::SettleFault;
-pub use slot_cache::SlotCache;
 pub use staged::Staged;
+pub use table_memory::SlotCache;

@@ -3,41 +3,38 @@
 ghost use Rattle.std.specs.Prelude.{[], ◌≡◌, ◌≢◌, ◌↔◌, ◌≤◌, ◌<◌, ℕ, Bool, true, false, min, None, Some, IsSome, IfOk, Ok, OnOk, OnErr};
 ghost use Rattle.std.specs.BTreeMap.{insert_entry};
 ghost use Rattle.std.specs.FinMap as maps;
-ghost use Rattle.base_types.specs.Faults.{disk_faults_after};
+ghost use Rattle.store_base.specs.Faults.{disk_faults_after};
 ghost use Rattle.store_model.specs.Labels.{label_bytes, label_cmp};
 ghost use Rattle.store_model.specs.Parameters.{image_len};
 ghost use Rattle.disk_model.specs.DiskState.{IsObservable};
 ghost use Rattle.sha2.specs.Sha256.{sha256};
-ghost use Rattle.journal_steps.specs.Places.{AreCalls, ReadsOnly};
+ghost use Rattle.gate_journal.specs.Places.{AreCalls, ReadsOnly};
 ghost use Rattle.store_model.specs.Pages as model;
 ghost use Rattle.store_model.specs.PageMaps.{PageMap, IsPageMap, page_at};
-ghost use Rattle.page_values.specs.Insertions.{TakesCell};
+ghost use Rattle.node_pages.specs.Insertions.{TakesCell};
 ghost use Rattle.node_pages.specs.PagesState.{IsPageGet, IsPagePut, IsPageDrop, looked_at, most_pages};
-ghost use Rattle.slot_memory.specs.Memos.{Remembered, place_of, staged_at, IsMemoOf};
-ghost use Rattle.slot_memory.specs.Starts.{AreStarts};
-ghost use Rattle.slot_memory.specs.OverlayState.{overlaid};
+ghost use Rattle.table_memory.specs.Memos.{Remembered, place_of, staged_at, IsMemoOf};
+ghost use Rattle.table_memory.specs.Starts.{AreStarts};
+ghost use Rattle.table_memory.specs.OverlayState.{overlaid};
 ghost use Rattle.page_store.specs.PageImages.{pages_in_table, StandsAt};
-ghost use Rattle.slot_memory.specs.Staging.{with_change, used_after};
+ghost use Rattle.table_memory.specs.Staging.{with_change, used_after};
 ghost use Rattle.page_store.specs.Stagings.{InsertsCell, StagesCell};
 ghost use Rattle.page_store.specs.Settling.{Settles};
 
 use crate::commit::commit_slots;
 use crate::compare::find_slots;
 use crate::fault::SettleFault;
-use base_types::{DiskFault, Fault, NoMemory};
+use crate::overlay::Overlay;
+use crate::search::{has_page, known, learn};
 use disk_model::Disk;
 use gate_journal::Journal;
-use image_areas::Params;
 use node_pages::{Cell, Page, Pages};
-use page_labels::Label;
 use seeded_draw::Draw;
-use slot_cache::{
-    Boxed, Hints, Overlay, PageMemo, SlotCache, Spares, behind, empty, has_page, known, learn,
-    place_of,
-};
 use std::alloc::Global;
 use std::collections::BTreeMap;
 use std::marker::Model;
+use store_base::{DiskFault, Fault, Label, NoMemory, Params};
+use table_memory::{Boxed, Hints, PageMemo, SlotCache, Spares, behind, empty, place_of};
 
 /// The pages in the table of an image, with changes that are not settled yet. Contracts see it as one record: the map of
 /// the pages now, that of the pages in the table, the disk, and whether the value is spent.

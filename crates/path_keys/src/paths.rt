@@ -9,13 +9,13 @@ ghost use Rattle.std.specs.Int.{w32, to_be_bytes};
 ghost use Rattle.std.specs.declared.cmp.Ordering.TheVariants.{Less};
 ghost use Rattle.store_model.specs.Paths as model;
 ghost use Rattle.store_model.specs.Grammar.{path_of};
-ghost use Rattle.page_labels.specs.Keys.{IsKey};
+ghost use Rattle.store_base.specs.Keys.{IsKey};
 
 use crate::names::{FIELD_LEN, are_names, field_of_names, last_start, used_len};
 use byteorder::{BigEndian, ByteOrder};
-use page_labels::Key;
 use std::cmp::Ordering;
 use std::marker::Model;
+use store_base::Key;
 use thiserror::Error;
 
 /// Why bytes are no path that a key can hold.

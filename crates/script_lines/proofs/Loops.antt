@@ -1,6 +1,6 @@
 -- What a loop over the lines of a script ends by, and what a fault in it says of the source.
 use Rattle.std.proofs.Common.{◌≡◌, ℕ, ◌<◌, arith, refl, Result, Ok, Err, OnErr}
-use Rattle.base_types.specs.Counts.{Rose, faults_after}
+use Rattle.store_base.specs.Counts.{Rose, faults_after}
 use Rattle.script_lines.specs.LineState.{LineState, source_faults_after, unread, Falls}
 use Rattle.script_lines.specs.declared.lines.Line.{Line}
 use Rattle.script_lines.specs.declared.lines.Line.TheVariants as answers

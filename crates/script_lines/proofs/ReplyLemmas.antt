@@ -4,7 +4,7 @@ use Rattle.std.specs.List.{flat_map, slice_get}
 use Rattle.std.proofs.lemmas.List.{append-nil, append_assoc, take-append-drop, take_more}
 use Rattle.std.proofs.lemmas.List.Concat.{flat_map-append}
 use Rattle.std.proofs.lemmas.Option.{get_or_from_slice_get}
-use Rattle.base_types.specs.Counts.{raised}
+use Rattle.store_base.specs.Counts.{raised}
 use Rattle.script_lines.specs.SinkState.{SinkState, IsPut}
 use Rattle.script_lines.specs.Replies.{PutsPart, FailsPart}
 

@@ -1,6 +1,6 @@
 -- A source and a sink in memory, as their clauses see them.
 use Rattle.std.specs.Prelude.{ℕ, ◌+◌, ◌<◌, ◌⊎◌, min, max, nat_lt, true, List, ◌++◌, length, drop, slice_index, Contains, if◌then◌else◌}
-use Rattle.base_types.specs.Counts.{raised}
+use Rattle.store_base.specs.Counts.{raised}
 use Rattle.script_lines.specs.SourceState.{SourceState}
 use Rattle.script_lines.specs.SinkState.{SinkState}
 

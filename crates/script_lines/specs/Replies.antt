@@ -1,7 +1,7 @@
 -- The program's replies seen as those of the definitions, and what the parts of a listing do to a sink.
 use Rattle.std.specs.Prelude.{◌≡◌, ℕ, ◌^◌, ◌<◌, List, [], ◌++◌, Result, Ok, Err, codes}
 use Rattle.std.specs.Fmt.{decimal}
-use Rattle.base_types.specs.Counts.{raised}
+use Rattle.store_base.specs.Counts.{raised}
 use Rattle.store_model.specs.declared.refusal.Refusal.{Refusal}
 use Rattle.store_model.specs.declared.refusal.Refusal.TheVariants as refusals
 use Rattle.store_model.specs.Commands as model

@@ -1,6 +1,6 @@
 -- What a sink means at one moment, and what one put does.
 use Rattle.std.specs.Prelude.{◌≡◌, ℕ, ◌^◌, ◌<◌, Bool, IsTrue, List, ◌++◌, Result, OnOk, OnErr}
-use Rattle.base_types.specs.Counts.{faults_after}
+use Rattle.store_base.specs.Counts.{faults_after}
 
 -- A sink at one moment. Only where it is observable do the bytes written mean anything.
 pub record SinkState : Type 0 where

@@ -1,6 +1,6 @@
 -- What a source means at one moment, and what one take does.
 use Rattle.std.specs.Prelude.{◌≡◌, ◌↔◌, ℕ, ◌^◌, ◌<◌, ◌≤◌, Bool, IsTrue, List, [], ◌++◌, length, take, Result, IfOk, OnErr}
-use Rattle.base_types.specs.Counts.{faults_after}
+use Rattle.store_base.specs.Counts.{faults_after}
 
 -- A source at one moment. Only where it is observable do the bytes left mean anything.
 pub record SourceState : Type 0 where

@@ -8,8 +8,8 @@ ghost use Rattle.script_lines.specs.Parsing.{command_of, reading_of, rename_of, 
 
 use crate::fields::{Fields, parse_number, read_bytes, read_path, split_fields};
 use crate::lines::MAX_LINE;
-use base_types::Bytes;
 use path_keys::Path;
+use store_base::Bytes;
 use store_model::Refusal;
 
 /// How many bytes of a `write` are few: to clear the room of as many as there may be takes longer than to decode them.

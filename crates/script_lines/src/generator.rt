@@ -6,9 +6,9 @@ ghost use Rattle.script_lines.specs.Parsing.{command_of};
 ghost use Rattle.script_lines.specs.Generated as model;
 
 use crate::command::Command;
-use base_types::Bytes;
 use path_keys::Path;
 use std::marker::Model;
+use store_base::Bytes;
 
 /// The factor and the summand of a step: those of Knuth's MMIX.
 const FACTOR: u64 = 6_364_136_223_846_793_005;

@@ -1,7 +1,7 @@
 //! The lines of a script, read from a source in pieces of whatever length.
 
 ghost use Rattle.std.specs.Prelude.{◌≡◌, ◌↔◌, ◌≤◌, ◌<◌, ◌+◌, ◌-◌, ◌*◌, ◌^◌, ◌==◌, [], true, false, IsTrue, IsOk, IfOk, OnOk, IfErr, OnErr, IsErrOf, length, take, drop, min, max, vec_len, nat_lt, if◌then◌else◌, IfSome};
-ghost use Rattle.base_types.specs.Counts.{Rose};
+ghost use Rattle.store_base.specs.Counts.{Rose};
 ghost use Rattle.script_lines.specs.SourceState.{IsObservable};
 ghost use Rattle.script_lines.specs.Lines.{HasNoEnd, FindsEnd, ended_lines};
 ghost use Rattle.script_lines.specs.LineState.{NextLine, KeepsSource, Fills, EndsCall, IsShown};
@@ -9,9 +9,9 @@ ghost use Rattle.script_lines.specs.LineState.{NextLine, KeepsSource, Fills, End
 use crate::fault::SourceFault;
 use crate::find::find_byte;
 use crate::source::Source;
-use base_types::NoMemory;
 use std::alloc::Global;
 use std::marker::Model;
+use store_base::NoMemory;
 use thiserror::Error;
 
 /// The longest line, in bytes, without the LF that ends it.

@@ -9,9 +9,9 @@ ghost use Rattle.script_lines.specs.Memory.{source_state, sink_state, next_count
 use crate::fault::{SinkFault, SourceFault};
 use crate::sink::Sink;
 use crate::source::Source;
-use base_types::NoMemory;
 use std::alloc::Global;
 use std::marker::Model;
+use store_base::NoMemory;
 
 /// A source in memory. It tells its bytes.
 #[derive(Drop)]

@@ -10,7 +10,7 @@ ghost use Rattle.script_lines.specs.Replies.{reply_of, numbers_of, MakesRoom};
 use crate::fault::SinkFault;
 use crate::sink::Sink;
 use crate::text::{MAX_TEXT, Text};
-use base_types::{Bytes, Entries};
+use store_base::{Bytes, Entries};
 use store_model::Refusal;
 
 /// The most bytes that the line of a child has.

@@ -5,9 +5,9 @@ ghost use Rattle.std.specs.Fmt.{decimal};
 ghost use Rattle.hex.specs.Hex.{encode_lower};
 
 use arrayvec::ArrayVec;
-use base_types::Bytes;
 use itoa::Buffer;
 use std::marker::Model;
+use store_base::Bytes;
 
 /// The most bytes that a text has: the longest line of a reply fits, and many lines of a listing.
 pub const MAX_TEXT: usize = 8448;

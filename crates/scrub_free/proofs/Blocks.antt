@@ -5,7 +5,7 @@ use Rattle.std.proofs.lemmas.Bool.{cases_eq, both_ways, and_cases, and_left, ne_
 use Rattle.std.proofs.lemmas.List.{ext_get_or, length-replicate, get_or-replicate}
 use Rattle.store_model.specs.Lists.{same_bytes, zeros}
 use Rattle.store_model.specs.Images.{bytes_at, scrubbed_block}
-use Rattle.journal_steps.specs.Places.{IsZeroAt}
+use Rattle.gate_journal.specs.Places.{IsZeroAt}
 use Rattle.scrub_free.specs.FreeSlots.{is_unclean}
 
 -- bytes that a test finds to be the same

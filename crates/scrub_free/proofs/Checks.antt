@@ -6,17 +6,17 @@ use Rattle.store_model.specs.Trees.{Tree}
 use Rattle.store_model.specs.Images.{bytes_at, recovered_slot, scrubbed_block, scrubbed_slot, scrubbed, Represents}
 use Rattle.store_model.proofs.TreesLemmasBytes.{headers_same}
 use Rattle.store_model.proofs.ImagesLemmasScrubbed.{slot_of_recovered, slot_of_scrubbed, length-scrubbed, recovered-scrubbed}
-use Rattle.base_types.specs.declared.fault.DiskFault.{DiskFault}
-use Rattle.base_types.specs.declared.store_fault.Fault.{Fault}
-use Rattle.base_types.specs.declared.store_fault.Fault.TheVariants.{Disk}
+use Rattle.store_base.specs.declared.fault.DiskFault.{DiskFault}
+use Rattle.store_base.specs.declared.store_fault.Fault.{Fault}
+use Rattle.store_base.specs.declared.store_fault.Fault.TheVariants.{Disk}
 use Rattle.disk_model.specs.DiskState.{DiskState, IsObservable}
 use Rattle.disk_model.specs.DiskCalls.{raised}
 use Rattle.disk_model.proofs.Crashes.{LeavesOnly-trans, LeavesOnly-weaken}
-use Rattle.journal_steps.specs.Costs.{opening_syncs, MadeAtMost}
-use Rattle.journal_steps.specs.Disks.{KeepsDisk}
-use Rattle.journal_steps.specs.Places.{AreCalls, Made, ReadsOnly}
-use Rattle.journal_steps.specs.ReadingLaws.{ReadsOnly-trans}
-use Rattle.journal_steps.proofs.Stages.{on_ok_map}
+use Rattle.gate_journal.specs.Costs.{opening_syncs, MadeAtMost}
+use Rattle.gate_journal.specs.Disks.{KeepsDisk}
+use Rattle.gate_journal.specs.Places.{AreCalls, Made, ReadsOnly}
+use Rattle.gate_journal.specs.ReadingLaws.{ReadsOnly-trans}
+use Rattle.gate_journal.proofs.Stages.{on_ok_map}
 use Rattle.image_check.specs.declared.verdict.Verdict.{Verdict}
 use Rattle.image_check.specs.declared.verdict.Verdict.TheVariants.{Clean, NotImage, Damaged}
 use Rattle.image_check.specs.Contents.{HaveLayout}

@@ -4,8 +4,8 @@ use Rattle.std.proofs.lemmas.Bool.{cases_lt}
 use Rattle.std.proofs.lemmas.Option.{same_Some}
 use Rattle.store_model.specs.Parameters.{image_len}
 use Rattle.store_model.specs.Images.{recovered_slot, recovered}
-use Rattle.journal_steps.specs.Phases.{table_slot}
-use Rattle.journal_steps.proofs.Recovering.{table-recovered}
+use Rattle.gate_journal.specs.Phases.{table_slot}
+use Rattle.gate_journal.proofs.Recovering.{table-recovered}
 use Rattle.image_check.proofs.Images.{slots_in, slot_at}
 use Rattle.scrub_free.specs.FreeSlots.{StandClean, is_unclean}
 use Rattle.scrub_free.specs.ScrubbedSlots.{AreClean}

@@ -2,7 +2,7 @@
 use Rattle.std.proofs.Common.{◌≡◌, ℕ, zero, suc, ◌+◌, ◌-◌, ◌<◌, ◌≤◌, List, Bool, if◌then◌else◌, refl, ap, ◌∙◌, arith}
 use Rattle.std.specs.List.{sum_by}
 use Rattle.store_model.specs.Lists.{numbers_from}
-use Rattle.journal_steps.proofs.Counting.{sum_split, sum_one, sum_same}
+use Rattle.gate_journal.proofs.Counting.{sum_split, sum_one, sum_same}
 use Rattle.scrub_free.specs.FreeSlots.{StandClean, block_writes, scrub_writes}
 
 pub scrub_writes-none : (slot : ℕ → List ℕ) → scrub_writes slot 0 ≡ 0

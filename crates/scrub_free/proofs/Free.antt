@@ -2,10 +2,10 @@
 use Rattle.std.proofs.Common.{◌≡◌, ℕ, ◌+◌, ◌<◌, ◌≤◌, List, drop, slice_index, sym, ap, ◌∙◌, inl, inr, arith, get_or-take, get_or-drop}
 use Rattle.std.proofs.lemmas.Bool.{cases_eq}
 use Rattle.store_model.specs.Parameters.{table_at}
-use Rattle.journal_steps.specs.Places.{IsApart}
-use Rattle.journal_steps.specs.Phases.{table_slot}
-use Rattle.journal_steps.proofs.Areas.{areas}
-use Rattle.journal_steps.proofs.Committing.{table_apart}
+use Rattle.gate_journal.specs.Places.{IsApart}
+use Rattle.gate_journal.specs.Phases.{table_slot}
+use Rattle.gate_journal.proofs.Areas.{areas}
+use Rattle.gate_journal.proofs.Committing.{table_apart}
 use Rattle.scrub_free.specs.FreeSlots.{OutsideFreeSlot, OutsideFree}
 
 -- byte 0 of a slot in the image

@@ -7,13 +7,13 @@ use Rattle.store_model.specs.Lists.{zeros, numbers_below}
 use Rattle.store_model.specs.Parameters.{shadow_at, table_at, image_len}
 use Rattle.store_model.specs.Images.{bytes_at, is_flag_set, is_marked, recovered_slot, recovered, scrubbed_block, scrubbed_slot, scrubbed, journal_len}
 use Rattle.store_model.proofs.ImagesLemmasScrubbed.{slot_of_scrubbed, length-scrubbed, scrubbed-recovered, recovered-scrubbed}
-use Rattle.journal_steps.specs.Places.{SameAt}
-use Rattle.journal_steps.specs.Phases.{table_slot, HasEmptyJournal}
-use Rattle.journal_steps.proofs.Areas.{marks_end, shadow_end, table_end}
-use Rattle.journal_steps.proofs.Places.{bytes_at-same}
-use Rattle.journal_steps.proofs.Phases.{same_parts, same_settled}
-use Rattle.journal_steps.proofs.Committing.{clear_flag}
-use Rattle.journal_steps.proofs.Recovering.{long-recovered, empty-recovered}
+use Rattle.gate_journal.specs.Places.{SameAt}
+use Rattle.gate_journal.specs.Phases.{table_slot, HasEmptyJournal}
+use Rattle.gate_journal.proofs.Areas.{marks_end, shadow_end, table_end}
+use Rattle.gate_journal.proofs.Places.{bytes_at-same}
+use Rattle.gate_journal.proofs.Phases.{same_parts, same_settled}
+use Rattle.gate_journal.proofs.Committing.{clear_flag}
+use Rattle.gate_journal.proofs.Recovering.{long-recovered, empty-recovered}
 use Rattle.scrub_free.specs.FreeSlots.{OutsideFree, AreScrubbed}
 use Rattle.scrub_free.specs.Scrubbing.{ScrubsAs, ScrubPhase, InScrubPhase}
 use Rattle.scrub_free.specs.Scrubbing.ScrubPhase.{Recovering, Zeroing}

@@ -7,15 +7,15 @@ use Rattle.store_model.proofs.ImagesLemmasScrubbed.{scrubbed-recovered}
 use Rattle.disk_model.specs.DiskState.{DiskState, IsDurable, IsSound}
 use Rattle.disk_model.specs.DiskCalls.{LeavesOnly, raised}
 use Rattle.disk_model.proofs.Crashes.{LeavesOnly-trans, LeavesOnly-weaken}
-use Rattle.journal_steps.specs.Costs.{opening_writes, opening_syncs}
-use Rattle.journal_steps.specs.Places.{SameAt, Keeps, Reaches, Comes, Made, Makes}
-use Rattle.journal_steps.specs.Phases.{table_slot, HasEmptyJournal}
-use Rattle.journal_steps.specs.Recovery.{RecoversAs, Recovers, redo_writes, redo_syncs, erase_writes}
-use Rattle.journal_steps.proofs.Places.{Keeps-trans, Keeps-weaken, Keeps-durable, bytes_at-same}
-use Rattle.journal_steps.proofs.Calls.{Made-then, Made-as, Makes-then, Makes-as}
-use Rattle.journal_steps.proofs.Openings.{opening_of_empty, opening_of_journal, one_or_other}
-use Rattle.journal_steps.proofs.Recovering.{table-recovered, long-recovered}
-use Rattle.journal_steps.proofs.Stages.{no_claim, on_ok_map}
+use Rattle.gate_journal.specs.Costs.{opening_writes, opening_syncs}
+use Rattle.gate_journal.specs.Places.{SameAt, Keeps, Reaches, Comes, Made, Makes}
+use Rattle.gate_journal.specs.Phases.{table_slot, HasEmptyJournal}
+use Rattle.gate_journal.specs.Recovery.{RecoversAs, Recovers, redo_writes, redo_syncs, erase_writes}
+use Rattle.gate_journal.proofs.Places.{Keeps-trans, Keeps-weaken, Keeps-durable, bytes_at-same}
+use Rattle.gate_journal.proofs.Calls.{Made-then, Made-as, Makes-then, Makes-as}
+use Rattle.gate_journal.proofs.Openings.{opening_of_empty, opening_of_journal, one_or_other}
+use Rattle.gate_journal.proofs.Recovering.{table-recovered, long-recovered}
+use Rattle.gate_journal.proofs.Stages.{no_claim, on_ok_map}
 use Rattle.scrub_free.specs.FreeSlots.{OutsideFreeSlot, OutsideFree, AreScrubbed, block_writes, scrub_writes}
 use Rattle.scrub_free.specs.Scrubbing.{ScrubsAs, ScrubsImage, writes_to_scrub, CountsScrub}
 use Rattle.scrub_free.specs.Scrubbing.ScrubPhase.{Recovering, Zeroing}

@@ -4,8 +4,8 @@ use Rattle.std.specs.List.{sum_by}
 use Rattle.store_model.specs.Lists.{same_bytes, zeros, numbers_below}
 use Rattle.store_model.specs.Parameters.{block_len, table_at}
 use Rattle.store_model.specs.Images.{scrubbed_block}
-use Rattle.journal_steps.specs.Places.{IsApart}
-use Rattle.journal_steps.specs.Phases.{table_slot}
+use Rattle.gate_journal.specs.Places.{IsApart}
+use Rattle.gate_journal.specs.Phases.{table_slot}
 
 -- a free slot that is not zero
 unfoldable pub is_unclean : List ℕ → Bool

@@ -4,13 +4,13 @@ use Rattle.store_model.specs.Parameters.{Parameters}
 use Rattle.store_model.specs.Trees.{Tree, IsTree}
 use Rattle.store_model.specs.Pages.{Fits}
 use Rattle.store_model.specs.Images.{layout, scrubbed}
-use Rattle.base_types.specs.declared.store_fault.Fault.{Fault}
-use Rattle.base_types.specs.declared.store_fault.Fault.TheVariants.{NoMemory}
-use Rattle.base_types.specs.Faults.{disk_faults_after}
+use Rattle.store_base.specs.declared.store_fault.Fault.{Fault}
+use Rattle.store_base.specs.declared.store_fault.Fault.TheVariants.{NoMemory}
+use Rattle.store_base.specs.Faults.{disk_faults_after}
 use Rattle.disk_model.specs.DiskState.{DiskState, IsObservable}
-use Rattle.journal_steps.specs.Disks.{KeepsDisk}
-use Rattle.journal_steps.specs.Places.{ReadsOnly}
-use Rattle.journal_steps.specs.ViewState.{viewed}
+use Rattle.gate_journal.specs.Disks.{KeepsDisk}
+use Rattle.gate_journal.specs.Places.{ReadsOnly}
+use Rattle.gate_journal.specs.ViewState.{viewed}
 use Rattle.image_check.specs.declared.verdict.Verdict.{Verdict}
 use Rattle.image_check.specs.declared.verdict.Verdict.TheVariants as verdicts
 use Rattle.image_check.specs.Contents.{HaveLayout}

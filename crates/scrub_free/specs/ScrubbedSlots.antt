@@ -6,7 +6,7 @@ use Rattle.std.proofs.lemmas.List.{length-map, length-replicate}
 use Rattle.std.proofs.lemmas.Option.{none-some, same_Some}
 use Rattle.store_model.specs.Lists.{zeros}
 use Rattle.store_model.specs.Images.{scrubbed_block}
-use Rattle.base_types.specs.SlotsState.{SlotsState, IsCounted, AreWhole}
+use Rattle.store_base.specs.SlotsState.{SlotsState, IsCounted, AreWhole}
 use Rattle.scrub_free.specs.FreeSlots.{is_unclean}
 
 -- each of the first n of these slots is clean

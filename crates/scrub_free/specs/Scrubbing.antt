@@ -3,9 +3,9 @@ use Rattle.std.specs.Prelude.{◌≡◌, ◌⊎◌, ℕ, ◌+◌, List, length, 
 use Rattle.store_model.specs.Images.{recovered_slot, recovered, scrubbed}
 use Rattle.disk_model.specs.DiskState.{DiskState, IsDurable}
 use Rattle.disk_model.specs.DiskCalls.{LeavesOnly}
-use Rattle.journal_steps.specs.Costs.{opening_writes, opening_syncs, MadeAtMost}
-use Rattle.journal_steps.specs.Places.{SameAt, Made}
-use Rattle.journal_steps.specs.Recovery.{RecoversAs}
+use Rattle.gate_journal.specs.Costs.{opening_writes, opening_syncs, MadeAtMost}
+use Rattle.gate_journal.specs.Places.{SameAt, Made}
+use Rattle.gate_journal.specs.Recovery.{RecoversAs}
 use Rattle.scrub_free.specs.FreeSlots.{OutsideFree, scrub_writes}
 
 -- the image is as long as the other, and scrubbing leaves the same of it

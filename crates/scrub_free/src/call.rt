@@ -9,12 +9,11 @@ ghost use Rattle.scrub_free.specs.ScrubCalls.{ChecksScrubbed, Scrubs};
 
 use crate::image::scrub_image;
 use crate::view::ScrubbedView;
-use base_types::{DiskFault, Fault};
 use disk_model::Disk;
 use gate_journal::View;
-use image_areas::Params;
 use image_check::{Verdict, check_slots, read_params};
 use std::alloc::Global;
+use store_base::{DiskFault, Fault, Params};
 
 /// The verdict on the slots that scrubbing would leave. The disk is only read, and handed back; with it comes of how many
 /// slots, from the first on, the check found that recovery leaves them clean.

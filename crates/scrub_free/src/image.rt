@@ -4,15 +4,14 @@ ghost use Rattle.std.specs.Prelude.{◌≡◌, ◌≤◌};
 ghost use Rattle.store_model.specs.Parameters.{image_len};
 ghost use Rattle.store_model.specs.Images.{recovered_slot};
 ghost use Rattle.disk_model.specs.DiskState.{DiskState, IsObservable};
-ghost use Rattle.journal_steps.specs.Places.{AreCalls};
+ghost use Rattle.gate_journal.specs.Places.{AreCalls};
 ghost use Rattle.scrub_free.specs.FreeSlots.{StandClean};
 ghost use Rattle.scrub_free.specs.Scrubbing.{ScrubsImage, CountsScrub};
 
 use crate::slots::scrub_slots;
-use base_types::DiskFault;
 use disk_model::Disk;
 use gate_journal::Journal;
-use image_areas::Params;
+use store_base::{DiskFault, Params};
 
 /// Recovers an image, and makes each free slot of its table zero. Of the slots that recovery leaves so many from the
 /// first on are known to be clean.

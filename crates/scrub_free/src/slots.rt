@@ -5,13 +5,12 @@ ghost use Rattle.store_model.specs.Parameters.{image_len, slots_limit};
 ghost use Rattle.store_model.specs.Images.{scrubbed_block};
 ghost use Rattle.disk_model.specs.DiskState.{DiskState, IsObservable, IsDurable};
 ghost use Rattle.disk_model.specs.DiskCalls.{IsCall};
-ghost use Rattle.journal_steps.specs.Places.{AreCalls, Reaches, Makes};
-ghost use Rattle.journal_steps.specs.Phases.{table_slot};
+ghost use Rattle.gate_journal.specs.Places.{AreCalls, Reaches, Makes};
+ghost use Rattle.gate_journal.specs.Phases.{table_slot};
 ghost use Rattle.scrub_free.specs.FreeSlots.{OutsideFreeSlot, OutsideFree, AreScrubbed, StandClean, is_unclean, block_writes, scrub_writes};
 
-use base_types::DiskFault;
 use disk_model::Disk;
-use image_areas::table_at;
+use store_base::{DiskFault, table_at};
 use store_model::{BLOCK, Slot};
 
 /// Whether a slot is free and not zero.

@@ -2,12 +2,12 @@
 
 ghost use Rattle.std.specs.Prelude.{◌≡◌, ◌≤◌};
 ghost use Rattle.store_model.specs.Images.{scrubbed_block};
-ghost use Rattle.base_types.specs.SlotsState.{IsObservable};
+ghost use Rattle.store_base.specs.SlotsState.{IsObservable};
 ghost use Rattle.scrub_free.specs.FreeSlots.{is_unclean};
 ghost use Rattle.scrub_free.specs.ScrubbedSlots.{AreClean, scrubbed_slots, scrubbed_counted, scrubbed_whole};
 
 use crate::slots::is_unclean;
-use base_types::{Fault, ReadSlots};
+use store_base::{Fault, ReadSlots};
 use store_model::{BLOCK, Slot};
 
 /// Makes a slot zero where it is free, and says whether it was free and not zero.

@@ -8,8 +8,7 @@ use crate::draw::Draw;
 use crate::front::Front;
 use crate::ruler::RulerDraw;
 use crate::sha::ShaDraw;
-use image_areas::Params;
-use page_labels::{Key, Label};
+use store_base::{Key, Label, Params};
 use store_model::DrawKind;
 
 /// The draw of an image: of the kind, seed, slots and height that its parameters name.

@@ -5,7 +5,7 @@ ghost use Rattle.store_model.specs.Labels.{IsLabel};
 ghost use Rattle.store_model.specs.Draws as draws;
 
 use crate::front::Front;
-use page_labels::{Key, Label};
+use store_base::{Key, Label};
 
 /// A draw: two functions with bounds. The same label always has the same start, and the same key the same
 /// level.

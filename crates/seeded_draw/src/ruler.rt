@@ -7,8 +7,7 @@ ghost use Rattle.seeded_draw.specs.Drawn.{ruler_draw};
 ghost use Rattle.seeded_draw.specs.Lawful.{ruler_is_lawful};
 
 use crate::draw::Draw;
-use image_areas::Params;
-use page_labels::{Key, Label};
+use store_base::{Key, Label, Params};
 
 /// The draw `ruler`, with which small images can be worked out by hand. A label starts at its bytes' sum, counted
 /// round the table, and each letter `U` in the path of a key lifts it by a level, up to the highest.

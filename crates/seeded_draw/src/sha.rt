@@ -10,9 +10,8 @@ ghost use Rattle.store_model.specs.Draws.{start_of_digest, level_of_digest, hex_
 use crate::draw::Draw;
 use crate::front::Front;
 use arrayvec::ArrayVec;
-use image_areas::Params;
-use page_labels::{Key, Label};
 use sha2::{Digest, Sha256};
+use store_base::{Key, Label, Params};
 
 /// The byte behind the seed in what a start is drawn from.
 const START_BYTE: u8 = 0x53;

@@ -20,9 +20,9 @@ use Rattle.store_model.proofs.PlacementLemmas.{label_cmp_total}
 use Rattle.store_model.proofs.PlacementLemmasOrder.{probe_once, one_page}
 use Rattle.store_model.proofs.PlacementLemmasTables.{held_page, tied_label_bytes}
 use Rattle.store_model.proofs.PageMapsLemmas.{found_stands, standing_found, page_at-without_page, IsPageMap-without_page, HoldsPages-lookups}
-use Rattle.base_types.specs.declared.store_fault.Fault.{Fault}
-use Rattle.base_types.specs.SlotsState.{SlotsState, IsObservable, AreSlotCalls, IsGet, IsSet}
-use Rattle.base_types.proofs.SlotsCalls.{AreSlotCalls-none, AreSlotCalls-then, IsObservable-later}
+use Rattle.store_base.specs.declared.store_fault.Fault.{Fault}
+use Rattle.store_base.specs.SlotsState.{SlotsState, IsObservable, AreSlotCalls, IsGet, IsSet}
+use Rattle.store_base.proofs.SlotsCalls.{AreSlotCalls-none, AreSlotCalls-then, IsObservable-later}
 use Rattle.ordered_table.specs.Tables.{HasInSlot, Removes}
 use Rattle.ordered_table.proofs.Reading.{probe_first, probe_within, Seen, seen}
 use Rattle.ordered_table.proofs.Inserting.{get_set_same, get_set_other, get_set_back, same_or_not, all_in_slots, one_place}

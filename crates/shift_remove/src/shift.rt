@@ -4,10 +4,10 @@ ghost use Rattle.std.specs.Prelude.{◌≡◌, ◌<◌, ◌↔◌, IsTrue};
 ghost use Rattle.shift_remove.specs.Ways.{Passes};
 ghost use Rattle.ordered_table.specs.Tables.{Removes};
 
-use base_types::{Fault, Slots};
+use node_pages::label_in;
 use ordered_table::next_slot;
-use page_values::label_in;
 use seeded_draw::Draw;
+use store_base::{Fault, Slots};
 use store_model::BLOCK;
 
 /// Whether the way from a start to a slot, going round, passes the hole.

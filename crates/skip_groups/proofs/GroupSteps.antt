@@ -1,8 +1,8 @@
 -- A walk over the pages of one group, page after page, whatever is made of them.
 use Rattle.std.proofs.Common.{◌≡◌, ℕ, ◌+◌, ◌*◌, ◌<◌, ◌≤◌, List, length, Option, Some, Result, Ok, Err, refl, sym, ap, ◌∙◌, arith}
 use Rattle.std.specs.List.{slice_get}
-use Rattle.base_types.specs.declared.store_fault.Fault.{Fault}
-use Rattle.base_types.specs.Faults.{disk_faults_after}
+use Rattle.store_base.specs.declared.store_fault.Fault.{Fault}
+use Rattle.store_base.specs.Faults.{disk_faults_after}
 use Rattle.store_model.specs.Labels.{Lead}
 use Rattle.store_model.specs.Pages.{Cell, Page, page_room, group_pages}
 use Rattle.store_model.specs.PageMaps.{page_at}
@@ -10,7 +10,7 @@ use Rattle.node_pages.specs.PagesState.{PagesState, IsObservable, GetsPage, IsPa
 use Rattle.skip_groups.specs.Groups.{HoldsGroup, label_of}
 use Rattle.skip_groups.specs.Searches.{IsGroupWalk}
 use Rattle.skip_groups.proofs.GroupEnds.{full_page, cost_of_full, some_cells}
-use Rattle.base_types.specs.declared.store_fault.Fault.TheVariants.{Disk, NoMemory}
+use Rattle.store_base.specs.declared.store_fault.Fault.TheVariants.{Disk, NoMemory}
 
 -- a call that fails counts the same, whatever it would have answered
 pub same_count : (S T : Type 0) (count : ℕ) (f : Fault) → disk_faults_after {T = S} count (Err f) ≡ disk_faults_after {T = T} count (Err f)

@@ -1,7 +1,7 @@
 -- What a look at a page by reference says, as a page that was asked for.
 use Rattle.std.proofs.Common.{◌≡◌, Option, None, Some, Result, Ok, Err, subst}
 use Rattle.std.specs.Borrow.{Bor}
-use Rattle.base_types.specs.declared.store_fault.Fault.{Fault}
+use Rattle.store_base.specs.declared.store_fault.Fault.{Fault}
 use Rattle.store_model.specs.Labels.{Label}
 use Rattle.store_model.specs.Pages.{Page}
 use Rattle.node_pages.specs.PagesState.{PagesState, IsPageGet, looked_at}

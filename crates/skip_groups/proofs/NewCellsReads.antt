@@ -2,10 +2,10 @@
 use Rattle.std.proofs.Common.{◌≡◌, ◌⊎◌, inl, inr, ℕ, ◌+◌, ◌-◌, ◌<◌, ◌≤◌, List, [], ◌∷◌, ◌++◌, length, take, drop, Option, Some, None, Ok, Err, Less, Equal, Greater, refl, sym, ap, ap₂, subst, ◌∙◌, append_assoc, arith}
 use Rattle.std.specs.List.{slice_get}
 use Rattle.std.proofs.lemmas.List.{length-append, append-nil, take_all, take-append-drop}
-use Rattle.base_types.specs.declared.store_fault.Fault.{Fault}
-use Rattle.base_types.specs.declared.store_fault.Fault.TheVariants.{NoMemory}
-use Rattle.page_labels.specs.declared.label.Lead as declared
-use Rattle.page_labels.specs.Leads as leads
+use Rattle.store_base.specs.declared.store_fault.Fault.{Fault}
+use Rattle.store_base.specs.declared.store_fault.Fault.TheVariants.{NoMemory}
+use Rattle.store_base.specs.declared.label.Lead as declared
+use Rattle.store_base.specs.Leads as leads
 use Rattle.store_model.specs.Labels.{Lead}
 use Rattle.store_model.specs.Pages.{Cell, Page, page_room, group_pages}
 use Rattle.store_model.specs.PageMaps.{page_at}

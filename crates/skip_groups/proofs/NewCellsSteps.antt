@@ -4,8 +4,8 @@ use Rattle.std.specs.List.{slice_get}
 use Rattle.std.proofs.lemmas.List.{length-append, append-nil}
 use Rattle.std.proofs.lemmas.List.Elements.{filter-append}
 use Rattle.std.proofs.lemmas.Grind.{flat_map-append}
-use Rattle.page_labels.specs.declared.label.Lead as declared
-use Rattle.page_labels.specs.Leads as leads
+use Rattle.store_base.specs.declared.label.Lead as declared
+use Rattle.store_base.specs.Leads as leads
 use Rattle.store_model.specs.Lists.{runs, run_count}
 use Rattle.store_model.specs.Labels.{Lead}
 use Rattle.store_model.specs.Labels.Lead.{Leader}

@@ -4,11 +4,11 @@ use Rattle.std.specs.List.{slice_get}
 use Rattle.std.specs.FinMap.{len, len-remove, contains_key}
 use Rattle.std.specs.Cmp.Lexicographic.{nat_list_cmp_total}
 use Rattle.std.proofs.lemmas.List.{length-append, take-append-drop, take_all}
-use Rattle.base_types.specs.declared.store_fault.Fault.{Fault}
-use Rattle.base_types.specs.Faults.{disk_faults_after}
+use Rattle.store_base.specs.declared.store_fault.Fault.{Fault}
+use Rattle.store_base.specs.Faults.{disk_faults_after}
 use Rattle.store_model.specs.Lists.{runs}
 use Rattle.store_model.specs.Labels.{Lead, Label, label_bytes}
-use Rattle.page_values.specs.Insertions.{with_cell}
+use Rattle.node_pages.specs.Insertions.{with_cell}
 use Rattle.store_model.specs.Pages.{Cell, Page, page_room}
 use Rattle.store_model.specs.PageMaps.{PageMap, IsPageMap, with_page, without_page, map_of_pages}
 use Rattle.store_model.specs.PageMaps as maps

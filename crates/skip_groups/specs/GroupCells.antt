@@ -9,8 +9,8 @@ use Rattle.std.specs.declared.cmp.Ordering.TheVariants.{Less, Equal, Greater}
 use Rattle.store_model.specs.Paths.{key_cmp}
 use Rattle.store_model.specs.Pages.{Cell, Page, IsCell, page_room}
 use Rattle.node_pages.specs.Cells.{CellList}
-use Rattle.page_labels.specs.declared.label.Lead as declared
-use Rattle.page_labels.specs.Leads as leads
+use Rattle.store_base.specs.declared.label.Lead as declared
+use Rattle.store_base.specs.Leads as leads
 use Rattle.store_model.specs.Labels.{Lead}
 use Rattle.skip_groups.specs.Floors.{last_of, lead_from}
 

@@ -2,8 +2,8 @@
 use Rattle.std.specs.Prelude.{◌≡◌, ◌⊎◌, ℕ, ◌+◌, ◌<◌, ◌≤◌, List, [], ◌∷◌, ◌++◌, length, take, drop, slice_get, Some, Result, OnOk}
 use Rattle.std.specs.List.{AllByRecursion, flat_map}
 use Rattle.std.specs.declared.cmp.Ordering.TheVariants.{Less, Equal}
-use Rattle.base_types.specs.declared.store_fault.Fault.{Fault}
-use Rattle.page_labels.specs.Leads as leads
+use Rattle.store_base.specs.declared.store_fault.Fault.{Fault}
+use Rattle.store_base.specs.Leads as leads
 use Rattle.store_model.specs.Labels.{Lead}
 use Rattle.store_model.specs.Pages.{Cell, Page, page_room, group_pages}
 use Rattle.node_pages.specs.Groups.{pages_from}

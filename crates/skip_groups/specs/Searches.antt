@@ -2,8 +2,8 @@
 use Rattle.std.specs.Prelude.{◌≡◌, ℕ, ◌+◌, ◌*◌, ◌<◌, ◌≤◌, List, ◌++◌, map, length, drop, Bool, true, Option, Some, None, Result, IfOk}
 use Rattle.std.specs.List.{AllByRecursion}
 use Rattle.std.specs.List.Sorted.{IsStrictlySortedBy}
-use Rattle.base_types.specs.declared.store_fault.Fault.{Fault}
-use Rattle.base_types.specs.Faults.{disk_faults_after}
+use Rattle.store_base.specs.declared.store_fault.Fault.{Fault}
+use Rattle.store_base.specs.Faults.{disk_faults_after}
 use Rattle.store_model.specs.Labels.{Lead}
 use Rattle.store_model.specs.Paths.{key_cmp}
 use Rattle.store_model.specs.Pages.{Cell, page_room, group_pages}

@@ -3,16 +3,15 @@
 ghost use Rattle.std.specs.Prelude.{◌≡◌, ◌↔◌, ◌+◌, ◌-◌, ◌<◌, ◌≤◌, ◌++◌, [], ◌∷◌, length, take, drop, IsTrue, IfSome, IfOk, OnOk, true, false};
 ghost use Rattle.std.specs.declared.cmp.Ordering.TheVariants.{Less, Equal, Greater};
 ghost use Rattle.store_model.specs.Pages.{IsCell};
-ghost use Rattle.page_labels.specs.Leads.{lead_of};
+ghost use Rattle.store_base.specs.Leads.{lead_of};
 ghost use Rattle.skip_groups.specs.Floors.{last_of, lead_from};
 ghost use Rattle.skip_groups.specs.GroupCells.{AreCells, IsRisingList, AreBetween, IsKept, IsFirst, IsMerged, last_key_of, is_behind, side, merged};
 ghost use Rattle.skip_groups.specs.Insertions.{IsPlace};
 
 use crate::group::is_last;
 use crate::search::count_not_above;
-use base_types::NoMemory;
 use node_pages::{Cell, Cells, Page};
-use page_labels::{Key, Lead};
+use store_base::{Key, Lead, NoMemory};
 
 /// Whether two levels have the same cells: those of level 0 have values, and those of all others have none.
 fn have_same_cells(level: u8, other: u8) -> bool

@@ -1,12 +1,12 @@
 //! The labels of the pages of one group, and which of these is its last.
 
 ghost use Rattle.std.specs.Prelude.{◌≡◌, ◌<◌, ◌↔◌, length, IsTrue};
-ghost use Rattle.page_labels.specs.Leads.{lead_of};
+ghost use Rattle.store_base.specs.Leads.{lead_of};
 ghost use Rattle.store_model.specs.Pages.{page_room};
 ghost use Rattle.skip_groups.specs.Groups.{label_of};
 
 use node_pages::{Page, room};
-use page_labels::{Label, Lead};
+use store_base::{Label, Lead};
 
 /// The label of page `index` of the group that `lead` leads on the level, the first being 0.
 pub fn label_in_group(level: u8, lead: &Lead, index: u32) -> Label

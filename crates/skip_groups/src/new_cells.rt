@@ -1,17 +1,16 @@
 //! What setting the cells of a key, or parting all cells by it, makes of the pages of its group.
 
 ghost use Rattle.std.specs.Prelude.{◌≡◌, ◌+◌, ◌<◌, ◌≤◌, [], ◌∷◌, ◌++◌, List, length, IfSome, IfOk, OnOk, ℕ};
-ghost use Rattle.page_labels.specs.Leads.{lead_of};
+ghost use Rattle.store_base.specs.Leads.{lead_of};
 ghost use Rattle.store_model.specs.Labels as labels;
 ghost use Rattle.store_model.specs.Pages as model;
 ghost use Rattle.skip_groups.specs.GroupCells.{IsFirst, IsRisingList, AreCells};
 
 use crate::cells::{append_above, append_own, merge_page, part_page, place_of_own, stays};
 use crate::group::is_last;
-use base_types::NoMemory;
 use node_pages::{Cell, Cells, Page};
-use page_labels::{Key, Lead};
 use std::alloc::Global;
+use store_base::{Key, Lead, NoMemory};
 
 /// The cells that come into a group where those of a key are set, or which the key parts, in the place of the cells of some of its pages.
 #[derive(Drop)]

@@ -2,7 +2,7 @@
 
 ghost use Rattle.std.specs.Prelude.{◌≡◌, ◌-◌, ◌*◌, ◌<◌, ◌≤◌, List, length, slice_get};
 ghost use Rattle.std.specs.List.{prefix_len};
-ghost use Rattle.page_labels.specs.Leads.{lead_of};
+ghost use Rattle.store_base.specs.Leads.{lead_of};
 ghost use Rattle.store_model.specs.Pages.{Cell, page_room};
 ghost use Rattle.node_pages.specs.PagesState.{IsObservable};
 ghost use Rattle.skip_groups.specs.Floors.{is_not_above};
@@ -11,9 +11,8 @@ ghost use Rattle.skip_groups.specs.Searches.{seen, IsSearchBehind, IsGroupSearch
 
 use crate::group::{is_last, label_in_group};
 use crate::wanted::Wanted;
-use base_types::Fault;
 use node_pages::{Page, Pages};
-use page_labels::{Key, Lead, byte_order};
+use store_base::{Fault, Key, Lead, byte_order};
 
 /// How many cells of a page have keys that are not above the given one, by halving.
 pub fn count_not_above(page: &Page, key: &Key) -> u32

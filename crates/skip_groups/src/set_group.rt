@@ -6,7 +6,7 @@ ghost use Rattle.std.specs.FinMap as maps;
 ghost use Rattle.store_model.specs.Lists.{runs};
 ghost use Rattle.store_model.specs.Paths.{key_cmp};
 ghost use Rattle.store_model.specs.Pages.{page_room};
-ghost use Rattle.page_labels.specs.Leads.{lead_of};
+ghost use Rattle.store_base.specs.Leads.{lead_of};
 ghost use Rattle.node_pages.specs.PagesState.{IsObservable, most_pages};
 ghost use Rattle.skip_groups.specs.GroupCells.{AreCells, IsRisingList};
 ghost use Rattle.skip_groups.specs.GroupChanges.{IsRunChange};
@@ -17,9 +17,8 @@ ghost use Rattle.skip_groups.specs.NewCells.{IsSet};
 use crate::cells::lead_before;
 use crate::group::{is_last, label_in_group};
 use crate::new_cells::{NewCells, Step};
-use base_types::Fault;
 use node_pages::{Cell, Cells, Pages};
-use page_labels::{Key, Lead};
+use store_base::{Fault, Key, Lead};
 
 /// Reads the group that `lead` leads on the level, as far as it changes where the key's cells are set in it: each page is asked for
 /// once at most, and none behind a page with room. Where one cell comes into the page behind those that stay, and nothing else changes,

@@ -8,9 +8,8 @@ ghost use Rattle.store_model.specs.Pages as model;
 ghost use Rattle.skip_groups.specs.Floors.{value_at, pair_in, pair_at};
 ghost use Rattle.skip_groups.specs.Searches.{seen};
 
-use base_types::Value;
 use node_pages::{Cell, Page};
-use page_labels::{Key, byte_order};
+use store_base::{Key, Value, byte_order};
 
 /// What a search for a key finds, changed by the cells that it comes to: the place on the next lower level, the value of the
 /// key, or the first pair from the key on.

@@ -1,11 +1,11 @@
 -- A pair put or taken out, level after level: what holds behind the levels that are done.
 use Rattle.std.proofs.Common.{◌≡◌, ℕ, suc, ◌+◌, ◌-◌, ◌<◌, ◌≤◌, List, [], ◌∷◌, Ok, Err, refl, sym, ap, subst, ◌∙◌, arith}
 use Rattle.std.specs.FinMap.{put}
-use Rattle.base_types.specs.declared.store_fault.Fault.{Fault}
-use Rattle.base_types.specs.declared.store_fault.Fault.TheVariants.{NoMemory}
-use Rattle.page_labels.specs.declared.label.Lead as declared
-use Rattle.page_labels.specs.Keys.{IsKey}
-use Rattle.page_labels.specs.Leads.{lead_of}
+use Rattle.store_base.specs.declared.store_fault.Fault.{Fault}
+use Rattle.store_base.specs.declared.store_fault.Fault.TheVariants.{NoMemory}
+use Rattle.store_base.specs.declared.label.Lead as declared
+use Rattle.store_base.specs.Keys.{IsKey}
+use Rattle.store_base.specs.Leads.{lead_of}
 use Rattle.store_model.specs.Paths.{key_cmp}
 use Rattle.store_model.specs.Labels.{Lead}
 use Rattle.store_model.specs.Labels.Lead.{Leader}
@@ -14,13 +14,13 @@ use Rattle.store_model.specs.Pairs.{Pair, IsValue}
 use Rattle.store_model.specs.Pages.{Cell, cell_on}
 use Rattle.store_model.specs.PageMaps.{map_of_pages}
 use Rattle.node_pages.specs.PagesState.{PagesState, IsObservable}
-use Rattle.level_changes.specs.CellChanges.{IsPagesCall, HasRoom, SetsCells, SplitsGroup, JoinsGroups}
+use Rattle.skip_levels.specs.CellChanges.{IsPagesCall, HasRoom, SetsCells, SplitsGroup, JoinsGroups}
 use Rattle.skip_levels.specs.Descent.{HoldsPairs}
 use Rattle.skip_groups.specs.Groups.{HoldsGroup, group_cost}
 use Rattle.skip_levels.specs.PairChanges.{IsPutting, IsTaking, PutsPairFrom, TakesPairFrom}
 use Rattle.ordered_pairs.specs.PairsState.{without}
 use Rattle.skip_levels.specs.SearchPath.{leader_behind, group_below, group_at_or_below, levels_cost, path_cost_below, not_above, below, above}
-use Rattle.level_changes.proofs.CallsBehind.{memory_lacks, fails_behind, failed_call}
+use Rattle.skip_levels.proofs.CallsBehind.{memory_lacks, fails_behind, failed_call}
 use Rattle.skip_levels.proofs.LevelChanges.{pages_between, all_changed}
 use Rattle.skip_levels.proofs.PathCosts.{cost_of_level, levels_within, costs_from, costs_down, costs_within}
 use Rattle.skip_levels.proofs.PathLemmas.{holds_path}

@@ -1,9 +1,9 @@
 -- The steps of a way down from level to level on the search path of a key, and searches that are made of such ways.
 use Rattle.std.proofs.Common.{◌≡◌, ℕ, suc, ◌+◌, ◌-◌, ◌<◌, ◌≤◌, List, Option, Some, None, Result, Ok, Err, refl, sym, ap, subst, ◌∙◌, arith}
-use Rattle.base_types.specs.declared.store_fault.Fault.{Fault}
-use Rattle.page_labels.specs.declared.label.Lead.{Lead}
-use Rattle.base_types.specs.Faults.{disk_faults_after}
-use Rattle.page_labels.specs.Leads.{lead_of}
+use Rattle.store_base.specs.declared.store_fault.Fault.{Fault}
+use Rattle.store_base.specs.declared.label.Lead.{Lead}
+use Rattle.store_base.specs.Faults.{disk_faults_after}
+use Rattle.store_base.specs.Leads.{lead_of}
 use Rattle.store_model.specs.Labels.Lead.{Start}
 use Rattle.store_model.specs.Draws.{Draw}
 use Rattle.store_model.specs.Pairs.{Pair}

@@ -29,3 +29,6 @@ pub mod PlaceSteps
 pub mod PlaceTakes
 pub mod PutSearches
 pub mod ValueLemmas
+pub mod CallsBehind
+pub mod LevelCalls
+pub mod SetCalls

@@ -2,10 +2,10 @@
 use Rattle.std.proofs.Common.{◌≡◌, ℕ, ◌≤◌, List, [], ◌∷◌, ◌++◌, Option, Some, None, Result, Ok, Err, IfOk, refl, sym, ap, subst, ◌∙◌, arith, append_assoc}
 use Rattle.std.specs.List.{slice_get}
 use Rattle.std.specs.Option.{option_or}
-use Rattle.base_types.specs.declared.store_fault.Fault.{Fault}
-use Rattle.base_types.specs.Faults.{disk_faults_after}
-use Rattle.page_labels.specs.declared.label.Lead as declared
-use Rattle.page_labels.specs.Leads.{lead_of}
+use Rattle.store_base.specs.declared.store_fault.Fault.{Fault}
+use Rattle.store_base.specs.Faults.{disk_faults_after}
+use Rattle.store_base.specs.declared.label.Lead as declared
+use Rattle.store_base.specs.Leads.{lead_of}
 use Rattle.store_model.specs.Paths.{key_cmp}
 use Rattle.store_model.specs.Draws.{Draw}
 use Rattle.store_model.specs.Labels.{Lead}

@@ -1,9 +1,9 @@
 -- A pair put or taken out where a search found its place.
 use Rattle.std.proofs.Common.{◌≡◌, inl, inr, ℕ, ◌+◌, ◌<◌, ◌≤◌, List, length, Option, Some, None, Result, Ok, Err, refl, sym, ap, subst, ◌∙◌, arith}
-use Rattle.base_types.specs.declared.store_fault.Fault.{Fault}
-use Rattle.base_types.specs.Faults.{disk_faults_after}
-use Rattle.page_labels.specs.Keys.{IsKey}
-use Rattle.page_labels.specs.Leads.{lead_of}
+use Rattle.store_base.specs.declared.store_fault.Fault.{Fault}
+use Rattle.store_base.specs.Faults.{disk_faults_after}
+use Rattle.store_base.specs.Keys.{IsKey}
+use Rattle.store_base.specs.Leads.{lead_of}
 use Rattle.store_model.specs.Paths.{key_cmp}
 use Rattle.store_model.specs.Draws.{Draw}
 use Rattle.store_model.specs.Pairs.{Pair, IsValue}
@@ -14,7 +14,7 @@ use Rattle.node_pages.specs.PagesState.{PagesState, IsObservable}
 use Rattle.skip_levels.specs.declared.search.KeyPlace.{KeyPlace}
 use Rattle.skip_levels.specs.declared.search.PathEnd.{PathEnd}
 use Rattle.skip_levels.specs.declared.put_place.PutPlace.{PutPlace}
-use Rattle.level_changes.specs.CellChanges.{IsPagesCall}
+use Rattle.skip_levels.specs.CellChanges.{IsPagesCall}
 use Rattle.skip_levels.specs.Descent.{HoldsPairs, IsKnown, IsSearched, IsKeyPlace, IsKeySearch}
 use Rattle.skip_levels.specs.PagePairs.{pairs_of_map}
 use Rattle.skip_levels.specs.PairChanges.{IsPutting, IsTaking, PutsPairFrom, TakesPairFrom, PutsPairIn, TakesPairIn}

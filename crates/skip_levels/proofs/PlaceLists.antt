@@ -1,7 +1,7 @@
 -- The steps of a change in terms of the whole list: where a key is put or taken out.
 use Rattle.std.proofs.Common.{◌≡◌, inl, inr, ℕ, zero, suc, ◌+◌, ◌-◌, ◌<◌, ◌≤◌, List, [], ◌∷◌, ◌++◌, map, filter, length, cond, nat_le, ◌==◌, eqb-true, Bool, true, false, Some, None, refl, sym, ap, ap₂, subst, ◌∙◌, length-append, arith}
 use Rattle.std.specs.FinMap.{find, put}
-use Rattle.page_labels.specs.Keys.{IsKey}
+use Rattle.store_base.specs.Keys.{IsKey}
 use Rattle.store_model.specs.Paths.{key_cmp}
 use Rattle.store_model.specs.Labels.{Lead}
 use Rattle.store_model.specs.Draws.{Draw}

@@ -14,7 +14,7 @@ use Rattle.skip_groups.specs.Floors.{last_of, lead_from}
 use Rattle.skip_groups.specs.Groups.{HoldsGroup}
 use Rattle.skip_groups.specs.GroupCells.{AreCells, side, merged}
 use Rattle.skip_groups.specs.GroupChanges.{IsChange}
-use Rattle.level_changes.specs.CellChanges.{HasRoom, IsSetting, IsSplitting, IsJoining}
+use Rattle.skip_levels.specs.CellChanges.{HasRoom, IsSetting, IsSplitting, IsJoining}
 use Rattle.skip_levels.specs.SearchPath.{leader_behind}
 use Rattle.skip_levels.proofs.Around.{last_part}
 use Rattle.skip_levels.proofs.Descents.{lead_of_last_part}

@@ -5,10 +5,10 @@ use Rattle.std.specs.List.{AllByRecursion}
 use Rattle.std.specs.FinMap.{find}
 use Rattle.std.specs.Cmp.{tied_itself}
 use Rattle.std.specs.Cmp.Lexicographic.{nat_list_cmp_total}
-use Rattle.base_types.specs.declared.store_fault.Fault.{Fault}
-use Rattle.page_labels.specs.declared.label.Lead as declared
-use Rattle.page_labels.specs.Leads.{lead_of}
-use Rattle.page_labels.specs.declared.label.Lead.TheVariants as leads
+use Rattle.store_base.specs.declared.store_fault.Fault.{Fault}
+use Rattle.store_base.specs.declared.label.Lead as declared
+use Rattle.store_base.specs.Leads.{lead_of}
+use Rattle.store_base.specs.declared.label.Lead.TheVariants as leads
 use Rattle.store_model.specs.Paths.{key_cmp}
 use Rattle.store_model.specs.Draws.{Draw}
 use Rattle.store_model.specs.Labels.{Lead}

@@ -1,9 +1,9 @@
 -- A search for the value of a key: for its place on level 0, and then the lowest group on the search path.
 use Rattle.std.proofs.Common.{◌≡◌, ℕ, ◌+◌, ◌-◌, ◌≤◌, List, true, false, Option, Some, None, Result, Ok, Err, refl, sym, ap, subst, ◌∙◌, arith}
-use Rattle.base_types.specs.declared.store_fault.Fault.{Fault}
+use Rattle.store_base.specs.declared.store_fault.Fault.{Fault}
 use Rattle.skip_levels.specs.declared.search.PathEnd.{PathEnd}
-use Rattle.base_types.specs.Faults.{disk_faults_after}
-use Rattle.page_labels.specs.declared.label.Lead as declared
+use Rattle.store_base.specs.Faults.{disk_faults_after}
+use Rattle.store_base.specs.declared.label.Lead as declared
 use Rattle.store_model.specs.Labels.{Lead}
 use Rattle.std.specs.Option.{is_some}
 use Rattle.store_model.specs.Paths.{key_cmp}

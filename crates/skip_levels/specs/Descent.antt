@@ -1,12 +1,12 @@
 -- What a descent from level to level on the search path of a key does.
 use Rattle.std.specs.Prelude.{◌≡◌, ℕ, suc, ◌+◌, ◌-◌, ◌<◌, ◌≤◌, List, length, Bool, true, Option, Some, None, Result, Ok, Err, IfOk}
 use Rattle.std.specs.FinMap.{find}
-use Rattle.base_types.specs.declared.store_fault.Fault.{Fault}
-use Rattle.page_labels.specs.declared.label.Lead as declared
-use Rattle.page_labels.specs.declared.label.Lead.TheVariants as leads
+use Rattle.store_base.specs.declared.store_fault.Fault.{Fault}
+use Rattle.store_base.specs.declared.label.Lead as declared
+use Rattle.store_base.specs.declared.label.Lead.TheVariants as leads
 use Rattle.skip_levels.specs.declared.search.PathEnd.{PathEnd}
 use Rattle.skip_levels.specs.declared.search.KeyPlace.{KeyPlace}
-use Rattle.page_labels.specs.Leads.{lead_of}
+use Rattle.store_base.specs.Leads.{lead_of}
 use Rattle.std.specs.Ordering.{is_le, is_lt}
 use Rattle.store_model.specs.Paths.{key_cmp}
 use Rattle.store_model.specs.Labels.{Lead}

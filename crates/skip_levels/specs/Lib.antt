@@ -5,3 +5,4 @@ pub mod PagePairs
 pub mod PairChanges
 pub mod PutPlaces
 pub mod SearchPath
+pub mod CellChanges

@@ -1,7 +1,7 @@
 -- A search for the first pair whose key is not below a given one.
 use Rattle.std.specs.Prelude.{◌≡◌, ℕ, ◌+◌, ◌≤◌, List, Option, Result, IfOk, slice_get}
-use Rattle.base_types.specs.declared.store_fault.Fault.{Fault}
-use Rattle.base_types.specs.Faults.{disk_faults_after}
+use Rattle.store_base.specs.declared.store_fault.Fault.{Fault}
+use Rattle.store_base.specs.Faults.{disk_faults_after}
 use Rattle.store_model.specs.Draws.{Draw}
 use Rattle.store_model.specs.Labels.Lead.{Leader}
 use Rattle.store_model.specs.Pairs.{Pair}

@@ -1,7 +1,7 @@
 -- A pair put into the pages of a list or taken out of them, level after level from the highest one that it stands on.
 use Rattle.std.specs.Prelude.{◌≡◌, ◌⊎◌, ℕ, suc, ◌+◌, ◌<◌, ◌≤◌, List, length, Option, Some, None, Result, IfOk, OnOk}
 use Rattle.std.specs.FinMap.{find, put}
-use Rattle.base_types.specs.declared.store_fault.Fault.{Fault}
+use Rattle.store_base.specs.declared.store_fault.Fault.{Fault}
 use Rattle.store_model.specs.Paths.{key_cmp}
 use Rattle.store_model.specs.Draws.{Draw}
 use Rattle.store_model.specs.Labels.{Lead}
@@ -9,7 +9,7 @@ use Rattle.store_model.specs.Pairs.{Pair}
 use Rattle.store_model.specs.Pages.{pages_of_pairs}
 use Rattle.store_model.specs.PageMaps.{PageMap, map_of_pages}
 use Rattle.node_pages.specs.PagesState.{PagesState, IsObservable}
-use Rattle.level_changes.specs.CellChanges.{IsPagesCall}
+use Rattle.skip_levels.specs.CellChanges.{IsPagesCall}
 use Rattle.skip_levels.specs.Descent.{HoldsPairs, IsKnown}
 use Rattle.skip_levels.specs.declared.search.PathEnd.{PathEnd}
 use Rattle.skip_levels.specs.PagePairs.{pairs_of_map}

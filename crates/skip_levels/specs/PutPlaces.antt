@@ -1,11 +1,11 @@
 -- The place at which a pair is put into the pages of a list, and what a search for it does.
 use Rattle.std.specs.Prelude.{◌≡◌, ◌⊎◌, ℕ, ◌+◌, ◌≤◌, List, Bool, false, Option, Some, None, Result, IfOk, ◌==◌, if◌then◌else◌}
-use Rattle.base_types.specs.declared.store_fault.Fault.{Fault}
-use Rattle.page_labels.specs.declared.label.Lead.TheVariants as leads
+use Rattle.store_base.specs.declared.store_fault.Fault.{Fault}
+use Rattle.store_base.specs.declared.label.Lead.TheVariants as leads
 use Rattle.skip_levels.specs.declared.search.PathEnd.{PathEnd}
 use Rattle.skip_levels.specs.declared.put_place.PutPlace.{PutPlace}
-use Rattle.base_types.specs.Faults.{disk_faults_after}
-use Rattle.page_labels.specs.Leads.{lead_of}
+use Rattle.store_base.specs.Faults.{disk_faults_after}
+use Rattle.store_base.specs.Leads.{lead_of}
 use Rattle.std.specs.Ordering.{is_eq}
 use Rattle.store_model.specs.Paths.{key_cmp}
 use Rattle.store_model.specs.Draws.{Draw}

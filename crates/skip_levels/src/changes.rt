@@ -1,7 +1,7 @@
 //! A change of one pair in the pages of a list, level after level from the highest one that changes.
 
 ghost use Rattle.std.specs.Prelude.{◌≡◌, ◌<◌, List, length, IfOk};
-ghost use Rattle.page_labels.specs.Leads.{lead_of};
+ghost use Rattle.store_base.specs.Leads.{lead_of};
 ghost use Rattle.store_model.specs.Draws as draws;
 ghost use Rattle.store_model.specs.Pairs.{Pair};
 ghost use Rattle.store_model.specs.Pages as model;
@@ -11,15 +11,14 @@ ghost use Rattle.skip_levels.specs.Descent.{HoldsPairs, IsKnown};
 ghost use Rattle.skip_levels.specs.PagePairs.{pairs_of_map};
 ghost use Rattle.skip_levels.specs.PairChanges.{IsPutting, IsTaking, PutsPairFrom, TakesPairFrom, PutsPairIn, TakesPairIn};
 
+use crate::levels::{join_groups, set_cells, split_group};
 use crate::put_place::{PutPlace, know_behind, place_to_put};
 use crate::search::{KeyPlace, PathEnd, find_place, go_to, known_lead};
-use base_types::{Fault, NoMemory, Value};
-use level_changes::{join_groups, set_cells, split_group};
 use node_pages::{Cell, Pages};
-use page_labels::{Key, Lead};
 use seeded_draw::{Draw, Front};
 use skip_groups::NewCells;
 use std::alloc::Global;
+use store_base::{Fault, Key, Lead, NoMemory, Value};
 
 /// The cell of a pair on a level: the value is there at level 0 alone.
 fn cell_on(level: u8, key: &Key, value: &Value) -> Result<Cell, NoMemory>

@@ -5,10 +5,9 @@ ghost use Rattle.skip_levels.specs.Descent.{next_known};
 ghost use Rattle.skip_levels.specs.NextSearch.{IsFirstPair, IsNextSearch};
 
 use crate::search::{PathEnd, go_to, known_lead};
-use base_types::{Fault, Value};
 use node_pages::Pages;
-use page_labels::{Key, Lead};
 use skip_groups::{label_in_group, pair_of, search_group};
+use store_base::{Fault, Key, Lead, Value};
 
 /// The first pair of the group of level 0 that a key leads; `None` where there is no such group. One page is asked for.
 fn first_pair<P: Pages>(pages: &mut P, leader: Key) -> Result<Option<(Key, Value)>, Fault>

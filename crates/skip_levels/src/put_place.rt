@@ -1,15 +1,14 @@
 //! The place at which a pair is put into a list.
 
 ghost use Rattle.std.specs.Prelude.{◌≡◌, IfOk};
-ghost use Rattle.page_labels.specs.Leads.{lead_of};
+ghost use Rattle.store_base.specs.Leads.{lead_of};
 ghost use Rattle.skip_levels.specs.Descent.{lead_known};
 ghost use Rattle.skip_levels.specs.PutPlaces.{IsPutSearch, is_leader, behind};
 
 use crate::search::{PathEnd, find_lead};
-use base_types::Fault;
 use node_pages::Pages;
-use page_labels::{Key, Lead};
 use seeded_draw::Draw;
+use store_base::{Fault, Key, Lead};
 
 /// Where the pair of a key is put.
 #[derive(Drop)]

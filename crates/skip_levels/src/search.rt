@@ -3,10 +3,9 @@
 ghost use Rattle.std.specs.Prelude.{◌≡◌, ◌<◌, ◌≤◌, refl, ◌↔◌, IsTrue};
 ghost use Rattle.skip_levels.specs.Descent.{LiesIn, LiesInKnown, IsWayDown, IsPlaceSearch, IsKeySearch, ends_at, followed_by, lead_in, leads_in, led_by, placed};
 
-use base_types::{Fault, Value};
 use node_pages::{Page, Pages};
-use page_labels::{Key, Lead};
 use skip_groups::{Wanted, search_group, search_group_from};
+use store_base::{Fault, Key, Lead, Value};
 
 /// Where a descent on the search path of a key ends.
 #[derive(Clone, Copy)]

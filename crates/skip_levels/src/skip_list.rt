@@ -9,14 +9,13 @@ ghost use Rattle.skip_levels.specs.PagePairs.{pairs_of_map, list_over};
 use crate::changes::{put_pair, take_pair};
 use crate::next::find_next;
 use crate::search::{PathEnd, find_value};
-use base_types::{Fault, Value};
 use node_pages::Pages;
 use ordered_pairs::OrderedPairs;
-use page_labels::Key;
 use seeded_draw::{Draw, Front};
 use skip_groups::NewCells;
 use std::alloc::Global;
 use std::marker::Model;
+use store_base::{Fault, Key, Value};
 
 /// A sorted list of pairs in pages. Each level of the list holds the keys that the draw puts on it or above, is cut into
 /// groups before each key of a higher level, and each group into pages.

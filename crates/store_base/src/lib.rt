@@ -1,11 +1,42 @@
-//! The types that all layers share, under one name for whoever stands above them all: what `base_types`, `page_labels` and
-//! `image_areas` define, each of which the layers name where they need no more than it.
+//! The types that all layers share. They know no disk, no table and no tree.
+//!
+//! Faults, byte strings and the entries of a directory; keys and the labels that name pages; the parameters of an image, its
+//! header and where its areas lie; and the traits of the slots that a table is made of. Only `Entries` takes memory.
 #![tactic(auto)]
 
-pub use base_types::{Answer, Bytes, DiskFault, Entries, Fault, NoMemory, ReadSlots, Slots, Value};
-pub use image_areas::{
-    BadParams, FIRST_BYTE, MAX_HEIGHT, MAX_SLOTS, Params, areas_fill_the_image, gate_at, image_len,
-    mark_at, read_header, shadow_at, table_at, write_header,
-};
-pub use page_labels::{Key, Label, Lead, byte_order};
+mod areas;
+mod entries;
+mod fault;
+mod header;
+mod key;
+mod label;
+mod order;
+mod params;
+mod slots;
+mod store_fault;
+mod value;
+
+pub use areas::{areas_fill_the_image, gate_at, image_len, mark_at, shadow_at, table_at};
+pub use entries::Entries;
+pub use fault::{DiskFault, NoMemory};
+pub use header::{read_header, write_header};
+pub use key::Key;
+pub use label::{Label, Lead};
+pub use order::byte_order;
+pub use params::{BadParams, Params};
+pub use slots::{ReadSlots, Slots};
+pub use store_fault::Fault;
 pub use store_model::{BLOCK, DrawKind, Refusal, Slot};
+pub use value::{Bytes, Value};
+
+/// What a call of the tree's layer answers where no fault came: a value, or why the command is refused.
+pub type Answer<T> = Result<T, Refusal>;
+
+/// The most slots that a table has.
+pub const MAX_SLOTS: u32 = 16_384;
+
+/// The most levels that a list has.
+pub const MAX_HEIGHT: u8 = 8;
+
+/// The byte that an image begins with.
+pub const FIRST_BYTE: u8 = 0x48;

@@ -1,7 +1,7 @@
 -- Commands that are answered from the pairs in staged pages.
 use Rattle.std.proofs.Common.{◌≡◌, false, List, Result, Ok, Err, IfOk, OnOk, refl, sym, ap, subst, ◌∙◌}
-use Rattle.base_types.specs.declared.store_fault.Fault.{Fault}
-use Rattle.base_types.specs.declared.store_fault.Fault.TheVariants as causes
+use Rattle.store_base.specs.declared.store_fault.Fault.{Fault}
+use Rattle.store_base.specs.declared.store_fault.Fault.TheVariants as causes
 use Rattle.store_model.specs.Parameters.{Parameters}
 use Rattle.store_model.specs.Trees.{Tree}
 use Rattle.store_model.specs.Draws.{Draw, draw_of}
@@ -19,14 +19,14 @@ use Rattle.skip_levels.specs.Descent.{HoldsPairs}
 use Rattle.ordered_pairs.specs.PairsState.{PairsState}
 use Rattle.tree_pairs.specs.TreeCalls.{uncounted_step}
 use Rattle.page_store.specs.StagedState.{StagedState, IsTold, Follows}
-use Rattle.store_standing.specs.declared.fault.ApplyFault.{ApplyFault}
-use Rattle.store_standing.specs.declared.fault.ApplyFault.TheVariants as apply
+use Rattle.image_check.specs.declared.fault.ApplyFault.{ApplyFault}
+use Rattle.image_check.specs.declared.fault.ApplyFault.TheVariants as apply
 use Rattle.tree_commands.specs.Answers.{IsReplyOf}
 use Rattle.tree_commands.specs.Counted.{counted_step}
 use Rattle.tree_commands.proofs.StepLemmas.{acked_step, answered_step, uncounted_tree}
 use Rattle.store_core.specs.Answers.{IsReplyAt, AnswersAt}
-use Rattle.store_standing.specs.Faults.{apply_fault_of}
-use Rattle.store_standing.specs.Standing.{IsFitting}
+use Rattle.image_check.specs.Faults.{apply_fault_of}
+use Rattle.image_check.specs.Standing.{IsFitting}
 use Rattle.store_core.specs.StagedTree.{AreAt, IsStagedFor}
 use Rattle.store_core.specs.Steps.{EndsStep}
 use Rattle.store_core.proofs.StagedSteps.{read_step, behind_reads, told_as}

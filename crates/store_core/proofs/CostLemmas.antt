@@ -3,14 +3,14 @@ use Rattle.std.proofs.Common.{◌≡◌, ℕ, ◌+◌, ◌≤◌, Result, Ok, Er
 use Rattle.store_model.specs.Parameters.{Parameters}
 use Rattle.store_model.specs.Trees.{Tree}
 use Rattle.disk_model.specs.DiskState.{DiskState}
-use Rattle.journal_steps.specs.Places.{Made, Makes, ReadsOnly}
-use Rattle.base_types.specs.Counts.{raised}
+use Rattle.gate_journal.specs.Places.{Made, Makes, ReadsOnly}
+use Rattle.store_base.specs.Counts.{raised}
 use Rattle.store_core.specs.Changes.{slots_between}
 use Rattle.image_check.specs.Contents.{table_of}
-use Rattle.journal_steps.specs.Costs.{MadeAtMost, opening_writes, opening_syncs, CountsOpening, CountsCommit}
-use Rattle.journal_steps.specs.Phases.{HasEmptyJournal}
-use Rattle.journal_steps.specs.Recovery.{redo_writes, redo_syncs, erase_writes}
-use Rattle.journal_steps.proofs.Openings.{opening_of_empty, opening_of_journal, one_or_other}
+use Rattle.gate_journal.specs.Costs.{MadeAtMost, opening_writes, opening_syncs, CountsOpening, CountsCommit}
+use Rattle.gate_journal.specs.Phases.{HasEmptyJournal}
+use Rattle.gate_journal.specs.Recovery.{redo_writes, redo_syncs, erase_writes}
+use Rattle.gate_journal.proofs.Openings.{opening_of_empty, opening_of_journal, one_or_other}
 use Rattle.store_core.proofs.DifferLemmas.{differing-itself}
 
 pub made_none : (disk : DiskState) → Made 0 0 disk disk

@@ -1,8 +1,8 @@
 -- What calls keep of every disk, one after another.
 use Rattle.std.proofs.Common.{◌∙◌, Result, arith}
 use Rattle.disk_model.specs.DiskState.{DiskState}
-use Rattle.journal_steps.specs.Places.{AreCalls}
-use Rattle.journal_steps.specs.Disks.{KeepsDisk}
+use Rattle.gate_journal.specs.Places.{AreCalls}
+use Rattle.gate_journal.specs.Disks.{KeepsDisk}
 
 pub keeps_then : (old mid new : DiskState) → KeepsDisk old mid → KeepsDisk mid new → KeepsDisk old new
 keeps_then old mid new before then = record {

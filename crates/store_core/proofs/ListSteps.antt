@@ -1,7 +1,7 @@
 -- The list of a tree over its staged pages: what it holds, and what it knows, as these change.
 use Rattle.std.proofs.Common.{◌≡◌, ◌<◌, Bool, true, false, List, length, Option, Result, Ok, Err, sym, ap, subst, ◌∙◌}
 use Rattle.store_model.specs.declared.refusal.Refusal.{Refusal}
-use Rattle.base_types.specs.declared.store_fault.Fault.{Fault}
+use Rattle.store_base.specs.declared.store_fault.Fault.{Fault}
 use Rattle.store_model.specs.Parameters.{Parameters}
 use Rattle.store_model.specs.Trees.{Tree}
 use Rattle.store_model.specs.Draws.{Draw, draw_of}

@@ -1,9 +1,9 @@
 -- How a store is opened: a sync, the check of the image, and its recovery.
 use Rattle.std.proofs.Common.{◌≡◌, ◌⊎◌, ◌+◌, ℕ, List, Result, Ok, Err, OnOk, false, refl, sym, ap, subst, ◌∙◌, inl, inr, ⊎_elim, arith}
-use Rattle.base_types.specs.declared.fault.DiskFault.{DiskFault}
-use Rattle.base_types.specs.declared.store_fault.Fault.{Fault}
-use Rattle.base_types.specs.declared.store_fault.Fault.TheVariants as causes
-use Rattle.base_types.specs.Counts.{raised, faults_after}
+use Rattle.store_base.specs.declared.fault.DiskFault.{DiskFault}
+use Rattle.store_base.specs.declared.store_fault.Fault.{Fault}
+use Rattle.store_base.specs.declared.store_fault.Fault.TheVariants as causes
+use Rattle.store_base.specs.Counts.{raised, faults_after}
 use Rattle.store_model.specs.Parameters.{Parameters}
 use Rattle.store_model.specs.Trees.{Tree}
 use Rattle.store_model.specs.Draws.{draw_of}
@@ -12,14 +12,14 @@ use Rattle.store_model.proofs.TreesLemmasLayouts.{images_tell}
 use Rattle.disk_model.specs.DiskState.{DiskState, IsObservable, IsDurable, IsSound}
 use Rattle.disk_model.specs.DiskCalls.{LeavesOnly, IsSync}
 use Rattle.disk_model.proofs.Crashes.{LeavesOnly-sync, LeavesOnly-trans, LeavesOnly-weaken, MayLeaveOnly-end}
-use Rattle.journal_steps.specs.Disks.{KeepsDisk}
-use Rattle.journal_steps.specs.Costs.{opening_writes, opening_syncs, CountsOpening}
-use Rattle.journal_steps.specs.Phases.{HasEmptyJournal}
-use Rattle.journal_steps.specs.Places.{AreCalls, Made, Makes, ReadsOnly}
-use Rattle.journal_steps.specs.Recovery.{Recovers, RecoversAs, redo_writes, redo_syncs, erase_writes}
-use Rattle.journal_steps.proofs.Layouts.{recovers-represents}
-use Rattle.journal_steps.proofs.Phases.{recovered_empty}
-use Rattle.journal_steps.proofs.Reading.{IsDurable-reads}
+use Rattle.gate_journal.specs.Disks.{KeepsDisk}
+use Rattle.gate_journal.specs.Costs.{opening_writes, opening_syncs, CountsOpening}
+use Rattle.gate_journal.specs.Phases.{HasEmptyJournal}
+use Rattle.gate_journal.specs.Places.{AreCalls, Made, Makes, ReadsOnly}
+use Rattle.gate_journal.specs.Recovery.{Recovers, RecoversAs, redo_writes, redo_syncs, erase_writes}
+use Rattle.gate_journal.proofs.Layouts.{recovers-represents}
+use Rattle.gate_journal.proofs.Phases.{recovered_empty}
+use Rattle.gate_journal.proofs.Reading.{IsDurable-reads}
 use Rattle.seeded_draw.specs.declared.any.AnyDraw.{AnyDraw}
 use Rattle.seeded_draw.specs.AnyDrawn.{any_draw}
 use Rattle.image_check.specs.declared.contents.Contents.{Contents}
@@ -29,10 +29,10 @@ use Rattle.image_check.specs.ImageCalls.{ReadsDisk, HasImage, FindsImage}
 use Rattle.image_check.specs.Verdicts.{IsImageWith, HasParameters, IsNoImage, IsDamaged}
 use Rattle.page_store.specs.PageImages.{pages_in_table}
 use Rattle.page_store.specs.StagedState.{StagedState}
-use Rattle.store_standing.specs.declared.fault.AttachFault.TheVariants as attach
+use Rattle.image_check.specs.declared.fault.AttachFault.TheVariants as attach
 use Rattle.store_core.specs.Opening.{contents_in, IsSynced, ChecksSynced, IsOpenAt}
 use Rattle.store_core.specs.StagedTree.{AreAt}
-use Rattle.store_standing.specs.Standing.{IsFitting, Stands}
+use Rattle.image_check.specs.Standing.{IsFitting, Stands}
 use Rattle.store_core.specs.StoreState.{StoreState}
 use Rattle.store_core.specs.StoreCalls.{IsOpened, IsAttached, KeepsImage, IsRefused}
 use Rattle.store_core.proofs.CostLemmas.{counts_opening}

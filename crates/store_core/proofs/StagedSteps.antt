@@ -12,9 +12,9 @@ use Rattle.store_model.specs.Commands.Reply.{Refused}
 use Rattle.store_model.specs.Steps.{Step}
 use Rattle.disk_model.specs.DiskState.{DiskState, IsObservable, IsSound}
 use Rattle.disk_model.proofs.Crashes.{LeavesOnly-weaken}
-use Rattle.journal_steps.specs.Disks.{KeepsDisk}
-use Rattle.journal_steps.specs.Places.{ReadsOnly}
-use Rattle.journal_steps.specs.Costs.{CountsCommit}
+use Rattle.gate_journal.specs.Disks.{KeepsDisk}
+use Rattle.gate_journal.specs.Places.{ReadsOnly}
+use Rattle.gate_journal.specs.Costs.{CountsCommit}
 use Rattle.seeded_draw.specs.declared.any.AnyDraw.{AnyDraw}
 use Rattle.seeded_draw.specs.AnyDrawn.{any_draw}
 use Rattle.script_lines.specs.declared.reply.Reply.{Reply}
@@ -29,11 +29,11 @@ use Rattle.page_store.specs.StagedState.{StagedState, Follows}
 use Rattle.page_store.proofs.TreeLayouts.{represents_tree}
 use Rattle.tree_commands.specs.Counted.{counted_step}
 use Rattle.tree_commands.proofs.StepLemmas.{counted_fits, counted_full}
-use Rattle.store_standing.specs.declared.fault.ApplyFault.{ApplyFault}
-use Rattle.store_standing.specs.declared.fault.ApplyFault.TheVariants as apply
+use Rattle.image_check.specs.declared.fault.ApplyFault.{ApplyFault}
+use Rattle.image_check.specs.declared.fault.ApplyFault.TheVariants as apply
 use Rattle.store_core.specs.Changes.{slots_between}
-use Rattle.store_standing.specs.Faults.{apply_faults_after}
-use Rattle.store_standing.specs.Standing.{IsFitting, Stands}
+use Rattle.image_check.specs.Faults.{apply_faults_after}
+use Rattle.image_check.specs.Standing.{IsFitting, Stands}
 use Rattle.store_core.specs.StagedTree.{AreAt, IsStagedFor}
 use Rattle.store_core.specs.Steps.{settled_reply, StepsPages, TakesStep, EndsStep}
 use Rattle.store_core.specs.StoreCalls.{ChangesImage}

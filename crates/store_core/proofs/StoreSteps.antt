@@ -12,10 +12,10 @@ use Rattle.disk_model.specs.DiskState.{DiskState, IsObservable}
 use Rattle.seeded_draw.specs.AnyDrawn.{any_draw}
 use Rattle.script_lines.specs.declared.reply.Reply.{Reply}
 use Rattle.script_lines.specs.InPlace.{in_place}
-use Rattle.store_standing.specs.declared.fault.ApplyFault.{ApplyFault}
-use Rattle.store_standing.specs.declared.fault.ApplyFault.TheVariants as apply
+use Rattle.image_check.specs.declared.fault.ApplyFault.{ApplyFault}
+use Rattle.image_check.specs.declared.fault.ApplyFault.TheVariants as apply
 use Rattle.store_core.specs.Known.{KnownState, SettlesKnown}
-use Rattle.store_standing.specs.Standing.{IsFitting, Stands}
+use Rattle.image_check.specs.Standing.{IsFitting, Stands}
 use Rattle.store_core.specs.StagedTree.{TreeList, HoldsPages, IsListAt, GoesOn}
 use Rattle.store_core.specs.Steps.{StepsPages, EndsStep}
 use Rattle.store_core.specs.StoreCalls.{Applies}

@@ -20,12 +20,12 @@ use Rattle.disk_model.specs.DiskState.{DiskState}
 use Rattle.image_check.specs.Contents.{table_of}
 use Rattle.skip_levels.specs.Descent.{HoldsPairs}
 use Rattle.tree_pairs.specs.TreeCalls.{pairs_limit}
-use Rattle.changed_slots.specs.Differences as places
+use Rattle.table_memory.specs.Differences as places
 use Rattle.page_store.specs.PageImages as images
 use Rattle.page_store.proofs.SlotLemmas.{pages_in_held}
 use Rattle.page_store.proofs.TreeLayouts.{tree_layout, layout_of_tree}
 use Rattle.store_core.specs.Changes.{bytes_of, slots_between}
-use Rattle.store_standing.specs.Standing.{IsFitting, Stands}
+use Rattle.image_check.specs.Standing.{IsFitting, Stands}
 
 -- a tree that fits has at most ten pairs a slot
 few_fitting : (t : Tree) (p : Parameters) → IsFitting t p → length (pairs t p) ≤ 10 * slots_limit

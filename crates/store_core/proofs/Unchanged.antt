@@ -1,7 +1,7 @@
 -- Commands that leave the disk as it was: it is read at most.
 use Rattle.std.proofs.Common.{◌≡◌, ◌⊎◌, ℕ, List, length, Bool, false, Result, Ok, Err, OnOk, refl, sym, ap, subst, ◌∙◌, inl, inr, ⊎_elim, arith}
 use Rattle.std.proofs.lemmas.Bool.{false≢true}
-use Rattle.base_types.specs.Counts.{Rose}
+use Rattle.store_base.specs.Counts.{Rose}
 use Rattle.store_model.specs.Parameters.{Parameters}
 use Rattle.store_model.specs.Trees.{Tree}
 use Rattle.store_model.specs.Images.{layout, recovered, Represents}
@@ -9,13 +9,13 @@ use Rattle.store_model.proofs.ImagesLemmas.{length-layout, recovered-layout}
 use Rattle.disk_model.specs.DiskState.{DiskState}
 use Rattle.disk_model.specs.DiskCalls.{LeavesOnly}
 use Rattle.disk_model.proofs.Crashes.{LeavesOnly-trans, LeavesOnly-weaken}
-use Rattle.journal_steps.specs.Disks.{KeepsDisk}
-use Rattle.journal_steps.specs.Places.{ReadsOnly}
-use Rattle.journal_steps.proofs.Layouts.{recovered-represents}
-use Rattle.journal_steps.proofs.Reading.{ReadsOnly-trans}
-use Rattle.store_standing.specs.declared.fault.ApplyFault.{ApplyFault}
+use Rattle.gate_journal.specs.Disks.{KeepsDisk}
+use Rattle.gate_journal.specs.Places.{ReadsOnly}
+use Rattle.gate_journal.proofs.Layouts.{recovered-represents}
+use Rattle.gate_journal.proofs.Reading.{ReadsOnly-trans}
+use Rattle.image_check.specs.declared.fault.ApplyFault.{ApplyFault}
 use Rattle.store_core.specs.Changes.{slots_between}
-use Rattle.store_standing.specs.Standing.{IsFitting, Stands}
+use Rattle.image_check.specs.Standing.{IsFitting, Stands}
 use Rattle.store_core.specs.StoreCalls.{ChangesImage}
 use Rattle.store_core.proofs.CostLemmas.{counts_reading, counts_behind, none_between}
 

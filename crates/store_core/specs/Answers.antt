@@ -6,8 +6,8 @@ use Rattle.store_model.specs.Draws.{draw_of}
 use Rattle.store_model.specs.Pairs.{pairs}
 use Rattle.store_model.specs.Commands.{Command}
 use Rattle.store_model.specs.Steps.{Step}
-use Rattle.base_types.specs.declared.store_fault.Fault.{Fault}
-use Rattle.base_types.specs.Faults.{disk_faults_after}
+use Rattle.store_base.specs.declared.store_fault.Fault.{Fault}
+use Rattle.store_base.specs.Faults.{disk_faults_after}
 use Rattle.disk_model.specs.DiskState.{DiskState, IsObservable}
 use Rattle.seeded_draw.specs.declared.any.AnyDraw.{AnyDraw}
 use Rattle.script_lines.specs.declared.reply.Reply.{Reply}

@@ -11,7 +11,7 @@ use Rattle.store_model.specs.Pairs.{Pair, pairs}
 use Rattle.store_model.specs.Images.{layout}
 use Rattle.store_model.proofs.TreesLemmasLayouts.{pairs_tell_trees, layouts_tell}
 use Rattle.disk_model.specs.DiskState.{DiskState, IsObservable}
-use Rattle.store_standing.specs.Standing.{IsFitting}
+use Rattle.image_check.specs.Standing.{IsFitting}
 
 -- A tree with the parameters that it is laid out under, and the disk when that was last settled.
 pub record KnownState (D : Type 0) : Type 0 where

@@ -1,22 +1,22 @@
 -- What comes before recovery where a store is opened: a sync, and the check of the image.
 use Rattle.std.specs.Prelude.{◌≡◌, ℕ, Result, Ok, Err, IfOk, OnOk, IsErrOf}
-use Rattle.base_types.specs.Counts.{raised}
-use Rattle.base_types.specs.declared.store_fault.Fault.{Fault}
+use Rattle.store_base.specs.Counts.{raised}
+use Rattle.store_base.specs.declared.store_fault.Fault.{Fault}
 use Rattle.store_model.specs.Parameters.{image_len}
 use Rattle.store_model.specs.Trees.{Tree}
 use Rattle.disk_model.specs.DiskState.{DiskState, IsObservable, IsDurable}
 use Rattle.disk_model.specs.DiskCalls.{LeavesOnly}
-use Rattle.journal_steps.specs.Disks.{KeepsDisk}
+use Rattle.gate_journal.specs.Disks.{KeepsDisk}
 use Rattle.image_check.specs.declared.contents.Contents.{Contents}
 use Rattle.image_check.specs.declared.contents.Finding.{Finding}
 use Rattle.image_check.specs.declared.contents.Finding.TheVariants as findings
 use Rattle.image_check.specs.Contents.{AreContents}
 use Rattle.image_check.specs.ImageCalls.{HasImage}
 use Rattle.image_check.specs.Verdicts.{IsNoImage, IsDamaged}
-use Rattle.store_standing.specs.declared.fault.AttachFault.{AttachFault}
-use Rattle.store_standing.specs.declared.fault.AttachFault.TheVariants as attach
-use Rattle.store_standing.specs.Faults.{attach_faults_by, attach_fault_of}
-use Rattle.store_standing.specs.Standing.{Stands}
+use Rattle.image_check.specs.declared.fault.AttachFault.{AttachFault}
+use Rattle.image_check.specs.declared.fault.AttachFault.TheVariants as attach
+use Rattle.image_check.specs.Faults.{attach_faults_by, attach_fault_of}
+use Rattle.image_check.specs.Standing.{Stands}
 
 -- the disk's count of failed calls behind a call with such a fault, or none
 abbrev pub attach_faults_after : {T : Type 0} → ℕ → Result T AttachFault → ℕ

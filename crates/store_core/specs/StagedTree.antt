@@ -12,7 +12,7 @@ use Rattle.seeded_draw.specs.AnyDrawn.{any_draw}
 use Rattle.skip_levels.specs.Descent.{HoldsPairs}
 use Rattle.skip_levels.specs.ListState.{ListState}
 use Rattle.page_store.specs.StagedState.{StagedState, IsTold}
-use Rattle.store_standing.specs.Standing.{IsFitting, Stands}
+use Rattle.image_check.specs.Standing.{IsFitting, Stands}
 
 -- The disk stands at the tree, the pages in its table are the tree's, and nothing else is staged.
 pub record HoldsPages {D : Type 0} (state : D → DiskState) (t : Tree) (p : Parameters) (s : StagedState D AnyDraw) : Type 0 where

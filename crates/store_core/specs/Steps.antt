@@ -7,7 +7,7 @@ use Rattle.store_model.specs.Pages.{pages}
 use Rattle.store_model.specs.PageMaps.{map_of_pages}
 use Rattle.store_model.specs.Steps.{Step}
 use Rattle.disk_model.specs.DiskState.{DiskState, IsObservable}
-use Rattle.journal_steps.specs.Disks.{KeepsDisk}
+use Rattle.gate_journal.specs.Disks.{KeepsDisk}
 use Rattle.seeded_draw.specs.declared.any.AnyDraw.{AnyDraw}
 use Rattle.script_lines.specs.declared.reply.Reply.{Reply}
 use Rattle.script_lines.specs.declared.reply.Reply.TheVariants as replies
@@ -15,9 +15,9 @@ use Rattle.script_lines.specs.Replies.{reply_of}
 use Rattle.page_store.specs.declared.fault.SettleFault.{SettleFault}
 use Rattle.page_store.specs.declared.fault.SettleFault.TheVariants as causes
 use Rattle.page_store.specs.StagedState.{StagedState}
-use Rattle.store_standing.specs.declared.fault.ApplyFault.{ApplyFault}
-use Rattle.store_standing.specs.declared.fault.ApplyFault.TheVariants as apply
-use Rattle.store_standing.specs.Faults.{apply_faults_after}
+use Rattle.image_check.specs.declared.fault.ApplyFault.{ApplyFault}
+use Rattle.image_check.specs.declared.fault.ApplyFault.TheVariants as apply
+use Rattle.image_check.specs.Faults.{apply_faults_after}
 use Rattle.store_core.specs.StoreCalls.{ChangesImage}
 
 -- what a command answers whose changes were settled so

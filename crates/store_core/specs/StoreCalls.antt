@@ -7,20 +7,20 @@ use Rattle.store_model.specs.Commands.{Command}
 use Rattle.store_model.specs.Steps.{step}
 use Rattle.disk_model.specs.DiskState.{DiskState, IsObservable}
 use Rattle.disk_model.specs.DiskCalls.{Rose, LeavesOnly}
-use Rattle.journal_steps.specs.Phases.{HasEmptyJournal}
-use Rattle.journal_steps.specs.Places.{Made, ReadsOnly}
-use Rattle.journal_steps.specs.Disks.{KeepsDisk, IsUnwritten, IsOnlySynced}
-use Rattle.journal_steps.specs.Costs.{opening_writes, opening_syncs, MadeAtMost, CountsCommit}
+use Rattle.gate_journal.specs.Phases.{HasEmptyJournal}
+use Rattle.gate_journal.specs.Places.{Made, ReadsOnly}
+use Rattle.gate_journal.specs.Disks.{KeepsDisk, IsUnwritten, IsOnlySynced}
+use Rattle.gate_journal.specs.Costs.{opening_writes, opening_syncs, MadeAtMost, CountsCommit}
 use Rattle.image_check.specs.Verdicts.{HasParameters, IsNoImage, IsDamaged}
 use Rattle.script_lines.specs.declared.reply.Reply.{Reply}
 use Rattle.script_lines.specs.Replies.{reply_of}
-use Rattle.store_standing.specs.declared.fault.AttachFault.{AttachFault}
-use Rattle.store_standing.specs.declared.fault.AttachFault.TheVariants as attach
-use Rattle.store_standing.specs.declared.fault.ApplyFault.{ApplyFault}
-use Rattle.store_standing.specs.declared.fault.ApplyFault.TheVariants as apply
+use Rattle.image_check.specs.declared.fault.AttachFault.{AttachFault}
+use Rattle.image_check.specs.declared.fault.AttachFault.TheVariants as attach
+use Rattle.image_check.specs.declared.fault.ApplyFault.{ApplyFault}
+use Rattle.image_check.specs.declared.fault.ApplyFault.TheVariants as apply
 use Rattle.store_core.specs.Changes.{slots_between}
-use Rattle.store_standing.specs.Faults.{attach_faults_by, apply_faults_after}
-use Rattle.store_standing.specs.Standing.{IsFitting, Stands}
+use Rattle.image_check.specs.Faults.{attach_faults_by, apply_faults_after}
+use Rattle.image_check.specs.Standing.{IsFitting, Stands}
 use Rattle.store_core.specs.StoreState.{StoreState}
 
 -- ---- attach

@@ -7,8 +7,8 @@ ghost use Rattle.store_core.specs.StoreCalls.{Applies};
 use crate::staged::carry_out;
 use crate::store::Store;
 use disk_model::Disk;
+use image_check::ApplyFault;
 use script_lines::{Command, Reply};
-use store_standing::ApplyFault;
 use tree_commands::reveal;
 
 impl<D: Disk> Store<D> {

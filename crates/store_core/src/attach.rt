@@ -7,15 +7,14 @@ ghost use Rattle.store_core.specs.StoreCalls.{Attaches};
 
 use crate::known::KnownTree;
 use crate::store::Store;
-use base_types::Fault;
 use disk_model::Disk;
 use gate_journal::Journal;
-use image_check::{Contents, Finding, find_image};
+use image_check::{AttachFault, Contents, Finding, find_image};
 use page_store::{SlotCache, Staged};
 use seeded_draw::AnyDraw;
 use skip_levels::SkipList;
 use std::alloc::Global;
-use store_standing::AttachFault;
+use store_base::Fault;
 
 /// What an image holds by what was found.
 fn contents_of(found: Result<Finding, Fault>) -> Result<Contents, AttachFault>

@@ -4,14 +4,14 @@ ghost use Rattle.std.specs.Prelude.{◌≡◌};
 ghost use Rattle.store_model.specs.Trees.{Tree};
 ghost use Rattle.store_model.specs.Images.{layout};
 ghost use Rattle.disk_model.specs.DiskState.{IsObservable};
-ghost use Rattle.store_standing.specs.Standing.{IsFitting};
+ghost use Rattle.image_check.specs.Standing.{IsFitting};
 ghost use Rattle.store_core.specs.Known.{IsKnown, TellsTree, TellsTree-prop, SettlesKnown};
 
 use disk_model::Disk;
-use image_areas::Params;
 use node_pages::PairList;
 use std::marker::Model;
 use std::snapshot::Snapshot;
+use store_base::Params;
 
 /// The tree that a disk stood at when it was last settled, which fits. Contracts see it as that tree, with the parameters
 /// that it is laid out under and that disk. It takes no memory but that of the parameters.

@@ -14,5 +14,5 @@ mod known;
 mod staged;
 mod store;
 
+pub use image_check::{ApplyFault, AttachFault};
 pub use store::Store;
-pub use store_standing::{ApplyFault, AttachFault};

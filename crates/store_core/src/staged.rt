@@ -15,20 +15,19 @@ ghost use Rattle.script_lines.specs.Replies.{reply_of};
 ghost use Rattle.page_store.specs.StagedState.{Follows};
 ghost use Rattle.tree_commands.specs.Answers.{is_change, is_look, change_reply};
 ghost use Rattle.tree_commands.specs.Counted.{counted_step};
-ghost use Rattle.store_standing.specs.Standing.{IsFitting};
+ghost use Rattle.image_check.specs.Standing.{IsFitting};
 ghost use Rattle.store_core.specs.StagedTree.{AreAt, IsStagedFor, IsListAt, GoesOn, HoldsTable};
 ghost use Rattle.store_core.specs.Steps.{settled_reply, EndsStep};
 
-use base_types::Answer;
 use disk_model::Disk;
-use image_areas::Params;
+use image_check::ApplyFault;
 use page_store::{SettleFault, Staged};
 use script_lines::{Command, Reply};
 use seeded_draw::AnyDraw;
 use skip_levels::SkipList;
 use std::alloc::Global;
+use store_base::{Answer, Params};
 use store_model::Refusal;
-use store_standing::ApplyFault;
 use tree_commands::{answer, change};
 
 /// The pages of a tree in the table of an image.

@@ -3,14 +3,14 @@
 ghost use Rattle.std.specs.Prelude.{◌≡◌, false};
 ghost use Rattle.store_model.specs.Pages.{page_count};
 ghost use Rattle.disk_model.specs.DiskState.{IsObservable};
-ghost use Rattle.store_standing.specs.Standing.{IsFitting, Stands};
+ghost use Rattle.image_check.specs.Standing.{IsFitting, Stands};
 
 use crate::known::KnownTree;
 use crate::staged::TreeList;
 use disk_model::Disk;
-use image_areas::Params;
 use std::alloc::Global;
 use std::marker::Model;
+use store_base::Params;
 
 /// A store in an image. Contracts see it as one record: the parameters, the tree, the disk, and whether it is stopped.
 ///

@@ -6,28 +6,28 @@ use Rattle.store_model.specs.Trees.{Tree}
 use Rattle.store_model.specs.Images.{Represents}
 use Rattle.store_model.proofs.ListsLemmas.{first_true, second_true}
 use Rattle.store_model.proofs.TreesLemmasLayouts.{images_tell}
-use Rattle.base_types.specs.Counts.{Rose}
+use Rattle.store_base.specs.Counts.{Rose}
 use Rattle.disk_model.specs.DiskState.{DiskState, IsSound, MayLeaveOnly}
 use Rattle.disk_model.specs.DiskState as disks
 use Rattle.script_lines.specs.SourceState.{SourceState}
 use Rattle.script_lines.specs.SinkState.{SinkState}
-use Rattle.store_standing.specs.declared.fault.AttachFault.{AttachFault}
-use Rattle.store_standing.specs.declared.fault.AttachFault.TheVariants as faults
+use Rattle.image_check.specs.declared.fault.AttachFault.{AttachFault}
+use Rattle.image_check.specs.declared.fault.AttachFault.TheVariants as faults
 use Rattle.store_core.specs.StoreCalls.{IsAttached, IsRefused}
 use Rattle.store_core.specs.StoreState.{StoreState}
 use Rattle.store_core.proofs.DiskLemmas.{keeps_then}
-use Rattle.image_words.specs.declared.status.Status.{Status}
-use Rattle.image_words.specs.declared.status.Status.TheVariants as statuses
+use Rattle.image_subcommands.specs.declared.status.Status.{Status}
+use Rattle.image_subcommands.specs.declared.status.Status.TheVariants as statuses
 use Rattle.store_top.specs.BigCall.{IsBig, GeneratesFrom}
-use Rattle.image_words.specs.Endings.{attach_status}
+use Rattle.image_subcommands.specs.Endings.{attach_status}
 use Rattle.store_top.specs.Generations.{generated_trees, AnswersGenerated}
-use Rattle.image_words.specs.Outside.{Outside, outside_of, KeepsOutside}
+use Rattle.image_subcommands.specs.Outside.{Outside, outside_of, KeepsOutside}
 use Rattle.store_top.specs.Promises.{PromisesCrashes}
-use Rattle.image_words.specs.Statuses.{IsBigStatus, IsSummed, IsEndOfBig, IsRefusedImage, disk_faults_by, source_faults_by, sink_faults_by}
+use Rattle.image_subcommands.specs.Statuses.{IsBigStatus, IsSummed, IsEndOfBig, IsRefusedImage, disk_faults_by, source_faults_by, sink_faults_by}
 use Rattle.store_top.proofs.CostLemmas.{run_counts}
 use Rattle.store_top.proofs.CrashLemmas.{crashes_refused, crashes_behind, opened_represents}
 use Rattle.store_top.proofs.GenerationLemmas.{no_command}
-use Rattle.image_words.proofs.ReportLemmas.{rose}
+use Rattle.image_subcommands.proofs.ReportLemmas.{rose}
 use Rattle.store_top.proofs.RunEnds.{image_answered, not_between, no_image_by, damaged_by, refusal_only, says_no_image, says_damaged, named_by, memory_left, image_unopened, counts_unopened, quiet_unopened}
 
 -- ---- no store was had

@@ -3,16 +3,16 @@ use Rattle.std.proofs.Common.{◌≡◌, ℕ, suc, ◌+◌, refl, sym, ap, ◌�
 use Rattle.store_model.specs.Parameters.{Parameters}
 use Rattle.store_model.specs.Trees.{Tree}
 use Rattle.disk_model.specs.DiskState.{DiskState}
-use Rattle.journal_steps.specs.Disks.{IsOnlySynced}
-use Rattle.journal_steps.specs.Places.{Made, ReadsOnly}
-use Rattle.journal_steps.specs.Costs.{MadeAtMost, commit_writes, commit_syncs, opening_writes, opening_syncs}
+use Rattle.gate_journal.specs.Disks.{IsOnlySynced}
+use Rattle.gate_journal.specs.Places.{Made, ReadsOnly}
+use Rattle.gate_journal.specs.Costs.{MadeAtMost, commit_writes, commit_syncs, opening_writes, opening_syncs}
 use Rattle.store_core.specs.Changes.{slots_between}
 use Rattle.store_core.proofs.CostLemmas.{made_reading, made_then, at_most_then, made_as, at_most_as, at_most}
-use Rattle.image_words.specs.declared.status.Status.{Status}
-use Rattle.image_words.specs.declared.status.Status.TheVariants as statuses
+use Rattle.image_subcommands.specs.declared.status.Status.{Status}
+use Rattle.image_subcommands.specs.declared.status.Status.TheVariants as statuses
 use Rattle.store_top.specs.Costs.{run_writes, run_syncs, CountsLines, CountsRun}
-use Rattle.image_words.specs.Statuses.{Row, IsBetweenLines}
-use Rattle.image_words.proofs.StatusLemmas.{other_than, disk_fault_or_not}
+use Rattle.image_subcommands.specs.Statuses.{Row, IsBetweenLines}
+use Rattle.image_subcommands.proofs.StatusLemmas.{other_than, disk_fault_or_not}
 
 writes_more : (p : Parameters) (trees : ℕ → Tree) (n : ℕ) → run_writes p trees (n + 1) ≡ run_writes p trees n + commit_writes (slots_between p (trees n) (trees (n + 1)))
 writes_more p trees n = let more : n + 1 ≡ suc n = omega arith in ap (run_writes p trees) more

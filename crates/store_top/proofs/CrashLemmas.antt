@@ -7,11 +7,11 @@ use Rattle.store_model.specs.Images.{Represents}
 use Rattle.disk_model.specs.DiskState.{DiskState, IsSound, MayLeaveOnly}
 use Rattle.disk_model.specs.DiskCalls.{LeavesOnly}
 use Rattle.disk_model.proofs.Crashes.{LeavesOnly-refl, LeavesOnly-trans, LeavesOnly-weaken, MayLeaveOnly-end}
-use Rattle.store_standing.specs.Standing.{Stands}
-use Rattle.image_words.specs.declared.status.Status.{Status}
-use Rattle.image_words.specs.declared.status.Status.TheVariants as statuses
+use Rattle.image_check.specs.Standing.{Stands}
+use Rattle.image_subcommands.specs.declared.status.Status.{Status}
+use Rattle.image_subcommands.specs.declared.status.Status.TheVariants as statuses
 use Rattle.store_top.specs.Promises.{RepresentsOneOf, PromisesCrashes}
-use Rattle.image_words.specs.Statuses.{IsBetweenLines}
+use Rattle.image_subcommands.specs.Statuses.{IsBetweenLines}
 
 -- ---- while lines are answered
 

@@ -8,18 +8,18 @@ use Rattle.store_model.specs.Scripts.{answer_by}
 use Rattle.store_model.specs.declared.refusal.Refusal.{Refusal}
 use Rattle.disk_model.specs.DiskState.{DiskState, IsObservable, IsSound}
 use Rattle.disk_model.proofs.Crashes.{LeavesOnly-trans, LeavesOnly-weaken, MayLeaveOnly-end}
-use Rattle.journal_steps.specs.Places.{Made, ReadsOnly}
-use Rattle.journal_steps.specs.Costs.{commit_writes, commit_syncs}
-use Rattle.journal_steps.proofs.Reading.{ReadsOnly-refl, ReadsOnly-trans}
+use Rattle.gate_journal.specs.Places.{Made, ReadsOnly}
+use Rattle.gate_journal.specs.Costs.{commit_writes, commit_syncs}
+use Rattle.gate_journal.proofs.Reading.{ReadsOnly-refl, ReadsOnly-trans}
 use Rattle.script_lines.specs.declared.reply.Reply.{Reply}
-use Rattle.store_standing.specs.declared.fault.ApplyFault.TheVariants as apply
-use Rattle.store_standing.specs.Standing.{IsFitting, Stands}
+use Rattle.image_check.specs.declared.fault.ApplyFault.TheVariants as apply
+use Rattle.image_check.specs.Standing.{IsFitting, Stands}
 use Rattle.store_core.specs.StoreCalls.{ChangesImage}
 use Rattle.store_core.specs.StoreState.{StoreState}
 use Rattle.store_core.proofs.CostLemmas.{made_none, none_between}
 use Rattle.store_core.proofs.Unchanged.{standing_represents, stands_reading}
-use Rattle.image_words.specs.declared.status.Status.{Status}
-use Rattle.image_words.specs.declared.status.Status.TheVariants as statuses
+use Rattle.image_subcommands.specs.declared.status.Status.{Status}
+use Rattle.image_subcommands.specs.declared.status.Status.TheVariants as statuses
 use Rattle.store_top.specs.Promises.{RepresentsOneOf}
 use Rattle.store_top.specs.Runs.{AnswersReading, ChangesByLines}
 use Rattle.store_top.specs.Turns.{DiskSoFar}

@@ -19,15 +19,15 @@ use Rattle.script_lines.specs.declared.command.Command as orders
 use Rattle.script_lines.specs.SinkState.{SinkState, IsPut, AppendsPrefix}
 use Rattle.script_lines.specs.declared.reply.Reply.{Reply}
 use Rattle.script_lines.specs.Replies.{reply_of, PutsPart, FailsPart}
-use Rattle.store_standing.specs.declared.fault.ApplyFault.{ApplyFault}
-use Rattle.store_standing.specs.declared.fault.ApplyFault.TheVariants as apply
+use Rattle.image_check.specs.declared.fault.ApplyFault.{ApplyFault}
+use Rattle.image_check.specs.declared.fault.ApplyFault.TheVariants as apply
 use Rattle.store_core.specs.StoreState.{StoreState}
 use Rattle.store_core.specs.StoreCalls.{Applies}
 use Rattle.tree_commands.proofs.StepLemmas.{digest_step}
 use Rattle.store_top.specs.declared.generated.Generated.{Generated}
-use Rattle.image_words.specs.declared.status.Status.{Status}
-use Rattle.image_words.specs.declared.status.Status.TheVariants as statuses
-use Rattle.image_words.specs.Endings.{apply_status}
+use Rattle.image_subcommands.specs.declared.status.Status.{Status}
+use Rattle.image_subcommands.specs.declared.status.Status.TheVariants as statuses
+use Rattle.image_subcommands.specs.Endings.{apply_status}
 use Rattle.store_top.specs.Generations.{generated_replies, count_answered, count_refused, counts_text, summary_text, AnswersGenerated, generator_trees, GeneratedKept, GeneratedDue, GeneratedEnds}
 use Rattle.store_top.specs.Turns.{Start, start_of, Asks, RepliesTo, Begins, AnswersAll, StoreSoFar, StoreEnds}
 use Rattle.store_top.proofs.GenerationLemmas.{no_command, tree_more, tree_past, no_reply, refused_more, answered_are}

@@ -1,13 +1,13 @@
 -- A lemma on what calls one after another leave of the disk, the source and the sink.
 use Rattle.std.proofs.Common.{◌≡◌, ap, ◌∙◌}
 use Rattle.disk_model.specs.DiskState.{DiskState}
-use Rattle.journal_steps.specs.Disks.{KeepsDisk}
+use Rattle.gate_journal.specs.Disks.{KeepsDisk}
 use Rattle.script_lines.specs.SourceState.{SourceState}
 use Rattle.script_lines.specs.SinkState.{SinkState}
 use Rattle.store_core.proofs.DiskLemmas.{keeps_then}
-use Rattle.image_words.specs.declared.status.Status.{Status}
-use Rattle.image_words.specs.Outside.{KeepsOutside}
-use Rattle.image_words.specs.Statuses.{disk_faults_by}
+use Rattle.image_subcommands.specs.declared.status.Status.{Status}
+use Rattle.image_subcommands.specs.Outside.{KeepsOutside}
+use Rattle.image_subcommands.specs.Statuses.{disk_faults_by}
 
 -- lines were answered behind the opening of an image
 pub outside_behind : (status : Status) (old mid new : DiskState) (source source_new : SourceState) (sink sink_new : SinkState) → KeepsDisk old mid → mid.faults ≡ old.faults → KeepsOutside status mid new source source_new sink sink_new

@@ -9,40 +9,40 @@ use Rattle.store_model.specs.Scripts.{lines, replies_text, script_limit}
 use Rattle.store_model.specs.Images.{Represents}
 use Rattle.store_model.proofs.ListsLemmas.{first_true, second_true}
 use Rattle.store_model.proofs.TreesLemmasLayouts.{images_tell}
-use Rattle.base_types.specs.Counts.{Rose}
+use Rattle.store_base.specs.Counts.{Rose}
 use Rattle.disk_model.specs.DiskState.{DiskState, IsSound, MayLeaveOnly}
 use Rattle.disk_model.specs.DiskState as disks
 use Rattle.disk_model.proofs.Crashes.{LeavesOnly-refl}
-use Rattle.journal_steps.specs.Costs.{opening_writes, opening_syncs}
-use Rattle.journal_steps.specs.Disks.{IsUnwritten}
+use Rattle.gate_journal.specs.Costs.{opening_writes, opening_syncs}
+use Rattle.gate_journal.specs.Disks.{IsUnwritten}
 use Rattle.image_check.specs.Verdicts.{IsNoImage, IsDamaged, HasParameters}
 use Rattle.script_lines.specs.SourceState.{SourceState}
 use Rattle.script_lines.specs.SourceState as sources
 use Rattle.script_lines.specs.SinkState.{SinkState}
 use Rattle.script_lines.specs.LineState.{LineState}
-use Rattle.store_standing.specs.declared.fault.AttachFault.{AttachFault}
-use Rattle.store_standing.specs.declared.fault.AttachFault.TheVariants as faults
-use Rattle.store_standing.specs.Standing.{Stands}
+use Rattle.image_check.specs.declared.fault.AttachFault.{AttachFault}
+use Rattle.image_check.specs.declared.fault.AttachFault.TheVariants as faults
+use Rattle.image_check.specs.Standing.{Stands}
 use Rattle.store_core.specs.StoreCalls.{IsAttached, IsRefused, KeepsImage, LeavesImage}
 use Rattle.store_core.specs.StoreState.{StoreState}
 use Rattle.store_core.proofs.CostLemmas.{made_none, at_most}
 use Rattle.store_core.proofs.Unchanged.{keeps_itself}
-use Rattle.image_words.specs.declared.status.Status.{Status}
-use Rattle.image_words.specs.declared.status.Status.TheVariants as statuses
+use Rattle.image_subcommands.specs.declared.status.Status.{Status}
+use Rattle.image_subcommands.specs.declared.status.Status.TheVariants as statuses
 use Rattle.store_top.specs.Costs.{CountsRun}
-use Rattle.image_words.specs.Endings.{attach_status}
-use Rattle.image_words.specs.Outside.{Outside, outside_of, KeepsOutside}
+use Rattle.image_subcommands.specs.Endings.{attach_status}
+use Rattle.image_subcommands.specs.Outside.{Outside, outside_of, KeepsOutside}
 use Rattle.store_top.specs.Promises.{PromisesImage, PromisesCrashes}
 use Rattle.store_top.specs.RunCall.{RunsFrom, IsRun}
 use Rattle.store_top.specs.Runs.{RepliesKept, KeepsLimit, AnswersLines, IsReady, IsUnread, run_replies, run_trees}
-use Rattle.image_words.specs.Statuses.{Row, row, IsRunStatus, IsEndOfRun, IsRefusedImage, IsPastHeader, IsBetweenLines, MayComeFirst}
+use Rattle.image_subcommands.specs.Statuses.{Row, row, IsRunStatus, IsEndOfRun, IsRefusedImage, IsPastHeader, IsBetweenLines, MayComeFirst}
 use Rattle.store_top.proofs.CostLemmas.{run_refused, run_counts}
 use Rattle.store_top.proofs.CrashLemmas.{crashes_refused, crashes_behind, opened_represents}
 use Rattle.store_top.proofs.ScriptTurns.{no_line}
 use Rattle.store_top.proofs.OutsideLemmas.{outside_behind}
-use Rattle.image_words.proofs.ReportLemmas.{rose}
+use Rattle.image_subcommands.proofs.ReportLemmas.{rose}
 use Rattle.store_top.proofs.RunLemmas.{length-replies}
-use Rattle.image_words.proofs.StatusLemmas.{other_than}
+use Rattle.image_subcommands.proofs.StatusLemmas.{other_than}
 
 -- ---- no store was had
 

@@ -14,12 +14,12 @@ use Rattle.script_lines.specs.Lines.{ended_lines}
 use Rattle.script_lines.specs.LineState.{LineState, left, to_come, Takes, Answers, FailsBetween, PassesLimit}
 use Rattle.script_lines.proofs.StateLemmas.{Answers-refl, Answers-trans, Takes-trans}
 use Rattle.script_lines.proofs.LineLemmas.{lines-none}
-use Rattle.image_words.specs.declared.status.Status.{Status}
-use Rattle.image_words.specs.declared.status.Status.TheVariants as statuses
+use Rattle.image_subcommands.specs.declared.status.Status.{Status}
+use Rattle.image_subcommands.specs.declared.status.Status.TheVariants as statuses
 use Rattle.store_top.specs.Runs.{run_replies, run_trees, RepliesKept, HasTaken, KeepsLimit}
 use Rattle.store_top.specs.ScriptWork.{Halfway}
-use Rattle.image_words.specs.Statuses.{Row, row, MayComeFirst}
-use Rattle.image_words.proofs.StatusLemmas.{other_than}
+use Rattle.image_subcommands.specs.Statuses.{Row, row, MayComeFirst}
+use Rattle.image_subcommands.proofs.StatusLemmas.{other_than}
 
 -- there is a reply to each line
 pub length-replies : (t : Tree) (texts : List (List ℕ)) (p : Parameters) → length (replies t texts p) ≡ length texts

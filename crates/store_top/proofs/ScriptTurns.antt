@@ -10,7 +10,7 @@ use Rattle.store_model.specs.Commands.Reply.{Refused}
 use Rattle.store_model.specs.Steps.{Step}
 use Rattle.store_model.specs.Grammar.{parse}
 use Rattle.store_model.specs.Scripts.{answer, answer_by, line_limit, script_limit, tree_after, tree_by}
-use Rattle.base_types.specs.Counts.{raised}
+use Rattle.store_base.specs.Counts.{raised}
 use Rattle.disk_model.specs.DiskState.{DiskState}
 use Rattle.script_lines.specs.SourceState.{SourceState}
 use Rattle.script_lines.specs.SinkState.{SinkState, IsPut, AppendsPrefix}
@@ -22,13 +22,13 @@ use Rattle.script_lines.specs.declared.reply.Reply.{Reply}
 use Rattle.script_lines.specs.Parsing.{reading_of}
 use Rattle.script_lines.specs.Replies.{reply_of}
 use Rattle.script_lines.proofs.StateLemmas.{Takes-trans, Answers-refl, Answers-trans}
-use Rattle.store_standing.specs.declared.fault.ApplyFault.{ApplyFault}
-use Rattle.store_standing.specs.declared.fault.ApplyFault.TheVariants as apply
+use Rattle.image_check.specs.declared.fault.ApplyFault.{ApplyFault}
+use Rattle.image_check.specs.declared.fault.ApplyFault.TheVariants as apply
 use Rattle.store_core.specs.StoreState.{StoreState}
 use Rattle.store_top.specs.declared.lines.Script.{Script}
-use Rattle.image_words.specs.declared.status.Status.{Status}
-use Rattle.image_words.specs.declared.status.Status.TheVariants as statuses
-use Rattle.image_words.specs.Endings.{line_status, apply_status, ended_status}
+use Rattle.image_subcommands.specs.declared.status.Status.{Status}
+use Rattle.image_subcommands.specs.declared.status.Status.TheVariants as statuses
+use Rattle.image_subcommands.specs.Endings.{line_status, apply_status, ended_status}
 use Rattle.store_top.specs.Runs.{reading, run_trees, ReadsLine, AnswersLines, KeepsLimit, IsUnread}
 use Rattle.store_top.specs.ScriptWork.{Halfway, KeepsEnds, ScriptTold, ScriptLive, script_trees, ScriptKept, ScriptDue, ScriptEnds}
 use Rattle.store_top.specs.Turns.{Start, start_of, RepliesTo, Stops, Asks, IsNext, Begins, AnswersAll}

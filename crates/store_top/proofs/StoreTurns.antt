@@ -10,22 +10,22 @@ use Rattle.store_model.specs.Commands.{Command}
 use Rattle.store_model.specs.Commands.Reply.{Refused}
 use Rattle.store_model.specs.Steps.{Step, step}
 use Rattle.store_model.specs.Scripts.{answer_by}
-use Rattle.base_types.specs.Counts.{raised}
+use Rattle.store_base.specs.Counts.{raised}
 use Rattle.disk_model.specs.DiskState.{DiskState, IsSound}
 use Rattle.disk_model.specs.DiskState as disks
-use Rattle.journal_steps.specs.Disks.{KeepsDisk}
+use Rattle.gate_journal.specs.Disks.{KeepsDisk}
 use Rattle.script_lines.specs.declared.reply.Reply.{Reply}
 use Rattle.script_lines.specs.Replies.{reply_of}
-use Rattle.store_standing.specs.declared.fault.ApplyFault.{ApplyFault}
-use Rattle.store_standing.specs.declared.fault.ApplyFault.TheVariants as apply
-use Rattle.store_standing.specs.Standing.{IsFitting, Stands}
+use Rattle.image_check.specs.declared.fault.ApplyFault.{ApplyFault}
+use Rattle.image_check.specs.declared.fault.ApplyFault.TheVariants as apply
+use Rattle.image_check.specs.Standing.{IsFitting, Stands}
 use Rattle.store_core.specs.StoreState.{StoreState}
 use Rattle.store_core.specs.StoreCalls.{Applies, ChangesImage}
 use Rattle.store_core.proofs.DiskLemmas.{keeps_then}
 use Rattle.store_core.proofs.Unchanged.{keeps_itself}
-use Rattle.image_words.specs.declared.status.Status.{Status}
-use Rattle.image_words.specs.declared.status.Status.TheVariants as statuses
-use Rattle.image_words.specs.Endings.{apply_status}
+use Rattle.image_subcommands.specs.declared.status.Status.{Status}
+use Rattle.image_subcommands.specs.declared.status.Status.TheVariants as statuses
+use Rattle.image_subcommands.specs.Endings.{apply_status}
 use Rattle.store_top.specs.Runs.{AnswersReading, IsReady}
 use Rattle.store_top.specs.Turns.{StoreSoFar, StoreEnds, SparesDisk}
 use Rattle.store_top.proofs.DiskTurns.{disk_start, disk_reading, disk_answered, changes_whole, changes_fault}

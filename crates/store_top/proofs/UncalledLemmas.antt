@@ -3,9 +3,9 @@ use Rattle.std.proofs.Common.{ℕ}
 use Rattle.disk_model.specs.DiskState.{DiskState, IsObservable, IsSound}
 use Rattle.script_lines.specs.SinkState.{SinkState}
 use Rattle.script_lines.specs.SourceState.{SourceState}
-use Rattle.store_standing.specs.declared.fault.AttachFault.TheVariants as faults
-use Rattle.image_words.specs.Outside.{Outside}
-use Rattle.image_words.proofs.UncalledLemmas.{without_memory}
+use Rattle.image_check.specs.declared.fault.AttachFault.TheVariants as faults
+use Rattle.image_subcommands.specs.Outside.{Outside}
+use Rattle.image_subcommands.proofs.UncalledLemmas.{without_memory}
 use Rattle.store_top.specs.BigCall.{IsBig}
 use Rattle.store_top.specs.RunCall.{IsRun}
 use Rattle.store_top.proofs.BigEnds.{big_unopened}

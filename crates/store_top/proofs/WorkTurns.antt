@@ -10,12 +10,12 @@ use Rattle.disk_model.specs.DiskState as disks
 use Rattle.script_lines.specs.declared.command.Command.{Command}
 use Rattle.script_lines.specs.declared.reply.Reply.{Reply}
 use Rattle.script_lines.specs.Parsing.{reading_of}
-use Rattle.store_standing.specs.declared.fault.ApplyFault.{ApplyFault}
-use Rattle.store_standing.specs.declared.fault.ApplyFault.TheVariants as apply
+use Rattle.image_check.specs.declared.fault.ApplyFault.{ApplyFault}
+use Rattle.image_check.specs.declared.fault.ApplyFault.TheVariants as apply
 use Rattle.store_core.specs.StoreState.{StoreState}
-use Rattle.image_words.specs.declared.status.Status.{Status}
-use Rattle.image_words.specs.declared.status.Status.TheVariants as statuses
-use Rattle.image_words.specs.Endings.{apply_status}
+use Rattle.image_subcommands.specs.declared.status.Status.{Status}
+use Rattle.image_subcommands.specs.declared.status.Status.TheVariants as statuses
+use Rattle.image_subcommands.specs.Endings.{apply_status}
 use Rattle.store_top.specs.Runs.{AnswersReading, IsReady}
 use Rattle.store_top.specs.Turns.{Start, start_of, RepliesTo, Stops, Asks, StoreSoFar, Begins, AnswersAll}
 use Rattle.store_top.proofs.StoreTurns.{is_answered, store_start, store_more, store_failed, store_ends}

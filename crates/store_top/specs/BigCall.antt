@@ -3,24 +3,24 @@ use Rattle.std.specs.Prelude.{◌≡◌, ◌⊎◌, ◌≤◌, ℕ}
 use Rattle.store_model.specs.Parameters.{Parameters}
 use Rattle.store_model.specs.Trees.{Tree}
 use Rattle.store_model.specs.Images.{Represents}
-use Rattle.base_types.specs.Counts.{Rose}
+use Rattle.store_base.specs.Counts.{Rose}
 use Rattle.disk_model.specs.DiskState.{DiskState, MayLeaveOnly}
 use Rattle.disk_model.specs.DiskState as disks
-use Rattle.journal_steps.specs.Phases.{HasEmptyJournal}
-use Rattle.journal_steps.specs.Disks.{IsOnlySynced, IsUnwritten}
+use Rattle.gate_journal.specs.Phases.{HasEmptyJournal}
+use Rattle.gate_journal.specs.Disks.{IsOnlySynced, IsUnwritten}
 use Rattle.image_check.specs.Verdicts.{HasParameters, IsNoImage, IsDamaged}
 use Rattle.script_lines.specs.SinkState.{SinkState}
 use Rattle.script_lines.specs.SinkState as sinks
 use Rattle.store_core.specs.StoreCalls.{LeavesImage}
-use Rattle.image_words.specs.declared.outcome.Outcome.{Outcome}
-use Rattle.image_words.specs.declared.status.Status.TheVariants as statuses
+use Rattle.image_subcommands.specs.declared.outcome.Outcome.{Outcome}
+use Rattle.image_subcommands.specs.declared.status.Status.TheVariants as statuses
 use Rattle.store_top.specs.Costs.{CountsRun}
 use Rattle.store_top.specs.Generations.{generated_replies, generated_trees, summary_text, PrintsSummary}
-use Rattle.image_words.specs.Outside.{Outside, IsIdle}
-use Rattle.store_standing.specs.Standing.{RepresentsSome}
+use Rattle.image_subcommands.specs.Outside.{Outside, IsIdle}
+use Rattle.image_check.specs.Standing.{RepresentsSome}
 use Rattle.store_top.specs.Promises.{PromisesImage, PromisesCrashes}
 use Rattle.store_top.specs.Runs.{IsUnchanged}
-use Rattle.image_words.specs.Statuses.{IsBigStatus, IsSummed, IsRefusedImage, IsPastHeader, IsBetweenLines, MayComeFirst, ComesExactly}
+use Rattle.image_subcommands.specs.Statuses.{IsBigStatus, IsSummed, IsRefusedImage, IsPastHeader, IsBetweenLines, MayComeFirst, ComesExactly}
 
 module _ {D R W : Type 0} (disk_of : D → DiskState) (sink_of : W → SinkState) where
   -- Commands over an image that represents the tree t.

@@ -3,13 +3,13 @@ use Rattle.std.specs.Prelude.{◌≡◌, ◌⊎◌, ℕ, zero, suc, ◌+◌}
 use Rattle.store_model.specs.Parameters.{Parameters}
 use Rattle.store_model.specs.Trees.{Tree}
 use Rattle.disk_model.specs.DiskState.{DiskState}
-use Rattle.journal_steps.specs.Disks.{IsOnlySynced}
-use Rattle.journal_steps.specs.Places.{Made}
-use Rattle.journal_steps.specs.Costs.{commit_writes, commit_syncs, opening_writes, opening_syncs, MadeAtMost}
+use Rattle.gate_journal.specs.Disks.{IsOnlySynced}
+use Rattle.gate_journal.specs.Places.{Made}
+use Rattle.gate_journal.specs.Costs.{commit_writes, commit_syncs, opening_writes, opening_syncs, MadeAtMost}
 use Rattle.store_core.specs.Changes.{slots_between}
-use Rattle.image_words.specs.declared.status.Status.{Status}
-use Rattle.image_words.specs.declared.status.Status.TheVariants as statuses
-use Rattle.image_words.specs.Statuses.{IsBetweenLines}
+use Rattle.image_subcommands.specs.declared.status.Status.{Status}
+use Rattle.image_subcommands.specs.declared.status.Status.TheVariants as statuses
+use Rattle.image_subcommands.specs.Statuses.{IsBetweenLines}
 
 -- the writes of the first n lines of a run with these trees
 abbrev pub run_writes : Parameters → (ℕ → Tree) → ℕ → ℕ

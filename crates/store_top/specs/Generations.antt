@@ -17,13 +17,13 @@ use Rattle.script_lines.specs.SinkState.{SinkState, AppendsPrefix}
 use Rattle.script_lines.specs.SinkState as sinks
 use Rattle.disk_model.specs.DiskState.{DiskState}
 use Rattle.disk_model.specs.DiskState as disks
-use Rattle.journal_steps.specs.Disks.{KeepsDisk}
+use Rattle.gate_journal.specs.Disks.{KeepsDisk}
 use Rattle.store_core.specs.StoreState.{StoreState}
-use Rattle.image_words.specs.declared.status.Status.{Status}
-use Rattle.image_words.specs.declared.status.Status.TheVariants as statuses
+use Rattle.image_subcommands.specs.declared.status.Status.{Status}
+use Rattle.image_subcommands.specs.declared.status.Status.TheVariants as statuses
 use Rattle.store_top.specs.declared.generated.Generated.{Generated}
 use Rattle.store_top.specs.Runs.{ChangesByLines}
-use Rattle.image_words.specs.Statuses.{IsEndOfBig, IsSummed, disk_faults_by, sink_faults_by}
+use Rattle.image_subcommands.specs.Statuses.{IsEndOfBig, IsSummed, disk_faults_by, sink_faults_by}
 use Rattle.store_top.specs.Turns.{Start}
 
 -- the first commands that a number gives

@@ -12,11 +12,11 @@ use Rattle.store_model.specs.Scripts.{replies_text, script_limit}
 use Rattle.disk_model.specs.DiskState.{DiskState, MayLeaveOnly, IsDurable}
 use Rattle.disk_model.specs.DiskCalls.{LeavesOnly}
 use Rattle.script_lines.specs.Lines.{ended_lines}
-use Rattle.image_words.specs.declared.status.Status.{Status}
-use Rattle.image_words.specs.declared.status.Status.TheVariants as statuses
-use Rattle.journal_steps.specs.Disks.{IsOnlySynced}
-use Rattle.store_standing.specs.Standing.{Stands}
-use Rattle.image_words.specs.Statuses.{IsBetweenLines, IsCutShort}
+use Rattle.image_subcommands.specs.declared.status.Status.{Status}
+use Rattle.image_subcommands.specs.declared.status.Status.TheVariants as statuses
+use Rattle.gate_journal.specs.Disks.{IsOnlySynced}
+use Rattle.image_check.specs.Standing.{Stands}
+use Rattle.image_subcommands.specs.Statuses.{IsBetweenLines, IsCutShort}
 
 -- some bytes of a text, from its front on
 pub record IsFrontOf (part text : List ℕ) : Type 0 where

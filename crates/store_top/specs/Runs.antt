@@ -11,7 +11,7 @@ use Rattle.store_model.specs.Grammar.{parse}
 use Rattle.store_model.specs.Scripts.{lines, line_limit, script_limit, replies, tree_after}
 use Rattle.disk_model.specs.DiskState.{DiskState}
 use Rattle.disk_model.specs.DiskState as disks
-use Rattle.journal_steps.specs.Places.{ReadsOnly}
+use Rattle.gate_journal.specs.Places.{ReadsOnly}
 use Rattle.script_lines.specs.SourceState.{SourceState}
 use Rattle.script_lines.specs.SourceState as sources
 use Rattle.script_lines.specs.SinkState.{SinkState}
@@ -23,16 +23,16 @@ use Rattle.script_lines.specs.declared.command.Command.{Command}
 use Rattle.script_lines.specs.declared.reply.Reply.{Reply}
 use Rattle.script_lines.specs.Parsing.{reading_of}
 use Rattle.script_lines.specs.Replies.{reply_of}
-use Rattle.store_standing.specs.declared.fault.ApplyFault.{ApplyFault}
-use Rattle.store_standing.specs.Standing.{IsFitting, Stands}
+use Rattle.image_check.specs.declared.fault.ApplyFault.{ApplyFault}
+use Rattle.image_check.specs.Standing.{IsFitting, Stands}
 use Rattle.store_core.specs.StoreState.{StoreState}
 use Rattle.store_core.specs.StoreCalls.{Applies}
-use Rattle.image_words.specs.declared.status.Status.{Status}
-use Rattle.image_words.specs.declared.status.Status.TheVariants as statuses
+use Rattle.image_subcommands.specs.declared.status.Status.{Status}
+use Rattle.image_subcommands.specs.declared.status.Status.TheVariants as statuses
 use Rattle.store_top.specs.Costs.{CountsLines}
-use Rattle.image_words.specs.Outside.{KeepsOutside}
+use Rattle.image_subcommands.specs.Outside.{KeepsOutside}
 use Rattle.store_top.specs.Promises.{PromisesReplies, CountsReplies, PromisesCrashes}
-use Rattle.image_words.specs.Statuses.{IsEndOfRun}
+use Rattle.image_subcommands.specs.Statuses.{IsEndOfRun}
 
 -- the replies to the lines of a script
 abbrev pub run_replies : Tree → List ℕ → Parameters → List model.Reply

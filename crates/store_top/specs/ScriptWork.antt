@@ -10,10 +10,10 @@ use Rattle.script_lines.specs.SinkState.{SinkState}
 use Rattle.script_lines.specs.LineState.{LineState, Answers, left}
 use Rattle.script_lines.specs.declared.command.Command.{Command}
 use Rattle.store_top.specs.declared.lines.Script.{Script}
-use Rattle.image_words.specs.declared.status.Status.{Status}
-use Rattle.image_words.specs.declared.status.Status.TheVariants as statuses
+use Rattle.image_subcommands.specs.declared.status.Status.{Status}
+use Rattle.image_subcommands.specs.declared.status.Status.TheVariants as statuses
 use Rattle.store_top.specs.Runs.{ReadsLine, RepliesKept, KeepsLimit, IsUnread, run_replies, run_trees}
-use Rattle.image_words.specs.Statuses.{IsEndOfRun, source_faults_by, sink_faults_by}
+use Rattle.image_subcommands.specs.Statuses.{IsEndOfRun, source_faults_by, sink_faults_by}
 use Rattle.store_top.specs.Turns.{Start}
 
 -- the lines that were answered from the start of a script on, with the tree after them and what was written

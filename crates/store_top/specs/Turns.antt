@@ -11,23 +11,23 @@ use Rattle.store_model.specs.declared.refusal.Refusal.{Refusal}
 use Rattle.disk_model.specs.DiskState.{DiskState}
 use Rattle.disk_model.specs.DiskState as disks
 use Rattle.disk_model.specs.DiskCalls.{LeavesOnly}
-use Rattle.journal_steps.specs.Disks.{KeepsDisk}
-use Rattle.journal_steps.specs.Places.{Made, ReadsOnly}
+use Rattle.gate_journal.specs.Disks.{KeepsDisk}
+use Rattle.gate_journal.specs.Places.{Made, ReadsOnly}
 use Rattle.script_lines.specs.declared.command.Command.{Command}
 use Rattle.script_lines.specs.declared.reply.Reply.{Reply}
 use Rattle.script_lines.specs.InPlace.{in_place}
 use Rattle.script_lines.specs.Parsing.{reading_of}
 use Rattle.script_lines.specs.Replies.{reply_of}
-use Rattle.store_standing.specs.declared.fault.ApplyFault.{ApplyFault}
-use Rattle.store_standing.specs.Standing.{Stands}
+use Rattle.image_check.specs.declared.fault.ApplyFault.{ApplyFault}
+use Rattle.image_check.specs.Standing.{Stands}
 use Rattle.store_core.specs.StoreState.{StoreState}
-use Rattle.image_words.specs.declared.status.Status.{Status}
-use Rattle.image_words.specs.declared.status.Status.TheVariants as statuses
+use Rattle.image_subcommands.specs.declared.status.Status.{Status}
+use Rattle.image_subcommands.specs.declared.status.Status.TheVariants as statuses
 use Rattle.store_top.specs.Costs.{run_writes, run_syncs}
-use Rattle.image_words.specs.Endings.{apply_status, ended_status}
+use Rattle.image_subcommands.specs.Endings.{apply_status, ended_status}
 use Rattle.store_top.specs.Promises.{RepresentsOneOf}
 use Rattle.store_top.specs.Runs.{ChangesByLines, IsUnchanged}
-use Rattle.image_words.specs.Statuses.{disk_faults_by}
+use Rattle.image_subcommands.specs.Statuses.{disk_faults_by}
 
 -- ---- the work
 

@@ -5,23 +5,23 @@ ghost use Rattle.store_model.specs.Parameters.{Parameters};
 ghost use Rattle.store_model.specs.Words.{request_of};
 ghost use Rattle.store_model.specs.Words.Request.{Format, Run, Check, Scrub, Wipe, Big};
 ghost use Rattle.store_top.specs.BigCall.{IsBig};
-ghost use Rattle.image_words.specs.CheckCall.{IsCheck};
-ghost use Rattle.image_words.specs.FormatCall.{IsFormat};
-ghost use Rattle.image_words.specs.Outside.{KeepsOutside, CallsNothing, outside_of};
+ghost use Rattle.image_subcommands.specs.CheckCall.{IsCheck};
+ghost use Rattle.image_subcommands.specs.FormatCall.{IsFormat};
+ghost use Rattle.image_subcommands.specs.Outside.{KeepsOutside, CallsNothing, outside_of};
 ghost use Rattle.store_top.specs.RunCall.{IsRun};
-ghost use Rattle.image_words.specs.ScrubCall.{IsScrub};
-ghost use Rattle.image_words.specs.WipeCall.{IsWipe};
-ghost use Rattle.store_words.specs.Requests.{request_seen};
+ghost use Rattle.image_subcommands.specs.ScrubCall.{IsScrub};
+ghost use Rattle.image_subcommands.specs.WipeCall.{IsWipe};
+ghost use Rattle.command_line.specs.Requests.{request_seen};
 
 use crate::big::big;
 use crate::run::run;
 use crate::uncalled::{no_memory, usage};
-use base_types::NoMemory;
+use command_line::{Request, Words};
 use disk_model::Disk;
-use image_words::{Outcome, Status, check_disk, format_disk, scrub_disk, wipe_disk};
+use image_subcommands::{Outcome, Status, check_disk, format_disk, scrub_disk, wipe_disk};
 use script_lines::{Sink, Source};
 use std::alloc::Global;
-use store_words::{Request, Words};
+use store_base::NoMemory;
 
 /// Carries out the words of a command line on a disk: `format` makes the image of the empty tree, `run` answers the script
 /// that the source has and writes the replies to the sink, `check` prints a line that tells what the disk holds, `scrub`

@@ -5,7 +5,7 @@ ghost use Rattle.script_lines.specs.Replies.{reply_of};
 ghost use Rattle.store_top.specs.Generations.{count_refused};
 
 use crate::work::Work;
-use image_words::Status;
+use image_subcommands::Status;
 use script_lines::{Command, Generator, Reply};
 use store_model::Refusal;
 

@@ -14,5 +14,5 @@ mod uncalled;
 mod work;
 
 pub use call::top;
-pub use image_words::{Outcome, Status};
-pub use store_words::{Wanted, Words, wanted_len};
+pub use command_line::{Wanted, Words, wanted_len};
+pub use image_subcommands::{Outcome, Status};

@@ -5,7 +5,7 @@ ghost use Rattle.store_top.specs.Runs.{ReadsLine};
 ghost use Rattle.store_top.specs.Turns.{asked_in};
 
 use crate::work::Work;
-use image_words::Status;
+use image_subcommands::Status;
 use script_lines::{
     Command, Line, LineFault, LineReader, Reply, Sink, Source, read_command, write_reply,
 };

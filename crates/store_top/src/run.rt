@@ -1,14 +1,14 @@
 //! The word `run`: opens an image and answers a script.
 
 ghost use Rattle.std.specs.Prelude.{◌≡◌};
-ghost use Rattle.image_words.specs.Endings.{ended_status};
-ghost use Rattle.image_words.specs.Outside.{KeepsOutside, outside_of};
+ghost use Rattle.image_subcommands.specs.Endings.{ended_status};
+ghost use Rattle.image_subcommands.specs.Outside.{KeepsOutside, outside_of};
 ghost use Rattle.store_top.specs.RunCall.{IsRun};
 
 use crate::lines::Script;
 use crate::work::answer_all;
 use disk_model::Disk;
-use image_words::{Outcome, Status};
+use image_subcommands::{Outcome, Status};
 use script_lines::{LineReader, Sink, Source};
 use std::alloc::Global;
 use store_core::Store;

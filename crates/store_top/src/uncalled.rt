@@ -3,15 +3,15 @@
 ghost use Rattle.std.specs.Prelude.{◌≡◌, ℕ};
 ghost use Rattle.store_model.specs.Parameters.{Parameters};
 ghost use Rattle.store_top.specs.BigCall.{IsBig};
-ghost use Rattle.image_words.specs.CheckCall.{IsCheck};
-ghost use Rattle.image_words.specs.FormatCall.{IsFormat};
-ghost use Rattle.image_words.specs.Outside.{KeepsOutside, CallsNothing, outside_of};
+ghost use Rattle.image_subcommands.specs.CheckCall.{IsCheck};
+ghost use Rattle.image_subcommands.specs.FormatCall.{IsFormat};
+ghost use Rattle.image_subcommands.specs.Outside.{KeepsOutside, CallsNothing, outside_of};
 ghost use Rattle.store_top.specs.RunCall.{IsRun};
-ghost use Rattle.image_words.specs.ScrubCall.{IsScrub};
-ghost use Rattle.image_words.specs.WipeCall.{IsWipe};
+ghost use Rattle.image_subcommands.specs.ScrubCall.{IsScrub};
+ghost use Rattle.image_subcommands.specs.WipeCall.{IsWipe};
 
 use disk_model::Disk;
-use image_words::{Outcome, Status};
+use image_subcommands::{Outcome, Status};
 use script_lines::{Sink, Source};
 
 /// The words are not well formed.

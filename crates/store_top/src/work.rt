@@ -7,7 +7,7 @@ ghost use Rattle.store_top.specs.Runs.{AnswersReading, IsReady};
 ghost use Rattle.store_top.specs.Turns.{Begins, AnswersAll};
 
 use disk_model::Disk;
-use image_words::Status;
+use image_subcommands::Status;
 use script_lines::{Command, Reply};
 use store_core::{ApplyFault, Store};
 use store_model::Refusal;
@@ -21,7 +21,7 @@ pub trait Work {
     ghost use Rattle.store_model.specs.Trees.{Tree};
     ghost use Rattle.store_model.specs.declared.refusal.Refusal.{Refusal};
     ghost use Rattle.script_lines.specs.declared.command.Command.{Command};
-    ghost use Rattle.image_words.specs.declared.status.Status.{Status};
+    ghost use Rattle.image_subcommands.specs.declared.status.Status.{Status};
     ghost use Rattle.store_top.specs.Turns.{Start, FallsAt, IsNext, IsTurn, RepliesTo, asked_in};
 
     /// Whether it tells what it will ask for.

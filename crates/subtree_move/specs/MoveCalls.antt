@@ -7,8 +7,8 @@ use Rattle.store_model.specs.Pairs.{pairs}
 use Rattle.store_model.specs.Trees.{Tree}
 use Rattle.store_model.specs.Commands.Command.{Rename}
 use Rattle.store_model.specs.Steps.{refusal_of, next_tree, outgrows}
-use Rattle.base_types.specs.declared.store_fault.Fault.{Fault}
-use Rattle.base_types.specs.Faults.{disk_faults_after}
+use Rattle.store_base.specs.declared.store_fault.Fault.{Fault}
+use Rattle.store_base.specs.Faults.{disk_faults_after}
 use Rattle.ordered_pairs.specs.PairsState.{PairsState, IsObservable, without}
 use Rattle.tree_pairs.specs.TreeCalls.{HoldsTree, KeepsPairs}
 use Rattle.dir_tree.specs.declared.subtree.Block.{Block}

@@ -8,10 +8,10 @@ ghost use Rattle.tree_pairs.specs.TreeCalls.{CarriesOut};
 ghost use Rattle.dir_tree.specs.RefusalCalls.{TellsRefusal};
 ghost use Rattle.subtree_move.specs.MoveCalls.{TellsGrowth, MovesBlock, MovesSubtree};
 
-use base_types::{Answer, Fault};
 use dir_tree::{Block, Kind, kind_of, next_within, refusal_to_make};
 use ordered_pairs::OrderedPairs;
 use path_keys::Path;
+use store_base::{Answer, Fault};
 use store_model::Refusal;
 
 /// Moves what stands at `from`, and all that lies below it, to `to`.

@@ -5,10 +5,10 @@ ghost use Rattle.store_model.specs.Commands.Reply.{Acknowledged};
 ghost use Rattle.tree_pairs.specs.TreeCalls.{CarriesOut};
 ghost use Rattle.dir_tree.specs.RefusalCalls.{TellsRefusal};
 
-use base_types::{Answer, Fault};
 use dir_tree::{Kind, kind_of, take_subtree};
 use ordered_pairs::OrderedPairs;
 use path_keys::Path;
+use store_base::{Answer, Fault};
 use store_model::Refusal;
 
 /// Removes what stands at the path and all that lies below it.

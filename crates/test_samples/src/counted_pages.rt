@@ -2,10 +2,9 @@
 
 ghost use Rattle.std.specs.Prelude.{◌≤◌, length};
 
-use base_types::Fault;
 use node_pages::{Cell, Page, Pages};
-use page_labels::Label;
 use std::alloc::Global;
+use store_base::{Fault, Label};
 
 /// Pages in memory by rising label, found by halving as in `MapPages`, that count the calls on them. Contracts know
 /// nothing of them, so that every call may be made on a list over them.

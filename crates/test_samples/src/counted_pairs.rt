@@ -2,10 +2,9 @@
 
 ghost use Rattle.std.specs.Prelude.{◌≡◌, ◌≤◌, length};
 
-use base_types::{Fault, Value};
 use ordered_pairs::OrderedPairs;
-use page_labels::Key;
 use std::alloc::Global;
+use store_base::{Fault, Key, Value};
 
 /// Pairs in memory by rising key, found by halving as in `MapPairs`, that count the calls on them. Contracts know nothing of
 /// them, so that every call may be made.

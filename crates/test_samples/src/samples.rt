@@ -4,9 +4,9 @@ ghost use Rattle.std.specs.Prelude.{◌≡◌, ◌-◌, ◌≤◌, ◌++◌, len
 ghost use Rattle.store_model.specs.Lists.{zeros};
 ghost use Rattle.store_model.specs.Labels as model;
 ghost use Rattle.store_model.specs.Labels.{IsLabel};
-ghost use Rattle.page_labels.specs.Keys.{IsKey};
+ghost use Rattle.store_base.specs.Keys.{IsKey};
 
-use page_labels::{Key, Label, Lead};
+use store_base::{Key, Label, Lead};
 use store_model::{BLOCK, Slot};
 
 /// The bytes other than zeros of the slot of page (0, start, 0) with the directory /a alone.

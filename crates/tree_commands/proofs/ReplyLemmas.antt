@@ -3,7 +3,7 @@ use Rattle.std.proofs.Common.{Result, Ok, Err}
 use Rattle.store_model.specs.declared.refusal.Refusal.{Refusal}
 use Rattle.store_model.specs.Commands.{Command}
 use Rattle.store_model.specs.Commands.Reply.{Acknowledged}
-use Rattle.base_types.specs.declared.store_fault.Fault.{Fault}
+use Rattle.store_base.specs.declared.store_fault.Fault.{Fault}
 use Rattle.ordered_pairs.specs.PairsState.{PairsState}
 use Rattle.tree_pairs.specs.TreeCalls.{CarriesOut}
 use Rattle.tree_commands.specs.Answers.{AnswersBy, change_reply}

@@ -8,12 +8,12 @@ ghost use Rattle.script_lines.specs.Parsing.{command_of};
 ghost use Rattle.tree_pairs.specs.TreeCalls.{CarriesOut, HasRoom};
 ghost use Rattle.tree_commands.specs.Answers.{is_change};
 
-use base_types::{Answer, Bytes, Fault};
 use dir_tree::{make, remove};
 use file_blocks::{cut, write_at};
 use ordered_pairs::OrderedPairs;
 use path_keys::Path;
 use script_lines::Command;
+use store_base::{Answer, Bytes, Fault};
 use store_model::Refusal;
 use subtree_move::{prune, rename};
 use tree_pairs::{Kind, kind_of};

@@ -6,13 +6,13 @@ ghost use Rattle.script_lines.specs.InPlace.{in_place};
 ghost use Rattle.script_lines.specs.Parsing.{command_of};
 ghost use Rattle.tree_commands.specs.Answers.{is_look, AnswersBy};
 
-use base_types::Fault;
 use dir_tree::list;
 use file_blocks::read_at;
 use ordered_pairs::OrderedPairs;
 use path_keys::Path;
 use script_lines::{Command, Reply};
 use std::alloc::Global;
+use store_base::Fault;
 
 /// Answers a command by the pairs, and puts the reply in the place of another. A fault of the pairs is handed on; nothing is
 /// promised of the pairs after it.

@@ -6,10 +6,10 @@ ghost use Rattle.ordered_pairs.specs.PairsState.{IsObservable};
 ghost use Rattle.tree_pairs.specs.TreeCalls.{TellsKind};
 ghost use Rattle.tree_pairs.specs.declared.kind.Kind.TheVariants as kinds;
 
-use base_types::{Fault, Value};
 use byteorder::{BigEndian, ByteOrder};
 use ordered_pairs::OrderedPairs;
 use path_keys::Path;
+use store_base::{Fault, Value};
 
 /// The byte that a directory's value has.
 const DIRECTORY: u8 = 1;

@@ -2,9 +2,9 @@
 
 use super::support::expect;
 use clap::Command;
+use command_line::{Word, command, word_command};
 use std::alloc::Global;
 use std::process::Abort;
-use store_words::{Word, command, word_command};
 
 /// What a word is called with what stands before it on a command line, in the order of the help; first the command line itself.
 static WORDS: [(Option<Word>, &str); 7] = [

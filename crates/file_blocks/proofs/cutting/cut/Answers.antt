@@ -4,7 +4,7 @@ use Rattle.store_model.specs.Commands.Command.{Cut}
 use Rattle.store_model.specs.Commands.Reply.{Acknowledged}
 use Rattle.store_model.specs.Steps.{first_refusal, refusal_of, reply_of}
 use Rattle.tree_pairs.specs.Blocks.{tree_blocks}
-use Rattle.base_types.specs.Faults.{disk_faults_after}
+use Rattle.store_base.specs.Faults.{disk_faults_after}
 use Rattle.tree_pairs.proofs.CallLemmas.{step_done}
 use Rattle.file_blocks.specs.FileCalls.{HasFile}
 use Rattle.file_blocks.specs.Refusals.{cut_conditions, size_of}

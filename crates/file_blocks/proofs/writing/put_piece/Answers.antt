@@ -1,5 +1,5 @@
 use Rattle.std.proofs.Common.{◌∙◌, ap, arith, ◌+◌, ◌/◌, refl}
-use Rattle.base_types.specs.Faults.{disk_faults_after}
+use Rattle.store_base.specs.Faults.{disk_faults_after}
 use Rattle.file_blocks.proofs.FileLemmas.{on_ok, added_by_put, piece_put, whole_put, run_covered}
 use Rattle.file_blocks.proofs.writing.put_piece.Goals as goal
 

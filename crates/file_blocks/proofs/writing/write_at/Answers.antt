@@ -5,7 +5,7 @@ use Rattle.store_model.specs.Commands.Reply.{Acknowledged}
 use Rattle.store_model.specs.Steps.{first_refusal, reply_of}
 use Rattle.tree_pairs.specs.declared.kind.Kind.TheVariants as kinds
 use Rattle.tree_pairs.specs.Kinds.{kind_of_node}
-use Rattle.base_types.specs.Faults.{disk_faults_after}
+use Rattle.store_base.specs.Faults.{disk_faults_after}
 use Rattle.tree_pairs.proofs.CallLemmas.{step_done}
 use Rattle.file_blocks.specs.Refusals.{write_conditions, size_of}
 use Rattle.file_blocks.proofs.CarryLemmas.{carries_fault, refusal-write, size_of-node, write_fits, written, refused_by_kind, pairs-write, pairs-write_within}

@@ -1,7 +1,7 @@
 -- Each path of the commit: the phases that it went through leave only such images.
 use Rattle.std.proofs.Common.{arith}
-use Rattle.journal_steps.proofs.Areas.{marks_end, shadow_end, table_end}
-use Rattle.journal_steps.proofs.Stages.{begins, leaves_journaling, stage_journaled, leaves_flagging, stage_flagged, leaves_redoing, stage_redone, leaves_clearing, stage_cleared, commits_fault, commits}
+use Rattle.gate_journal.proofs.Areas.{marks_end, shadow_end, table_end}
+use Rattle.gate_journal.proofs.Stages.{begins, leaves_journaling, stage_journaled, leaves_flagging, stage_flagged, leaves_redoing, stage_redone, leaves_clearing, stage_cleared, commits_fault, commits}
 use Rattle.gate_journal.proofs.commit.commit_changes.Goals as goal
 
 pub write_flag-requires : goal.write_flag-requires

@@ -1,7 +1,7 @@
 use Rattle.std.proofs.Common.{◌≡◌, ◌*◌, ◌<◌, arith, rules}
-use Rattle.journal_steps.specs.Changes.{Changes}
+use Rattle.gate_journal.specs.Changes.{Changes}
 use Rattle.gate_journal.specs.Passes.{slot_writes, OutsideWrite, OutsidePass, HasPassed}
-use Rattle.journal_steps.proofs.Calls.{observable_after}
+use Rattle.gate_journal.proofs.Calls.{observable_after}
 use Rattle.gate_journal.proofs.Loops.{pass_step, outside_one, comes_short, comes_to}
 use Rattle.gate_journal.proofs.commit.write_slots.Goals as goal
 

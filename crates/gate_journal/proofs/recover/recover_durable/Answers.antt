@@ -1,9 +1,9 @@
 use Rattle.std.proofs.Common.{◌+◌, ◌∙◌, ap, arith}
-use Rattle.journal_steps.specs.Recovery.{erase_writes, redo_writes, redo_syncs}
-use Rattle.journal_steps.proofs.Counting.{erase_same}
+use Rattle.gate_journal.specs.Recovery.{erase_writes, redo_writes, redo_syncs}
+use Rattle.gate_journal.proofs.Counting.{erase_same}
 use Rattle.std.proofs.lemmas.Bool.{both_ways}
-use Rattle.journal_steps.proofs.Calls.{AreCalls-one, AreCalls-answered, AreCalls-then, AreCalls-fault, observable_after, Made-reads, Made-then, Makes-exactly, Makes-then, Makes-as, Makes-short}
-use Rattle.journal_steps.proofs.Recoveries.{leaves_reading, leaves_settling, recovers_empty, recovers_erased, recovers_fault}
+use Rattle.gate_journal.proofs.Calls.{AreCalls-one, AreCalls-answered, AreCalls-then, AreCalls-fault, observable_after, Made-reads, Made-then, Makes-exactly, Makes-then, Makes-as, Makes-short}
+use Rattle.gate_journal.proofs.Recoveries.{leaves_reading, leaves_settling, recovers_empty, recovers_erased, recovers_fault}
 use Rattle.gate_journal.proofs.recover.recover_durable.Goals as goal
 
 pub returns-in_err-is_journal_zero-clause-calls : goal.returns-in_err-is_journal_zero-clause-calls

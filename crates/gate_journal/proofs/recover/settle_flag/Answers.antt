@@ -1,14 +1,14 @@
 use Rattle.std.proofs.Common.{ℕ, ◌+◌, List, true, false, sym, ap, inr, subst, ◌∙◌, arith}
 use Rattle.disk_model.specs.DiskState.{DiskState}
-use Rattle.journal_steps.specs.Places.{IsApart, SameAt, Keeps, ReadsOnly}
-use Rattle.journal_steps.specs.Recovery.{IsBehindFlag, OutsideMarked, marked_count, redo_writes, redo_syncs}
-use Rattle.journal_steps.proofs.Counting.{redo_when}
-use Rattle.journal_steps.proofs.Places.{SameAt-trans, SameAt-weaken}
-use Rattle.journal_steps.proofs.Redoing.{before_table}
+use Rattle.gate_journal.specs.Places.{IsApart, SameAt, Keeps, ReadsOnly}
+use Rattle.gate_journal.specs.Recovery.{IsBehindFlag, OutsideMarked, marked_count, redo_writes, redo_syncs}
+use Rattle.gate_journal.proofs.Counting.{redo_when}
+use Rattle.gate_journal.proofs.Places.{SameAt-trans, SameAt-weaken}
+use Rattle.gate_journal.proofs.Redoing.{before_table}
 use Rattle.disk_model.proofs.Crashes.{IsObservable-call}
-use Rattle.journal_steps.proofs.Areas.{marks_end, shadow_end, table_end}
-use Rattle.journal_steps.proofs.Calls.{observable_after, Made-reads, Made-then, Makes-reads, Makes-then, Makes-as, Makes-short}
-use Rattle.journal_steps.proofs.Recoveries.{settles_clear, settles_fault, leaves_redoing, settles_cleared}
+use Rattle.gate_journal.proofs.Areas.{marks_end, shadow_end, table_end}
+use Rattle.gate_journal.proofs.Calls.{observable_after, Made-reads, Made-then, Makes-reads, Makes-then, Makes-as, Makes-short}
+use Rattle.gate_journal.proofs.Recoveries.{settles_clear, settles_fault, leaves_redoing, settles_cleared}
 use Rattle.gate_journal.proofs.recover.settle_flag.Goals as goal
 
 pub is_flag_set-requires : goal.is_flag_set-requires

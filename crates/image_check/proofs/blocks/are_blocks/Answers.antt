@@ -4,7 +4,7 @@ use Rattle.std.proofs.lemmas.Option.{slice_get_read}
 use Rattle.store_model.specs.Lists.{run_count}
 use Rattle.store_model.specs.Pairs.{Pair, file_block}
 use Rattle.image_check.proofs.FileBlocks.{AreRead, read_none, read_more, block_is}
-use Rattle.layout_compare.proofs.ComparedSlots.{differ_bytes, same_bytes_by_test}
+use Rattle.layout_scratch.proofs.ComparedSlots.{differ_bytes, same_bytes_by_test}
 use Rattle.image_check.proofs.blocks.are_blocks.Goals as goal
 use Rattle.image_check.proofs.blocks.are_blocks.Goals.{then-ne-via-then-ne, then-ne-via-else-ne+then-as_slice-expected}
 

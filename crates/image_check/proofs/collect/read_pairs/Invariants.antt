@@ -2,9 +2,9 @@ use Rattle.std.proofs.Common.{◌≡◌, ◌*◌, ◌≤◌, length, take}
 use Rattle.std.specs.List.{AllByRecursion}
 use Rattle.store_model.specs.Images.{slots_of}
 use Rattle.store_model.specs.Placement.{Table}
-use Rattle.base_types.specs.SlotsState.{IsObservable}
+use Rattle.store_base.specs.SlotsState.{IsObservable}
 use Rattle.image_check.specs.Collected.{MayHold, pairs_of}
-use Rattle.layout_compare.proofs.ReadLemmas.{ReadSoFar}
+use Rattle.layout_scratch.proofs.ReadLemmas.{ReadSoFar}
 use Rattle.image_check.proofs.collect.read_pairs.Given as goal
 
 -- the slots were only read, and the pairs are those of the slots so far

@@ -2,7 +2,7 @@ use Rattle.std.proofs.Common.{◌++◌, ◌∷◌, [], take, length, sym, ap, �
 use Rattle.std.specs.Prelude.{slice_get}
 use Rattle.std.proofs.lemmas.List.{take_all}
 use Rattle.store_model.specs.Pages.{group_pages}
-use Rattle.page_labels.specs.Leads.{lead_of}
+use Rattle.store_base.specs.Leads.{lead_of}
 use Rattle.node_pages.proofs.Runs.{runs_few, length-pages_from, all_pages}
 use Rattle.node_pages.proofs.Joined.{take_next}
 use Rattle.node_pages.proofs.group.append_group.Goals as goal

@@ -1,6 +1,6 @@
 use Rattle.std.proofs.Common.{◌≡◌, ◌++◌, take}
 use Rattle.store_model.specs.Pages.{group_pages}
-use Rattle.page_labels.specs.Leads.{lead_of}
+use Rattle.store_base.specs.Leads.{lead_of}
 use Rattle.node_pages.proofs.group.append_group.Given as goal
 
 abbrev pub invariant-loop-index : goal.invariant-loop-index

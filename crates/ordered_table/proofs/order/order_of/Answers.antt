@@ -3,7 +3,7 @@ use Rattle.std.proofs.lemmas.List.{get_or-replicate}
 use Rattle.std.specs.Ordering.{nat_cmp}
 use Rattle.std.specs.Cmp.Lexicographic.{slice_cmp}
 use Rattle.store_model.specs.Images.{slot_bytes}
-use Rattle.page_values.proofs.PageBytes.{shown}
+use Rattle.node_pages.proofs.PageBytes.{shown}
 use Rattle.ordered_table.proofs.order.order_of.Goals as goal
 
 pub returns-then-slot-ne1 : goal.returns-then-slot-ne1

@@ -1,6 +1,6 @@
 use Rattle.std.proofs.Common.{◌∙◌}
-use Rattle.slot_memory.specs.Caches.{changes_of}
-use Rattle.slot_memory.proofs.CacheLemmas.{cache_committed, cache_empty}
+use Rattle.table_memory.specs.Caches.{changes_of}
+use Rattle.table_memory.proofs.CacheLemmas.{cache_committed, cache_empty}
 use Rattle.page_store.proofs.commit.commit_slots.Goals as goal
 
 pub returns-in-Ok : goal.returns-in-Ok

@@ -1,8 +1,8 @@
 use Rattle.std.proofs.Common.{◌≡◌, ◌<◌, ℕ, List, Some, sym, ap, subst, ◌∙◌}
 use Rattle.store_model.specs.Parameters.{image_len}
-use Rattle.slot_memory.specs.Caches.{IsCacheOf}
-use Rattle.slot_memory.specs.OverlayState.{touched_at}
-use Rattle.changed_slots.specs.Comparing.{FindsChanges}
+use Rattle.table_memory.specs.Caches.{IsCacheOf}
+use Rattle.table_memory.specs.OverlayState.{touched_at}
+use Rattle.table_memory.specs.Comparing.{FindsChanges}
 use Rattle.page_store.proofs.FindLemmas.{slots_found}
 use Rattle.page_store.proofs.compare.find_slots.Goals as goal
 

@@ -3,8 +3,8 @@ use Rattle.std.specs.BTreeMap.{insert_entry}
 use Rattle.std.proofs.lemmas.Result.{on_ok_weaker}
 use Rattle.store_model.specs.Labels.{label_cmp}
 use Rattle.store_model.specs.Pages.{Page}
-use Rattle.page_values.specs.Insertions.{TakesCell, with_cell}
-use Rattle.slot_memory.specs.Memos.{IsRemembered}
+use Rattle.node_pages.specs.Insertions.{TakesCell, with_cell}
+use Rattle.table_memory.specs.Memos.{IsRemembered}
 use Rattle.page_store.proofs.CellCalls.{put_cell}
 use Rattle.page_store.proofs.staged.insert_remembered.Goals as goal
 

@@ -1,7 +1,7 @@
 use Rattle.std.proofs.Common.{◌≡◌, ℕ, length, sym, ap, ◌∙◌}
 use Rattle.store_model.specs.Parameters.{image_len}
-use Rattle.journal_steps.specs.Phases.{table_slot}
-use Rattle.journal_steps.proofs.Calls.{observable_after}
+use Rattle.gate_journal.specs.Phases.{table_slot}
+use Rattle.gate_journal.proofs.Calls.{observable_after}
 use Rattle.scrub_free.specs.FreeSlots.{is_unclean}
 use Rattle.scrub_free.proofs.Clean.{recovered_clean}
 use Rattle.scrub_free.proofs.Stages.{scrubs_unrecovered, scrubs_recovered, counts_unrecovered, counts_recovered}

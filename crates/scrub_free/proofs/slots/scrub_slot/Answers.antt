@@ -6,11 +6,11 @@ use Rattle.store_model.specs.Images.{bytes_at, scrubbed_block}
 use Rattle.disk_model.specs.DiskCalls.{overwrite}
 use Rattle.disk_model.proofs.Crashes.{IsObservable-call}
 use Rattle.disk_model.proofs.Images.{SameOutside-overwrite}
-use Rattle.journal_steps.specs.Places.{IsApart, IsZeroAt}
-use Rattle.journal_steps.specs.Phases.{table_slot}
-use Rattle.journal_steps.proofs.Places.{Keeps-read}
-use Rattle.journal_steps.proofs.Calls.{Reaches-write, Reaches-then, Made-reads, Makes-reads, Makes-as, Makes-then, Makes-write}
-use Rattle.journal_steps.proofs.Reading.{zero_written, zero_more, ReadsOnly-read}
+use Rattle.gate_journal.specs.Places.{IsApart, IsZeroAt}
+use Rattle.gate_journal.specs.Phases.{table_slot}
+use Rattle.gate_journal.proofs.Places.{Keeps-read}
+use Rattle.gate_journal.proofs.Calls.{Reaches-write, Reaches-then, Made-reads, Makes-reads, Makes-as, Makes-then, Makes-write}
+use Rattle.gate_journal.proofs.Reading.{zero_written, zero_more, ReadsOnly-read}
 use Rattle.scrub_free.specs.FreeSlots.{OutsideFreeSlot, is_unclean, block_writes}
 use Rattle.scrub_free.proofs.Blocks.{free_block, clean_block, unclean_free, zero_bytes}
 use Rattle.scrub_free.proofs.Free.{slot_first}

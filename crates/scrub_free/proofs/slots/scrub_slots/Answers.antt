@@ -1,7 +1,7 @@
 use Rattle.std.proofs.Common.{◌≡◌, ◌+◌, ◌≤◌, refl, sym, ap, arith, rules}
-use Rattle.journal_steps.specs.Phases.{table_slot}
-use Rattle.journal_steps.proofs.Places.{Keeps-refl}
-use Rattle.journal_steps.proofs.Calls.{observable_after, Reaches-fault, Made-none, Made-as, Makes-then, Makes-as, Makes-short, Makes-sync}
+use Rattle.gate_journal.specs.Phases.{table_slot}
+use Rattle.gate_journal.proofs.Places.{Keeps-refl}
+use Rattle.gate_journal.proofs.Calls.{observable_after, Reaches-fault, Made-none, Made-as, Makes-then, Makes-as, Makes-short, Makes-sync}
 use Rattle.gate_journal.proofs.Loops.{comes_to}
 use Rattle.scrub_free.specs.FreeSlots.{OutsideFree, AreScrubbed, block_writes, scrub_writes}
 use Rattle.scrub_free.proofs.Blocks.{clean_block}

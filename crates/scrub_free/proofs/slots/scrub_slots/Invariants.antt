@@ -1,5 +1,5 @@
-use Rattle.journal_steps.specs.Places.{ComesSoFar}
-use Rattle.journal_steps.specs.Phases.{table_slot}
+use Rattle.gate_journal.specs.Places.{ComesSoFar}
+use Rattle.gate_journal.specs.Phases.{table_slot}
 use Rattle.scrub_free.specs.FreeSlots.{OutsideFree, AreScrubbed, scrub_writes}
 use Rattle.scrub_free.proofs.slots.scrub_slots.Given as goal
 

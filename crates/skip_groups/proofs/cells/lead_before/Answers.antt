@@ -1,5 +1,5 @@
 use Rattle.std.proofs.Common.{◌≡◌, take, sym, subst, arith}
-use Rattle.page_labels.specs.Leads.{lead_of}
+use Rattle.store_base.specs.Leads.{lead_of}
 use Rattle.skip_groups.specs.Floors.{last_of, lead_from}
 use Rattle.skip_groups.proofs.Insertions.{lead_at, lead_at_start}
 use Rattle.skip_groups.proofs.cells.lead_before.Goals as goal

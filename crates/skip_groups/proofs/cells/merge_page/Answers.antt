@@ -1,6 +1,6 @@
 use Rattle.std.proofs.Common.{◌≡◌, ◌++◌, List, drop, Equal, Greater, sym, ap, subst, ◌∙◌, arith}
 use Rattle.std.proofs.lemmas.List.{take_all}
-use Rattle.page_labels.specs.Leads.{lead_of}
+use Rattle.store_base.specs.Leads.{lead_of}
 use Rattle.store_model.specs.Pages.{Cell}
 use Rattle.skip_groups.specs.Floors.{last_of, lead_from}
 use Rattle.skip_groups.specs.GroupCells.{AreCells, side}

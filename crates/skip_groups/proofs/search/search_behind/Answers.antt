@@ -1,6 +1,6 @@
 use Rattle.std.proofs.Common.{inl, inr, arith}
 use Rattle.std.proofs.lemmas.Result.{err_from_is_err_and}
-use Rattle.page_labels.specs.Leads.{lead_of}
+use Rattle.store_base.specs.Leads.{lead_of}
 use Rattle.skip_groups.proofs.FloorWalks.{walks_start, search_fails, search_ends, search_stops, search_goes_on, search_is_over}
 use Rattle.skip_groups.proofs.GroupEnds.{no_room}
 use Rattle.skip_groups.proofs.search.search_behind.Goals.{then-count-len-via-then-count-len, then-count-len-via-else-count-len+then-is_last}

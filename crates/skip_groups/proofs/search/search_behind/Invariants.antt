@@ -1,4 +1,4 @@
-use Rattle.page_labels.specs.Leads.{lead_of}
+use Rattle.store_base.specs.Leads.{lead_of}
 use Rattle.skip_groups.proofs.FloorWalks.{Walks}
 use Rattle.skip_groups.proofs.search.search_behind.Given as goal
 

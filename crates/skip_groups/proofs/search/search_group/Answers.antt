@@ -1,5 +1,5 @@
 use Rattle.std.proofs.lemmas.Result.{err_from_is_err_and}
-use Rattle.page_labels.specs.Leads.{lead_of}
+use Rattle.store_base.specs.Leads.{lead_of}
 use Rattle.skip_groups.proofs.SearchFrom.{at_start, whole_fails, whole_found}
 use Rattle.skip_groups.proofs.search.search_group.Goals as goal
 

@@ -1,5 +1,5 @@
 use Rattle.std.proofs.Common.{None, Some, inl, inr, arith}
-use Rattle.page_labels.specs.Leads.{lead_of}
+use Rattle.store_base.specs.Leads.{lead_of}
 use Rattle.skip_groups.proofs.GroupEnds.{no_room}
 use Rattle.skip_groups.proofs.Looks.{looked_none, looked_some}
 use Rattle.skip_groups.proofs.SearchFrom.{from_start, anew, stops_here, full_behind, goes_behind}

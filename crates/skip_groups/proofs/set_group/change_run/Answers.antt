@@ -1,5 +1,5 @@
 use Rattle.std.proofs.Common.{◌+◌, ◌<◌, ap, ◌∙◌, arith}
-use Rattle.page_labels.specs.Leads.{lead_of}
+use Rattle.store_base.specs.Leads.{lead_of}
 use Rattle.node_pages.proofs.Runs.{runs_few}
 use Rattle.skip_groups.specs.Groups.{label_of}
 use Rattle.skip_groups.proofs.RunChanges.{run_puts, run_drops}

@@ -1,5 +1,5 @@
 use Rattle.std.proofs.Common.{Ok}
-use Rattle.page_labels.specs.Leads.{lead_of}
+use Rattle.store_base.specs.Leads.{lead_of}
 use Rattle.skip_groups.specs.GroupChanges.{IsRunChange}
 use Rattle.skip_groups.proofs.set_group.change_run.Given as goal
 

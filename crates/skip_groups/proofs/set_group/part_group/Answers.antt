@@ -1,7 +1,7 @@
 use Rattle.std.proofs.Common.{◌++◌, ◌∷◌, [], length, Some, refl, subst, ap, ◌∙◌, arith}
 use Rattle.std.proofs.lemmas.List.{length-append}
 use Rattle.std.proofs.lemmas.Result.{err_from_is_err_and}
-use Rattle.page_labels.specs.Leads.{lead_of}
+use Rattle.store_base.specs.Leads.{lead_of}
 use Rattle.skip_groups.specs.Groups.{label_of}
 use Rattle.skip_groups.specs.GroupParts.{IsParted}
 use Rattle.skip_groups.proofs.GroupEnds.{no_room}

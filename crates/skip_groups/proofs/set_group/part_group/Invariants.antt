@@ -1,5 +1,5 @@
 use Rattle.std.proofs.Common.{◌≡◌, ◌+◌}
-use Rattle.page_labels.specs.Leads.{lead_of}
+use Rattle.store_base.specs.Leads.{lead_of}
 use Rattle.skip_groups.specs.GroupCells.{IsRisingList}
 use Rattle.skip_groups.proofs.PartReads.{ArePartedTo}
 use Rattle.skip_groups.proofs.set_group.part_group.Given as goal

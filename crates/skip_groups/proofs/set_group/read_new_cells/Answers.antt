@@ -1,7 +1,7 @@
 use Rattle.std.proofs.Common.{◌++◌, ◌∷◌, [], List, length, None, Some, refl, subst, sym, ap, ◌∙◌, arith}
 use Rattle.std.proofs.lemmas.List.{length-append}
 use Rattle.std.proofs.lemmas.Result.{err_from_is_err_and}
-use Rattle.page_labels.specs.Leads.{lead_of}
+use Rattle.store_base.specs.Leads.{lead_of}
 use Rattle.store_model.specs.Pages.{Page}
 use Rattle.node_pages.specs.Cells.{CellList}
 use Rattle.skip_groups.specs.declared.new_cells.Step.TheVariants.{More, Done, Same}

@@ -1,6 +1,6 @@
 use Rattle.std.proofs.Common.{◌≡◌, ◌-◌, [], ◌∷◌, suc, ap, subst, arith}
 use Rattle.std.proofs.lemmas.Result.{err_from_is_err_and}
-use Rattle.page_labels.specs.Leads.{lead_of}
+use Rattle.store_base.specs.Leads.{lead_of}
 use Rattle.skip_levels.proofs.ChangeSteps.{PutDown, put_lacks_cell, put_not_set, room_for_first, put_starts, put_lacks_memory, room_for_next, put_not_split, put_goes_on, put_ends}
 use Rattle.skip_levels.proofs.changes.put_from.Goals as goal
 

@@ -1,5 +1,5 @@
 use Rattle.std.proofs.Common.{◌≤◌}
-use Rattle.page_labels.specs.Leads.{lead_of}
+use Rattle.store_base.specs.Leads.{lead_of}
 use Rattle.skip_levels.proofs.ChangeSteps.{PutDown}
 use Rattle.skip_levels.proofs.changes.put_from.Given as goal
 

@@ -1,6 +1,6 @@
 use Rattle.std.proofs.Common.{refl, sym, ap, ◌∙◌, arith}
 use Rattle.std.proofs.lemmas.Result.{err_from_is_err_and}
-use Rattle.page_labels.specs.Leads.{lead_of}
+use Rattle.store_base.specs.Leads.{lead_of}
 use Rattle.skip_levels.specs.Descent.{lead_in}
 use Rattle.skip_levels.proofs.PairCalls.{no_place_to_put, may_put, pair_not_put, pair_put, lowest_put}
 use Rattle.skip_levels.proofs.PutSearches.{no_put_place, place_of_lowest}

@@ -1,6 +1,6 @@
 use Rattle.std.proofs.Common.{◌≡◌, ◌-◌, suc, refl, subst, arith}
 use Rattle.std.proofs.lemmas.Result.{err_from_is_err_and}
-use Rattle.page_labels.specs.Leads.{lead_of}
+use Rattle.store_base.specs.Leads.{lead_of}
 use Rattle.skip_levels.proofs.ChangeSteps.{TakenDown, take_not_set, take_not_joined, room_to_take, take_starts, room_to_join_low, room_to_join_own, take_goes_on, take_ends}
 use Rattle.skip_levels.proofs.changes.take_from.Goals as goal
 

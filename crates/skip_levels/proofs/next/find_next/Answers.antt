@@ -1,5 +1,5 @@
 use Rattle.std.proofs.Common.{sym, ap, ◌∙◌}
-use Rattle.page_labels.specs.Leads.{lead_of}
+use Rattle.store_base.specs.Leads.{lead_of}
 use Rattle.skip_levels.specs.Descent.{lead_in}
 use Rattle.std.proofs.lemmas.Result.{err_from_is_err_and}
 use Rattle.skip_levels.proofs.NextLemmas.{no_path, no_neighbours, next_is_none, next_in_group, next_leads}

@@ -1,6 +1,6 @@
 use Rattle.std.proofs.Common.{ap}
 use Rattle.std.proofs.lemmas.Result.{err_from_is_err_and}
-use Rattle.page_labels.specs.Leads.{lead_of}
+use Rattle.store_base.specs.Leads.{lead_of}
 use Rattle.skip_levels.specs.Descent.{lead_in}
 use Rattle.skip_levels.proofs.ValueLemmas.{no_lead, no_value, place_found}
 use Rattle.skip_levels.proofs.search.find_value.Goals as goal

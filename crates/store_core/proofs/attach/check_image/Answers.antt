@@ -1,8 +1,8 @@
 use Rattle.std.proofs.Common.{Result, sym, subst}
-use Rattle.base_types.specs.declared.fault.DiskFault.{DiskFault}
+use Rattle.store_base.specs.declared.fault.DiskFault.{DiskFault}
 use Rattle.disk_model.specs.DiskCalls.{IsSync}
 use Rattle.image_check.specs.declared.contents.Contents.{Contents}
-use Rattle.store_standing.specs.declared.fault.AttachFault.{AttachFault}
+use Rattle.image_check.specs.declared.fault.AttachFault.{AttachFault}
 use Rattle.store_core.specs.Opening.{ChecksSynced}
 use Rattle.store_core.proofs.OpeningLemmas.{checked}
 use Rattle.store_core.proofs.attach.check_image.Goals as goal

@@ -6,7 +6,7 @@ use Rattle.script_lines.specs.declared.reply.Reply.{Reply}
 use Rattle.script_lines.specs.declared.reply.Reply.TheVariants as replies
 use Rattle.skip_levels.specs.PagePairs.{KeepsList}
 use Rattle.page_store.specs.StagedState.{StagedState, pages_state}
-use Rattle.store_standing.specs.declared.fault.ApplyFault.{ApplyFault}
+use Rattle.image_check.specs.declared.fault.ApplyFault.{ApplyFault}
 use Rattle.tree_commands.specs.Answers.{change_reply}
 use Rattle.tree_commands.specs.Counted.{counted_step}
 use Rattle.store_core.specs.StagedTree.{TreeList, IsStagedFor}

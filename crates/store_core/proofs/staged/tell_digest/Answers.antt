@@ -6,8 +6,8 @@ use Rattle.store_model.specs.Commands.Reply.{ImageDigest}
 use Rattle.store_model.specs.Steps.{Step, step}
 use Rattle.script_lines.specs.declared.reply.Reply.TheVariants as replies
 use Rattle.script_lines.specs.InPlace.{in_place}
-use Rattle.store_standing.specs.declared.fault.ApplyFault.{ApplyFault}
-use Rattle.store_standing.specs.declared.fault.ApplyFault.TheVariants as apply
+use Rattle.image_check.specs.declared.fault.ApplyFault.{ApplyFault}
+use Rattle.image_check.specs.declared.fault.ApplyFault.TheVariants as apply
 use Rattle.store_core.specs.Steps.{EndsStep}
 use Rattle.store_core.proofs.StagedSteps.{read_step, same_staged}
 use Rattle.tree_commands.proofs.StepLemmas.{digest_step}

@@ -1,8 +1,8 @@
 use Rattle.std.proofs.Common.{refl, ap, subst, ◌∙◌, arith}
 use Rattle.std.proofs.lemmas.Result.{err_from_is_err_and}
 use Rattle.store_model.specs.Parameters.{Parameters}
-use Rattle.image_words.specs.declared.status.Status.TheVariants as statuses
-use Rattle.image_words.specs.Endings.{apply_status}
+use Rattle.image_subcommands.specs.declared.status.Status.TheVariants as statuses
+use Rattle.image_subcommands.specs.Endings.{apply_status}
 use Rattle.store_top.specs.Generations.{AnswersGenerated}
 use Rattle.store_top.proofs.GenerationTurns.{generated_begins, number_is, loop_fault, digest_fault, summary_printed, summary_cut_off}
 use Rattle.store_top.proofs.big.answer_generated.Goals as goal

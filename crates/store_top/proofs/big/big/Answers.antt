@@ -1,8 +1,8 @@
 use Rattle.std.proofs.Common.{sym, subst, rules}
-use Rattle.image_words.specs.declared.status.Status.{Status}
+use Rattle.image_subcommands.specs.declared.status.Status.{Status}
 use Rattle.store_top.specs.BigCall.{IsBig}
 use Rattle.store_top.specs.Generations.{AnswersGenerated}
-use Rattle.image_words.specs.Outside.{outside_of, KeepsOutside}
+use Rattle.image_subcommands.specs.Outside.{outside_of, KeepsOutside}
 use Rattle.store_top.proofs.BigEnds.{big_unopened, big_answered, big_outside}
 use Rattle.store_top.proofs.RunEnds.{attached_is_ready}
 use Rattle.store_top.proofs.big.big.Goals as goal

@@ -1,6 +1,6 @@
 use Rattle.std.proofs.Common.{◌≡◌, Option, Some, sym, ap, ◌∙◌}
 use Rattle.std.specs.Option.{option_map}
-use Rattle.store_words.specs.Requests.{request_seen}
+use Rattle.command_line.specs.Requests.{request_seen}
 use Rattle.store_top.proofs.call.top.Goals as goal
 
 -- what is asked for is what the words spell

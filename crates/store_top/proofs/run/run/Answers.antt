@@ -1,9 +1,9 @@
 use Rattle.std.proofs.Common.{sym, ap, subst, ◌∙◌}
 use Rattle.script_lines.specs.LineState.{LineState}
-use Rattle.store_standing.specs.declared.fault.AttachFault.TheVariants as faults
-use Rattle.image_words.specs.declared.status.Status.{Status}
-use Rattle.image_words.specs.declared.status.Status.TheVariants as statuses
-use Rattle.image_words.specs.Outside.{KeepsOutside, outside_of}
+use Rattle.image_check.specs.declared.fault.AttachFault.TheVariants as faults
+use Rattle.image_subcommands.specs.declared.status.Status.{Status}
+use Rattle.image_subcommands.specs.declared.status.Status.TheVariants as statuses
+use Rattle.image_subcommands.specs.Outside.{KeepsOutside, outside_of}
 use Rattle.store_top.specs.RunCall.{IsRun}
 use Rattle.store_top.specs.Runs.{AnswersLines}
 use Rattle.store_top.proofs.RunEnds.{nothing_opened, run_unopened, run_answered, run_outside, new_reader_is_unread}

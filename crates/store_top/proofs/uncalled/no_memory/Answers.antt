@@ -1,5 +1,5 @@
-use Rattle.image_words.specs.Outside.{outside_of}
-use Rattle.image_words.proofs.UncalledLemmas.{format_uncalled, check_uncalled, scrub_uncalled, wipe_uncalled}
+use Rattle.image_subcommands.specs.Outside.{outside_of}
+use Rattle.image_subcommands.proofs.UncalledLemmas.{format_uncalled, check_uncalled, scrub_uncalled, wipe_uncalled}
 use Rattle.store_top.proofs.UncalledLemmas.{run_uncalled, big_uncalled}
 use Rattle.store_top.proofs.uncalled.no_memory.Goals as goal
 

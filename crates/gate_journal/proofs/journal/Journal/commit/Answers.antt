@@ -1,5 +1,5 @@
 use Rattle.std.proofs.Common.{◌∙◌, sym}
-use Rattle.journal_steps.proofs.Stages.{commits_none}
+use Rattle.gate_journal.proofs.Stages.{commits_none}
 use Rattle.gate_journal.proofs.journal.Journal.commit.Goals as goal
 
 pub returns-then-count-eq0-clause-commits : goal.returns-then-count-eq0-clause-commits

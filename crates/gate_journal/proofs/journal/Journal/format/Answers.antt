@@ -3,10 +3,10 @@ use Rattle.std.proofs.Math.Nat.{le_refl}
 use Rattle.store_model.specs.Parameters.{image_len}
 use Rattle.disk_model.specs.DiskState.{IsObservable}
 use Rattle.disk_model.proofs.Crashes.{IsObservable-call}
-use Rattle.journal_steps.specs.declared.fault.JournalFault.TheVariants.{Disk}
-use Rattle.journal_steps.proofs.Calls.{AreCalls-one, AreCalls-then, Makes-reads, Makes-short, Makes-behind, Makes-answered}
-use Rattle.journal_steps.proofs.Areas.{marks_end, shadow_end, table_end}
-use Rattle.journal_steps.proofs.Formatting.{formats_failed, formats_answered, leaves_no_image, leaves_written, reads_no_image, handed_fault, fault_counted, fault_rose, fault_not_wrong, fault_not_image, ok_not_fault, other_fault, wrong_not_image, wrong_not_disk, image_not_disk, is_first, not_first}
+use Rattle.gate_journal.specs.declared.fault.JournalFault.TheVariants.{Disk}
+use Rattle.gate_journal.proofs.Calls.{AreCalls-one, AreCalls-then, Makes-reads, Makes-short, Makes-behind, Makes-answered}
+use Rattle.gate_journal.proofs.Areas.{marks_end, shadow_end, table_end}
+use Rattle.gate_journal.proofs.Formatting.{formats_failed, formats_answered, leaves_no_image, leaves_written, reads_no_image, handed_fault, fault_counted, fault_rose, fault_not_wrong, fault_not_image, ok_not_fault, other_fault, wrong_not_image, wrong_not_disk, image_not_disk, is_first, not_first}
 use Rattle.gate_journal.proofs.journal.Journal.format.Goals as goal
 
 pub is_image-requires : goal.is_image-requires

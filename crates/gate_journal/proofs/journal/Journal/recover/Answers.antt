@@ -1,9 +1,9 @@
 use Rattle.std.proofs.Common.{◌+◌, ap, sym, subst, arith, ◌∙◌}
-use Rattle.journal_steps.specs.Phases.{HasEmptyJournal}
-use Rattle.journal_steps.specs.Recovery.{erase_writes, redo_writes, redo_syncs}
+use Rattle.gate_journal.specs.Phases.{HasEmptyJournal}
+use Rattle.gate_journal.specs.Recovery.{erase_writes, redo_writes, redo_syncs}
 use Rattle.disk_model.proofs.Crashes.{IsObservable-call}
-use Rattle.journal_steps.proofs.Calls.{observable_after, Made-none, Made-then, Makes-sync, Makes-then, Makes-as, Makes-short}
-use Rattle.journal_steps.proofs.Recoveries.{recovers_synced}
+use Rattle.gate_journal.proofs.Calls.{observable_after, Made-none, Made-then, Makes-sync, Makes-then, Makes-as, Makes-short}
+use Rattle.gate_journal.proofs.Recoveries.{recovers_synced}
 use Rattle.gate_journal.proofs.journal.Journal.recover.Goals as goal
 
 pub returns-clause-recovers : goal.returns-clause-recovers

@@ -1,5 +1,5 @@
 use Rattle.std.proofs.Common.{sym, ◌∙◌}
-use Rattle.journal_steps.proofs.Wiping.{wipes_none}
+use Rattle.gate_journal.proofs.Wiping.{wipes_none}
 use Rattle.gate_journal.proofs.journal.Journal.wipe.Goals as goal
 
 pub returns-then-len-eq0-clause-wipes : goal.returns-then-len-eq0-clause-wipes

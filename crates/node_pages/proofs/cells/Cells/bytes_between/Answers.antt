@@ -1,7 +1,7 @@
 use Rattle.std.proofs.Common.{◌≤◌, ◌*◌, length, take, drop, ℕ, List, sym, ap, subst, ◌∙◌, arith}
 use Rattle.std.specs.List.{flat_map}
 use Rattle.store_model.specs.Images.{cell_bytes}
-use Rattle.cell_spelling.specs.Spelling.{cell_size}
+use Rattle.node_pages.specs.CellAreas.{cell_size}
 use Rattle.node_pages.specs.Cells.{CellList}
 use Rattle.node_pages.proofs.PackedLists.{listed, packed_between, packed_within}
 use Rattle.node_pages.proofs.cells.Cells.bytes_between.Goals as goal

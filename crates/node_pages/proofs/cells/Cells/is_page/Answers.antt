@@ -1,7 +1,7 @@
 use Rattle.std.proofs.Common.{sym, ap, ◌∙◌}
 use Rattle.std.specs.List.{flat_map}
 use Rattle.store_model.specs.Images.{cell_bytes}
-use Rattle.page_labels.specs.Leads.{lead_of}
+use Rattle.store_base.specs.Leads.{lead_of}
 use Rattle.node_pages.proofs.PackedLists.{page_of_bytes, bytes_of_page}
 use Rattle.node_pages.proofs.cells.Cells.is_page.Goals as goal
 

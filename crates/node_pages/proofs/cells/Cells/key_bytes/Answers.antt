@@ -1,6 +1,6 @@
 use Rattle.std.proofs.Common.{arith}
-use Rattle.cell_spelling.proofs.CellLists.{key_within}
-use Rattle.page_values.proofs.Packed.{cell_at, key_at}
+use Rattle.node_pages.proofs.CellLists.{key_within}
+use Rattle.node_pages.proofs.Packed.{cell_at, key_at}
 use Rattle.node_pages.proofs.cells.Cells.key_bytes.Goals as goal
 
 pub overflow_add-i : goal.overflow_add-i

@@ -1,7 +1,7 @@
 use Rattle.std.proofs.Common.{◌+◌, ◌-◌, Some, List, refl, sym, ap, ap₂, subst, ◌∙◌, arith}
 use Rattle.store_model.specs.Labels.{Label}
 use Rattle.store_model.specs.Pages.{Cell, Page, IsPage}
-use Rattle.page_labels.specs.Leads.{lead_of}
+use Rattle.store_base.specs.Leads.{lead_of}
 use Rattle.node_pages.proofs.Runs.{run_within, page_at}
 use Rattle.node_pages.proofs.PackedLists.{part_is, run_page}
 use Rattle.node_pages.proofs.cells.Cells.page.Goals as goal

@@ -2,9 +2,9 @@ use Rattle.std.proofs.Common.{◌≡◌, length, sym, ap₂, subst, ◌∙◌}
 use Rattle.std.specs.Int.{div_ceil}
 use Rattle.store_model.specs.Lists.{runs}
 use Rattle.store_model.specs.Pages.{page_room}
-use Rattle.page_values.specs.Cells.{cells_in}
+use Rattle.node_pages.specs.PageSlots.{cells_in}
 use Rattle.node_pages.specs.Cells.{CellList}
-use Rattle.page_values.proofs.PageBytes.{length-cells_in}
+use Rattle.node_pages.proofs.PageBytes.{length-cells_in}
 use Rattle.node_pages.proofs.Runs.{div_ceil-room, length-runs}
 use Rattle.node_pages.proofs.cells.Cells.page_count.Goals as goal
 

@@ -1,6 +1,6 @@
 use Rattle.std.proofs.Common.{refl, ◌∙◌}
-use Rattle.slot_memory.proofs.CacheLemmas.{cache_read}
-use Rattle.slot_cache.proofs.OverlayLemmas.{view_read}
+use Rattle.table_memory.proofs.CacheLemmas.{cache_read}
+use Rattle.page_store.proofs.OverlayLemmas.{view_read}
 use Rattle.page_store.proofs.StagedCalls.{view_follows}
 use Rattle.page_store.proofs.StagedLemmas.{read_below, staged_later, memo_later}
 use Rattle.page_store.proofs.staged.Staged.digest.Goals as goal

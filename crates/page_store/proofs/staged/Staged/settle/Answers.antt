@@ -1,10 +1,10 @@
 use Rattle.std.proofs.Common.{Result, Err, refl, sym, ap, subst, ◌∙◌, arith}
 use Rattle.std.proofs.lemmas.Result.{err_from_is_err_and}
-use Rattle.journal_steps.specs.ViewState.{KeepsView-refl}
+use Rattle.gate_journal.specs.ViewState.{KeepsView-refl}
 use Rattle.page_store.specs.declared.fault.SettleFault.{SettleFault}
 use Rattle.page_store.specs.declared.fault.SettleFault.TheVariants as causes
 use Rattle.store_model.specs.Parameters.{Parameters}
-use Rattle.slot_memory.specs.Caches.{IsCacheOf}
+use Rattle.table_memory.specs.Caches.{IsCacheOf}
 use Rattle.page_store.specs.Preparing.{FindsSlots}
 use Rattle.page_store.specs.Settling.{Settles}
 use Rattle.page_store.specs.StagedState.{StagedState, staged_state}

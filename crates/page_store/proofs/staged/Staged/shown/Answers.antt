@@ -2,7 +2,7 @@ use Rattle.std.proofs.Common.{◌≡◌, option_copied, subst, ◌∙◌}
 use Rattle.store_model.specs.PageMaps.{page_at}
 use Rattle.page_store.specs.PageImages.{pages_in_table}
 use Rattle.page_store.specs.StagedState.{StagedState, IsTold}
-use Rattle.slot_cache.proofs.KnownLemmas.{known_read}
+use Rattle.page_store.proofs.KnownLemmas.{known_read}
 use Rattle.page_store.proofs.StagedLemmas.{held_over}
 use Rattle.page_store.proofs.staged.Staged.shown.Goals as goal
 

@@ -1,10 +1,10 @@
 use Rattle.std.proofs.Common.{min, Bool, Result, Err, refl, sym, ap, subst, ◌∙◌, arith}
 use Rattle.std.proofs.lemmas.Result.{err_from_is_err_and}
-use Rattle.base_types.specs.declared.store_fault.Fault.{Fault}
-use Rattle.base_types.specs.declared.store_fault.Fault.TheVariants as causes
-use Rattle.base_types.proofs.SlotsCalls.{AreSlotCalls-fault}
+use Rattle.store_base.specs.declared.store_fault.Fault.{Fault}
+use Rattle.store_base.specs.declared.store_fault.Fault.TheVariants as causes
+use Rattle.store_base.proofs.SlotsCalls.{AreSlotCalls-fault}
 use Rattle.node_pages.specs.PagesState.{most_pages}
-use Rattle.slot_memory.specs.Staging.{used_after}
+use Rattle.table_memory.specs.Staging.{used_after}
 use Rattle.page_store.specs.StagedState.{staged_state, pages_state}
 use Rattle.page_store.specs.Stagings.{Stages}
 use Rattle.page_store.proofs.StagedCalls.{read_staged, stage_failed, stage_staged, stage_done, view_follows}

@@ -1,6 +1,6 @@
 use Rattle.std.proofs.Common.{Option, Err, refl, sym, ◌∙◌, arith}
 use Rattle.std.proofs.lemmas.Result.{err_from_is_err_and}
-use Rattle.base_types.proofs.SlotsCalls.{AreSlotCalls-fault}
+use Rattle.store_base.proofs.SlotsCalls.{AreSlotCalls-fault}
 use Rattle.store_model.specs.Pages.{Page}
 use Rattle.node_pages.specs.PagesState.{IsPageGet, looked_at}
 use Rattle.page_store.specs.StagedState.{staged_state, pages_state, Follows}

@@ -4,8 +4,8 @@ use Rattle.store_model.specs.Labels.{Label}
 use Rattle.store_model.specs.Pages.{Page}
 use Rattle.store_model.specs.PageMaps.{IsPageMap}
 use Rattle.store_model.proofs.PageMapsLemmas.{IsPageMap-with_page}
-use Rattle.journal_steps.specs.ViewState.{KeepsView-refl}
-use Rattle.slot_memory.specs.Staging.{with_change}
+use Rattle.gate_journal.specs.ViewState.{KeepsView-refl}
+use Rattle.table_memory.specs.Staging.{with_change}
 use Rattle.page_store.specs.StagedState.{staged_state}
 use Rattle.page_store.proofs.StagedCalls.{put_refused, view_follows}
 use Rattle.page_store.proofs.staged.StagedPages.put.Goals as goal

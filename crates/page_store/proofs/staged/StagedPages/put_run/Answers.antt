@@ -3,9 +3,9 @@ use Rattle.std.proofs.lemmas.Result.{err_from_is_err_and}
 use Rattle.store_model.specs.Pages.{Page}
 use Rattle.store_model.specs.PageMaps.{IsPageMap}
 use Rattle.store_model.proofs.PageMapsLemmas.{IsPageMap-with_page}
-use Rattle.page_values.specs.Cells.{cells_in}
-use Rattle.journal_steps.specs.ViewState.{KeepsView-refl}
-use Rattle.slot_memory.specs.Staging.{with_change}
+use Rattle.node_pages.specs.PageSlots.{cells_in}
+use Rattle.gate_journal.specs.ViewState.{KeepsView-refl}
+use Rattle.table_memory.specs.Staging.{with_change}
 use Rattle.page_store.specs.StagedState.{staged_state}
 use Rattle.page_store.proofs.StagedCalls.{put_refused, view_follows}
 use Rattle.page_store.proofs.staged.StagedPages.put_run.Goals as goal

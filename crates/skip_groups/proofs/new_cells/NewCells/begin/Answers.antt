@@ -1,5 +1,5 @@
 use Rattle.std.proofs.Common.{arith}
-use Rattle.page_labels.specs.Leads.{lead_of}
+use Rattle.store_base.specs.Leads.{lead_of}
 use Rattle.skip_groups.proofs.NewCellsSteps.{set_begins, some_run}
 use Rattle.skip_groups.proofs.new_cells.NewCells.begin.Goals as goal
 

@@ -1,5 +1,5 @@
 use Rattle.std.proofs.Common.{refl, subst, arith}
-use Rattle.page_labels.specs.Leads.{lead_of}
+use Rattle.store_base.specs.Leads.{lead_of}
 use Rattle.skip_groups.specs.GroupCells.{IsKept}
 use Rattle.skip_groups.proofs.NewCellsSteps.{set_stays}
 use Rattle.skip_groups.proofs.new_cells.NewCells.go_on.Goals as goal

@@ -1,5 +1,5 @@
 use Rattle.std.proofs.Common.{refl, sym, ap, subst}
-use Rattle.page_labels.specs.Leads.{lead_of}
+use Rattle.store_base.specs.Leads.{lead_of}
 use Rattle.node_pages.specs.Cells.{CellList}
 use Rattle.skip_groups.specs.GroupCells.{AreCells}
 use Rattle.skip_groups.proofs.CellLists.{no_cells}

@@ -2,7 +2,7 @@ use Rattle.std.proofs.Common.{◌≡◌, sym, ap, subst, ◌∙◌}
 use Rattle.store_model.specs.Parameters.{Parameters}
 use Rattle.store_model.specs.Images.{layout}
 use Rattle.store_core.specs.Known.{KnownState, IsKnown, TellsTree, one_known}
-use Rattle.store_standing.specs.Standing.{IsFitting}
+use Rattle.image_check.specs.Standing.{IsFitting}
 use Rattle.store_core.proofs.known.KnownTree.settle.Goals as goal
 
 pub returns : goal.returns

@@ -1,6 +1,6 @@
 use Rattle.std.proofs.Common.{Result, sym, subst, ◌∙◌}
 use Rattle.image_check.specs.declared.contents.Contents.{Contents}
-use Rattle.store_standing.specs.declared.fault.AttachFault.{AttachFault}
+use Rattle.image_check.specs.declared.fault.AttachFault.{AttachFault}
 use Rattle.store_core.specs.Opening.{ChecksSynced, IsOpenAt}
 use Rattle.store_core.specs.StoreCalls.{IsRefused}
 use Rattle.store_core.proofs.OpeningLemmas.{kept_by_both, refused_recovery, stands, opened, not_failed, fitting_open, attached}

@@ -1,4 +1,0 @@
-pub mod Counts
-pub mod Entries
-pub mod SlotsState
-pub mod Faults

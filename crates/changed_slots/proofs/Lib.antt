@@ -1,2 +1,0 @@
-pub mod DifferLemmas
-pub mod ScanLemmas

@@ -1,0 +1,176 @@
+-- `clap` takes each well-formed line, and its matches hold the line.
+use Rattle.std.proofs.Common.{◌≡◌, ◌∙◌, true, false, ◌&&◌, List, [], ◌∷◌, map, Some, is_some, refl, ap, codes}
+use Rattle.std.specs.Prelude.{find}
+use Rattle.std.specs.Str.{bytes_eq}
+use Rattle.clap.specs.Simple.{Shape, built, built_leaf, entered, inherited, label_of, marked_built, names_of, rows_at, subcommand_of, with_leaf_noted}
+use Rattle.clap.specs.Takes.{entered_passes, level_passes, takes}
+use Rattle.clap.specs.ValueTests.{accepts}
+use Rattle.clap.specs.Walk.{Text, Walk, answers_to, finished, first_of, idle, nothing_held, subcommand_met, walk, walked}
+use Rattle.clap.specs.declared.builder.value_parser.ValueParser.{ValueParser}
+use Rattle.clap.specs.declared.builder.value_parser.ValueParser.TheVariants as parsers
+use Rattle.store_model.specs.Grammar.{number_limit}
+use Rattle.store_model.specs.Parameters.{slots_limit, height_limit}
+use Rattle.store_model.specs.Words.{commands_limit}
+use Rattle.command_line.specs.Line.{HoldsLine, arguments_of, big_word, format_word, line_of, without_help}
+use Rattle.command_line.proofs.WalkLemmas.{all_true, is_plain, walk_at, next_walk, plain_walked, passes_next, passes_end, ends_well, level_by, stopped_at, stops, stopping_passes}
+
+-- a word as building leaves it
+abbrev built_word : Shape → Shape
+built_word word = built_leaf (inherited (with_leaf_noted (marked_built (line_of parsers.String).top)) word)
+
+-- the line is taken, and the matches hold it
+pub record IsTaken (draws : ValueParser) (line : List Text) : Type 0 where
+  pub taken : takes (line_of draws) line ≡ true
+  pub held : HoldsLine line (subcommand_of (line_of draws) line)
+
+-- ---- any word
+
+module _ (draws : ValueParser) (name : Text) (word : Shape) (rest : List Text)
+    (met : subcommand_met (names_of (built (line_of draws))) idle name ≡ Some name)
+    (no_help : bytes_eq name (codes "help") ≡ false)
+    (found : find (λ s. answers_to name (label_of s)) (built (line_of draws)).subs ≡ Some (built_word word))
+    (passes : level_passes (built_word word) [] nothing_held rest false ≡ true) where
+  top_stops : walk (built (line_of draws)).top.rules (names_of (built (line_of draws))) nothing_held (name ∷ rest) ≡ stopped_at name rest
+  top_stops = stops (built (line_of draws)).top (names_of (built (line_of draws))) name rest met
+
+  -- the line is taken by the word that it names
+  pub taken_by : takes (line_of draws) (name ∷ rest) ≡ true
+  taken_by =
+      let app = built (line_of draws) in
+      let enters : entered_passes app (Some (name, rest)) ≡ true = rw found passes in
+      let entered_so : is_some (entered app (Some (name, rest))) ≡ true = rw found refl in
+      let whole : ends_well app.top (stopped_at name rest) (is_some (entered app (Some (name, rest)))) ≡ true = rw entered_so refl in
+      all_true _ _ refl
+      (all_true _ _ (ap (λ (w : Walk). entered_passes app w.stopped) top_stops ∙ enters)
+      (level_by app.top (names_of app) (name ∷ rest) _ (stopped_at name rest) top_stops (stopping_passes app.top (names_of app) name rest met no_help)
+      (ap (λ (w : Walk). ends_well app.top (stopped_at name rest) (is_some (entered app w.stopped))) top_stops ∙ whole)))
+
+  -- and its matches are those of that word
+  pub entered_by : subcommand_of (line_of draws) (name ∷ rest) ≡ Some (rows_at (built_word word) rest)
+  entered_by =
+      let app = built (line_of draws) in
+      let there : entered app (Some (name, rest)) ≡ Some (rows_at (built_word word) rest) = rw found refl in
+      ap (λ (w : Walk). entered app w.stopped) top_stops ∙ there
+
+-- ---- words with no argument
+
+module _ (draws : ValueParser) (name : Text)
+    (met : subcommand_met (names_of (built (line_of draws))) idle name ≡ Some name)
+    (no_help : bytes_eq name (codes "help") ≡ false)
+    (found : find (λ s. answers_to name (label_of s)) (built (line_of draws)).subs ≡ Some (built_word (without_help name [])))
+    (none : arguments_of name ≡ []) where
+  pub single_taken : IsTaken draws (name ∷ [])
+  single_taken = record {
+    taken = taken_by draws name (without_help name []) [] met no_help found (level_by (built_word (without_help name [])) [] [] false (walk_at nothing_held 1) refl (passes_end _ _) refl);
+    held = record {
+      word = name;
+      values = [];
+      rows = [];
+      line_is = refl;
+      found_is = entered_by draws name (without_help name []) [] met no_help found (level_by (built_word (without_help name [])) [] [] false (walk_at nothing_held 1) refl (passes_end _ _) refl);
+      values_are = ap (map (λ id. first_of id [])) none;
+    };
+  }
+
+pub run_taken : (draws : ValueParser) → IsTaken draws (codes "run" ∷ [])
+run_taken draws = single_taken draws (codes "run") refl refl refl refl
+
+pub check_taken : (draws : ValueParser) → IsTaken draws (codes "check" ∷ [])
+check_taken draws = single_taken draws (codes "check") refl refl refl refl
+
+pub scrub_taken : (draws : ValueParser) → IsTaken draws (codes "scrub" ∷ [])
+scrub_taken draws = single_taken draws (codes "scrub") refl refl refl refl
+
+pub wipe_taken : (draws : ValueParser) → IsTaken draws (codes "wipe" ∷ [])
+wipe_taken draws = single_taken draws (codes "wipe") refl refl refl refl
+
+-- ---- `big`
+
+-- the value passes
+abbrev pub Passes : ValueParser → Text → Type 0
+Passes parser text = accepts false parser text ≡ true
+
+-- one value passes
+one_passes : (parser : ValueParser) (text : Text) → Passes parser text → (accepts false parser text && true) ≡ true
+one_passes parser text passes = ap (λ b. b && true) passes
+
+module _ (draws : ValueParser) (number count : Text) (number_plain : is_plain number ≡ true) (count_plain : is_plain count ≡ true)
+    (number_passes : Passes (parsers.Unsigned 0 number_limit) number) (count_passes : Passes (parsers.Unsigned 1 commands_limit) count) where
+  abbrev big : Shape
+  big = built_word big_word
+
+  abbrev behind_number : Walk
+  behind_number = next_walk big.rules nothing_held 1 number
+
+  abbrev behind_count : Walk
+  behind_count = next_walk big.rules behind_number.held 2 count
+
+  big_walks : walk big.rules [] nothing_held (number ∷ count ∷ []) ≡ behind_count
+  big_walks = ap (λ w. walked big.rules [] w count) (plain_walked big.rules nothing_held 1 number number_plain) ∙ plain_walked big.rules behind_number.held 2 count count_plain
+
+  big_passes : level_passes big [] nothing_held (number ∷ count ∷ []) false ≡ true
+  big_passes = level_by big [] (number ∷ count ∷ []) false behind_count big_walks
+      (passes_next big nothing_held 1 number (count ∷ []) number_plain refl
+      (passes_next big behind_number.held 2 count [] count_plain (one_passes (parsers.Unsigned 0 number_limit) number number_passes) (passes_end big behind_count)))
+      (all_true _ _ (one_passes (parsers.Unsigned 1 commands_limit) count count_passes) refl)
+
+  pub big_taken : IsTaken draws (codes "big" ∷ number ∷ count ∷ [])
+  big_taken = record {
+    taken = taken_by draws (codes "big") big_word (number ∷ count ∷ []) refl refl refl big_passes;
+    held = record {
+      word = codes "big";
+      values = number ∷ count ∷ [];
+      rows = finished big.rules behind_count.held;
+      line_is = refl;
+      found_is = entered_by draws (codes "big") big_word (number ∷ count ∷ []) refl refl refl big_passes ∙ ap (λ (w : Walk). Some (codes "big", finished big.rules w.held)) big_walks;
+      values_are = refl;
+    };
+  }
+
+-- ---- `format`
+
+module _ (draws : ValueParser) (slots height draw seed : Text)
+    (slots_plain : is_plain slots ≡ true) (height_plain : is_plain height ≡ true) (draw_plain : is_plain draw ≡ true) (seed_plain : is_plain seed ≡ true)
+    (slots_passes : Passes (parsers.Unsigned 1 slots_limit) slots) (height_passes : Passes (parsers.Unsigned 1 height_limit) height) (draw_passes : Passes draws draw) where
+  abbrev format : Shape
+  format = built_word (format_word draws)
+
+  abbrev behind_slots : Walk
+  behind_slots = next_walk format.rules nothing_held 1 slots
+
+  abbrev behind_height : Walk
+  behind_height = next_walk format.rules behind_slots.held 2 height
+
+  abbrev behind_draw : Walk
+  behind_draw = next_walk format.rules behind_height.held 3 draw
+
+  abbrev behind_seed : Walk
+  behind_seed = next_walk format.rules behind_draw.held 4 seed
+
+  format_walks : walk format.rules [] nothing_held (slots ∷ height ∷ draw ∷ seed ∷ []) ≡ behind_seed
+  format_walks =
+      ap (λ w. walked format.rules [] (walked format.rules [] (walked format.rules [] w height) draw) seed) (plain_walked format.rules nothing_held 1 slots slots_plain)
+      ∙ ap (λ w. walked format.rules [] (walked format.rules [] w draw) seed) (plain_walked format.rules behind_slots.held 2 height height_plain)
+      ∙ ap (λ w. walked format.rules [] w seed) (plain_walked format.rules behind_height.held 3 draw draw_plain)
+      ∙ plain_walked format.rules behind_draw.held 4 seed seed_plain
+
+  format_passes : level_passes format [] nothing_held (slots ∷ height ∷ draw ∷ seed ∷ []) false ≡ true
+  format_passes = level_by format [] (slots ∷ height ∷ draw ∷ seed ∷ []) false behind_seed format_walks
+      (passes_next format nothing_held 1 slots (height ∷ draw ∷ seed ∷ []) slots_plain refl
+      (passes_next format behind_slots.held 2 height (draw ∷ seed ∷ []) height_plain (one_passes (parsers.Unsigned 1 slots_limit) slots slots_passes)
+      (passes_next format behind_height.held 3 draw (seed ∷ []) draw_plain (one_passes (parsers.Unsigned 1 height_limit) height height_passes)
+      (passes_next format behind_draw.held 4 seed [] seed_plain (one_passes draws draw draw_passes) (passes_end format behind_seed)))))
+      refl
+
+  pub format_taken : IsTaken draws (codes "format" ∷ slots ∷ height ∷ draw ∷ seed ∷ [])
+  format_taken = record {
+    taken = taken_by draws (codes "format") (format_word draws) (slots ∷ height ∷ draw ∷ seed ∷ []) refl refl refl format_passes;
+    held = record {
+      word = codes "format";
+      values = slots ∷ height ∷ draw ∷ seed ∷ [];
+      rows = finished format.rules behind_seed.held;
+      line_is = refl;
+      found_is = entered_by draws (codes "format") (format_word draws) (slots ∷ height ∷ draw ∷ seed ∷ []) refl refl refl format_passes ∙ ap (λ (w : Walk). Some (codes "format", finished format.rules w.held)) format_walks;
+      values_are = refl;
+    };
+  }

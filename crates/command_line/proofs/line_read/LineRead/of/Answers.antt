@@ -1,0 +1,12 @@
+use Rattle.std.proofs.Common.{◌≡◌, ◌∙◌, ◌∷◌, [], Some, codes, refl, sym, ap}
+use Rattle.command_line.specs.Line.{arguments_of}
+use Rattle.command_line.proofs.FormatLemmas.{not_same}
+use Rattle.command_line.proofs.LineLemmas.{name_held, no_values, some_same}
+use Rattle.command_line.proofs.line_read.LineRead.of.Goals as goal
+
+pub returns-in_default : goal.returns-in_default
+returns-in_default c line held =
+    let word_is : c.in_ok-word.word.now ≡ held.word = some_same _ _ (c.in_ok-word.ensures.name ∙ name_held c.args.matches.now held.word held.rows held.found_is) in
+    let none : arguments_of c.in_ok-word.word.now ≡ [] = rw (not_same _ (codes "format") c.in_default.not-format, not_same _ (codes "big") c.in_default.not-big) refl in
+    let values = no_values held.word held.values _ (ap arguments_of (sym word_is) ∙ none) held.values_are in
+    ap Some ((λ i. word_is i ∷ sym values i) ∙ sym held.line_is)

@@ -1,0 +1,39 @@
+-- How a command line is built: a command with arguments more, and a line with a word more.
+use Rattle.std.specs.Prelude.{◌≡◌, List, [], ◌∷◌, map, false}
+use Rattle.clap.specs.Simple.{App, app_of, with_rule, with_subcommand}
+use Rattle.clap.specs.Walk.{Rule, Text}
+use Rattle.clap.specs.declared.builder.command.Command.{Command}
+use Rattle.clap.specs.declared.builder.command.Command.TheViews.{out-Command}
+use Rattle.command_line.specs.Line.{IsWordOf, argument, without_help}
+use Rattle.command_line.specs.declared.line.Argument.{Argument}
+use Rattle.command_line.specs.declared.line.Word.{Word}
+
+-- what `clap` reads of an argument
+abbrev pub rule_told : Argument → Rule
+rule_told told = argument told.name.now told.parser
+
+-- a command with these rules behind its others, one after another
+abbrev pub with_rules : App → List Rule → App
+with_rules app [] = app
+with_rules app (rule ∷ rules) = with_rules (with_rule app rule) rules
+
+-- the command after has these arguments behind those of the command before
+pub record AddsArguments (arguments : List Argument) (before after : Command) : Type 0 where
+  pub added_are : app_of after ≡ with_rules (app_of before) (map rule_told arguments)
+  pub local : (out-Command after).has_globals ≡ (out-Command before).has_globals
+
+-- the command is a word of this name with these arguments
+pub record IsBuilt (name : Text) (arguments : List Argument) (command : Command) : Type 0 where
+  pub word_is : app_of command ≡ with_rules (record { top = without_help name []; subs = [] }) (map rule_told arguments)
+  pub local : (out-Command command).has_globals ≡ false
+
+-- the line after has this word behind those of the line before
+pub record AddsWord (word : Word) (before after : Command) : Type 0 where
+  pub command : Command
+  pub is_word : IsWordOf word command
+  pub added_is : app_of after ≡ with_subcommand (app_of before) (app_of command).top
+
+-- the line after has these words behind those of the line before, one after another
+abbrev pub AddsWords : List Word → App → App → Type 0
+AddsWords [] before after = after ≡ before
+AddsWords (word ∷ words) before after = (command : Command) × IsWordOf word command × AddsWords words (with_subcommand before (app_of command).top) after

@@ -1,0 +1,49 @@
+-- What the program calls a request, and the file that one needs.
+use Rattle.std.specs.Prelude.{◌≤◌, List, [], ◌∷◌, Option, Some, None, codes}
+use Rattle.clap.specs.Walk.{Text}
+use Rattle.store_model.specs.Parameters.{IsParameters, image_len}
+use Rattle.store_model.specs.Words.{Request, commands_limit}
+use Rattle.store_model.specs.Words.Request.{Format, Run, Check, Scrub, Wipe, Big}
+use Rattle.command_line.specs.declared.request.Request as own
+use Rattle.command_line.specs.declared.request.Request.TheVariants as own_requests
+use Rattle.command_line.specs.declared.line_read.LineRead.{LineRead}
+use Rattle.command_line.specs.declared.line_read.LineRead.TheVariants as lines
+use Rattle.command_line.specs.declared.words.Wanted.{Wanted}
+use Rattle.command_line.specs.declared.words.Wanted.TheVariants.{Usage, Existing, Fresh}
+
+-- what the program calls a request, as the definitions have it
+abbrev pub request_seen : own.Request → Request
+request_seen (own_requests.Format p) = Format p
+request_seen own_requests.Run = Run
+request_seen own_requests.Check = Check
+request_seen own_requests.Scrub = Scrub
+request_seen own_requests.Wipe = Wipe
+request_seen (own_requests.Big number count) = Big number count
+
+-- the parameters of a request, if it has some, are in range
+abbrev pub IsInRange : own.Request → Type 0
+IsInRange (own_requests.Format p) = IsParameters p
+IsInRange own_requests.Run = Unit {0}
+IsInRange own_requests.Check = Unit {0}
+IsInRange own_requests.Scrub = Unit {0}
+IsInRange own_requests.Wipe = Unit {0}
+IsInRange (own_requests.Big number count) = (1 ≤ count) × (count ≤ commands_limit)
+
+-- the words of a line that was read
+abbrev pub words_read : LineRead → List Text
+words_read (lines.Format slots height draw seed) = codes "format" ∷ slots.now ∷ height.now ∷ draw.now ∷ seed.now ∷ []
+words_read (lines.Big number count) = codes "big" ∷ number.now ∷ count.now ∷ []
+words_read (lines.Single word) = word.now ∷ []
+
+-- the file that a request needs: one that is there, or for `format` one of the image's length
+abbrev pub wanted_by : Request → Wanted
+wanted_by (Format p) = Fresh (image_len p.slots)
+wanted_by Run = Existing
+wanted_by Check = Existing
+wanted_by Scrub = Existing
+wanted_by Wipe = Existing
+wanted_by (Big number count) = Existing
+
+abbrev pub wanted_of : Option Request → Wanted
+wanted_of None = Usage
+wanted_of (Some request) = wanted_by request

@@ -1,0 +1,229 @@
+//! The one definition of the command line: its words, their arguments and ranges, and what help says of them.
+
+ghost use Rattle.std.specs.Prelude.{◌≡◌, false, [], IfOk, codes};
+ghost use Rattle.clap.specs.Simple.{app_of};
+ghost use Rattle.clap.specs.Walk.{rule_of};
+ghost use Rattle.clap.specs.declared.builder.command.Command.TheViews.{out-Command};
+ghost use Rattle.command_line.specs.Building.{AddsArguments, AddsWord, IsBuilt, rule_told};
+ghost use Rattle.command_line.specs.Line.{IsLine, IsWordOf, without_help, without_words};
+
+use self::Word::{Big, Check, Format, Run, Scrub, Wipe};
+use clap::builder::ValueParser;
+use clap::{Arg, Command};
+use std::alloc::{AllocError, Global};
+use store_base::{MAX_HEIGHT, MAX_SLOTS};
+
+/// The most commands that `big` makes.
+pub const MAX_COMMANDS: u32 = 1_000_000;
+
+/// A word of the command line.
+#[derive(Clone, Copy, Debug, PartialEq, Eq)]
+pub enum Word {
+    /// `format SLOTS HEIGHT DRAW SEED`.
+    Format,
+    /// `run`.
+    Run,
+    /// `check`.
+    Check,
+    /// `scrub`.
+    Scrub,
+    /// `wipe`.
+    Wipe,
+    /// `big NUMBER COUNT`.
+    Big,
+}
+
+/// An argument of a word: its name, what help says of it, and what its value has to be.
+struct Argument {
+    name: &'static str,
+    help: &'static str,
+    parser: ValueParser<'static>,
+}
+
+/// The arguments of `format`.
+static FORMAT: [Argument; 4] = [
+    Argument {
+        name: "SLOTS",
+        help: "How many pages of 4096 bytes it has room for, 1 to 16384",
+        parser: ValueParser::Unsigned(1, MAX_SLOTS as u64),
+    },
+    Argument {
+        name: "HEIGHT",
+        help: "How many levels the lists in it have, 1 to 8",
+        parser: ValueParser::Unsigned(1, MAX_HEIGHT as u64),
+    },
+    Argument {
+        name: "DRAW",
+        help: "How levels and places are drawn",
+        parser: ValueParser::Names(&["ruler", "sha256"]),
+    },
+    Argument {
+        name: "SEED",
+        help: "What they are drawn from, 64 hexadecimal digits",
+        parser: ValueParser::String,
+    },
+];
+
+/// The arguments of `big`.
+static BIG: [Argument; 2] = [
+    Argument {
+        name: "NUMBER",
+        help: "Which commands, 0 to 4294967295: a number has always the same ones",
+        parser: ValueParser::Unsigned(0, u32::MAX as u64),
+    },
+    Argument {
+        name: "COUNT",
+        help: "How many of them, 1 to 1000000",
+        parser: ValueParser::Unsigned(1, MAX_COMMANDS as u64),
+    },
+];
+
+/// The words, in the order of the help.
+static WORDS: [Word; 6] = [Format, Run, Check, Scrub, Wipe, Big];
+
+/// What `clap` has as the argument, which is required and has one value, which passes the parser.
+fn arg_of<'a>(alloc: Global, argument: &'static Argument) -> Arg<'a>
+    ensures rule { rule_of result ≡ rule_told argument.now }
+    ensures local { result.global ≡ false }
+{
+    Arg::new(alloc, argument.name)
+        .required(true)
+        .help(argument.help)
+        .value_parser(argument.parser)
+}
+
+/// The command with these arguments behind its others.
+fn with_arguments<'a>(
+    alloc: Global,
+    command: Command<'a>,
+    arguments: &'static [Argument],
+) -> Result<Command<'a>, AllocError>
+    ensures { IfOk result (AddsArguments arguments.entry.now command.entry) }
+{
+    let mut command = command;
+    for argument in arguments {
+        command = command.arg(arg_of(alloc, argument))?;
+    }
+    Ok(command)
+}
+
+/// A command with no arguments yet, which knows no request for help, with a sentence on what it does and with what else
+/// is to be known of it.
+fn without_help<'a>(alloc: Global, name: &'a str, about: &'a str, notes: &'a str) -> Command<'a>
+    ensures shape { app_of result ≡ record { top = without_help name.entry.now []; subs = [] } }
+    ensures local { (out-Command result).has_globals ≡ false }
+{
+    Command::new(alloc, name)
+        .about(about)
+        .after_help(notes)
+        .disable_help_flag(true)
+}
+
+/// A word with these arguments.
+fn word_with<'a>(
+    alloc: Global,
+    name: &'a str,
+    about: &'a str,
+    notes: &'a str,
+    arguments: &'static [Argument],
+) -> Result<Command<'a>, AllocError>
+    ensures { IfOk result (IsBuilt name.entry.now arguments.entry.now) }
+{
+    with_arguments(alloc, without_help(alloc, name, about, notes), arguments)
+}
+
+/// What `format` does.
+const FORMAT_ABOUT: &str = "Makes an image with nothing in it.";
+
+/// What is to be known of `format` besides.
+const FORMAT_NOTES: &str =
+    "The file is made where there is none. One that is there must have just the length that SLOTS asks\n\
+    for, and must not begin as an image does: `wipe` readies it for a second `format`.";
+
+/// What `run` does.
+const RUN_ABOUT: &str = "Answers the script on standard input, with a reply for each line.";
+
+/// What is to be known of `run` besides.
+const RUN_NOTES: &str =
+    "A script's commands are make, write, cut, rename, remove, prune, list, read, space and digest.\n\
+    What a line changes is safe in the file before its reply is printed.";
+
+/// What `check` does.
+const CHECK_ABOUT: &str = "Tells what the file is, and changes nothing.";
+
+/// What is to be known of `check` besides.
+const CHECK_NOTES: &str =
+    "It prints one line: `clean PAGES DIRS FILES BYTES` of a whole image, `damaged` or `not-image`.";
+
+/// What `scrub` does.
+const SCRUB_ABOUT: &str = "Makes zeros of whatever the free slots of an image hold.";
+
+/// What is to be known of `scrub` besides.
+const SCRUB_NOTES: &str = "It prints the line that `check` prints from then on.\n\
+    Where it writes, it first finishes what a crash has broken off.";
+
+/// What `wipe` does.
+const WIPE_ABOUT: &str = "Makes every byte of the file zero, whatever the file is.";
+
+/// What is to be known of `wipe` besides.
+const WIPE_NOTES: &str = "The file keeps its length, and `format` can make an image of it again.";
+
+/// What `big` does.
+const BIG_ABOUT: &str = "Carries out generated commands, and prints what came of them.";
+
+/// What is to be known of `big` besides.
+const BIG_NOTES: &str =
+    "It prints four lines at the end: `ok N` and `no N`, how many commands were carried out and how many\n\
+    were refused, `space USED SLOTS`, and `digest HEX`, the SHA-256 of the image.";
+
+/// The command of a word.
+pub fn word_command<'a>(alloc: Global, word: Word) -> Result<Command<'a>, AllocError>
+    ensures { IfOk result (IsWordOf word) }
+{
+    match word {
+        Word::Format => word_with(alloc, "format", FORMAT_ABOUT, FORMAT_NOTES, &FORMAT),
+        Word::Run => word_with(alloc, "run", RUN_ABOUT, RUN_NOTES, &[]),
+        Word::Check => word_with(alloc, "check", CHECK_ABOUT, CHECK_NOTES, &[]),
+        Word::Scrub => word_with(alloc, "scrub", SCRUB_ABOUT, SCRUB_NOTES, &[]),
+        Word::Wipe => word_with(alloc, "wipe", WIPE_ABOUT, WIPE_NOTES, &[]),
+        Word::Big => word_with(alloc, "big", BIG_ABOUT, BIG_NOTES, &BIG),
+    }
+}
+
+/// The command line with no words yet, of which one will be required.
+fn without_words<'a>(alloc: Global) -> Command<'a>
+    ensures line { app_of result ≡ without_words }
+    ensures local { (out-Command result).has_globals ≡ false }
+{
+    without_help(
+        alloc,
+        "hstore",
+        "Keeps directories and files in one file, the image. Its bytes tell what it holds now, and nothing of\n\
+         what it held before or of how it came to be.",
+        "IMAGE is the path of the image's file. `format` makes the file; every other word wants it there.\n\
+         Numbers are decimal digits, with no sign and no leading zero.",
+    )
+    .subcommand_value_name("WORD")
+    .subcommand_help_heading("Words")
+    .no_binary_name(true)
+    .disable_help_subcommand(true)
+    .subcommand_required(true)
+}
+
+/// The command line with one word more, behind the others.
+fn with_word<'a>(alloc: Global, line: Command<'a>, word: Word) -> Result<Command<'a>, AllocError>
+    ensures { IfOk result (AddsWord word line.entry) }
+{
+    line.subcommand(word_command(alloc, word)?)
+}
+
+/// The command line.
+pub fn command<'a>(alloc: Global) -> Result<Command<'a>, AllocError>
+    ensures { IfOk result (λ line. IsLine (app_of line)) }
+{
+    let mut line = without_words(alloc);
+    for word in &WORDS {
+        line = with_word(alloc, line, *word)?;
+    }
+    Ok(line)
+}

@@ -1,0 +1,111 @@
+//! A command line as `clap` read it.
+
+ghost use Rattle.std.specs.Prelude.{◌≡◌, ◌↔◌, ◌∷◌, [], List, ℕ, Some, IsTrue, IfSome, map, codes};
+ghost use Rattle.std.specs.Option.{option_map};
+ghost use Rattle.std.specs.String.{string_bytes};
+ghost use Rattle.clap.specs.Matches.{found_of};
+ghost use Rattle.clap.specs.Simple.{subcommand_rows_of};
+ghost use Rattle.clap.specs.Walk.{first_of, rows_of};
+ghost use Rattle.store_model.specs.Words.{request_of};
+ghost use Rattle.command_line.specs.Line.{HoldsLine, arguments_of};
+ghost use Rattle.command_line.specs.Requests.{request_seen, words_read, IsInRange};
+
+use crate::request::{Request, big_request, format_request, single_request};
+use clap::ArgMatches;
+
+/// A line as `clap` read it: a word, and the value of each of its arguments.
+#[derive(Clone, Copy)]
+pub(crate) enum LineRead<'a> {
+    /// `format`, with the slots, the height, the draw and the seed.
+    Format(&'a str, &'a str, &'a str, &'a str),
+    /// `big`, with the number and the count.
+    Big(&'a str, &'a str),
+    /// A word with no arguments.
+    Single(&'a str),
+}
+
+/// The value of an argument.
+fn value<'a>(given: &ArgMatches<'a>, name: &str) -> Option<&'a str>
+    ensures { option_map (λ text. text.now) result ≡ first_of name.now (rows_of (found_of given.now)) }
+{
+    given.get_str(name)
+}
+
+impl<'a> LineRead<'a> {
+    /// The line that the matches hold.
+    pub(crate) fn of(matches: &ArgMatches<'a>) -> Option<LineRead<'a>>
+        ensures { (line : List (List ℕ)) → HoldsLine line (subcommand_rows_of matches.now) → option_map words_read result ≡ Some line }
+    {
+        let (word, given) = matches.subcommand()?;
+        match word {
+            "format" => LineRead::of_format(given),
+            "big" => LineRead::of_big(given),
+            _ => Some(LineRead::Single(word)),
+        }
+    }
+
+    /// The line of a `format` with these values.
+    fn of_format(given: &ArgMatches<'a>) -> Option<LineRead<'a>>
+        ensures { (values : List (List ℕ)) → map (λ name. first_of name (rows_of (found_of given.now))) (arguments_of (codes "format")) ≡ map Some values
+            → option_map words_read result ≡ Some (codes "format" ∷ values) }
+    {
+        let slots = value(given, "SLOTS")?;
+        let height = value(given, "HEIGHT")?;
+        let draw = value(given, "DRAW")?;
+        let seed = value(given, "SEED")?;
+        Some(LineRead::Format(slots, height, draw, seed))
+    }
+
+    /// The line of a `big` with these values.
+    fn of_big(given: &ArgMatches<'a>) -> Option<LineRead<'a>>
+        ensures { (values : List (List ℕ)) → map (λ name. first_of name (rows_of (found_of given.now))) (arguments_of (codes "big")) ≡ map Some values
+            → option_map words_read result ≡ Some (codes "big" ∷ values) }
+    {
+        let number = value(given, "NUMBER")?;
+        let count = value(given, "COUNT")?;
+        Some(LineRead::Big(number, count))
+    }
+
+    /// Whether the line has just these words.
+    pub(crate) fn has(self, words: &[String]) -> bool
+        ensures { IsTrue result ↔ (map string_bytes words.now ≡ words_read self.entry) }
+    {
+        match self {
+            LineRead::Format(slots, height, draw, seed) => are(
+                words,
+                &["format", slots, height, draw, seed],
+            ),
+            LineRead::Big(number, count) => are(words, &["big", number, count]),
+            LineRead::Single(word) => are(words, &[word]),
+        }
+    }
+
+    /// What the line asks for; `None` exactly where it is not well formed.
+    pub(crate) fn request(self) -> Option<Request>
+        ensures value { option_map request_seen result ≡ request_of (words_read self.entry) }
+        ensures valid { IfSome result IsInRange }
+    {
+        match self {
+            LineRead::Format(slots, height, draw, seed) => format_request(
+                slots, height, draw, seed,
+            ),
+            LineRead::Big(number, count) => big_request(number, count),
+            LineRead::Single(word) => single_request(word),
+        }
+    }
+}
+
+/// Whether the words are these texts.
+fn are(words: &[String], texts: &[&str]) -> bool
+    ensures { IsTrue result ↔ (map string_bytes words.now ≡ map (λ text. text.now) texts.now) }
+{
+    if words.len() != texts.len() {
+        return false;
+    }
+    for i in 0..words.len() {
+        if words[i].as_str() != texts[i] {
+            return false;
+        }
+    }
+    true
+}

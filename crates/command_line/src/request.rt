@@ -1,0 +1,97 @@
+//! What a command line asks for, by the texts of its words.
+
+ghost use Rattle.std.specs.Prelude.{◌≡◌, ◌∷◌, [], codes, IfSome};
+ghost use Rattle.std.specs.Option.{option_map};
+ghost use Rattle.store_model.specs.Parameters.{IsParameters};
+ghost use Rattle.store_model.specs.Words.{kind_of_word, request_of, seed_of_word};
+ghost use Rattle.store_model.specs.Words.Request.{Format};
+ghost use Rattle.command_line.specs.Requests.{request_seen, IsInRange};
+
+use crate::line::MAX_COMMANDS;
+use hex::FromHex;
+use script_lines::parse_number;
+use store_base::Params;
+use store_model::DrawKind;
+
+/// What a command line asks for.
+#[derive(Clone, Copy, Debug)]
+pub enum Request {
+    /// Makes the image of the empty tree.
+    Format(Params),
+    /// Answers a script.
+    Run,
+    /// Tells what the image is.
+    Check,
+    /// Recovers the image, and makes its free slots zero.
+    Scrub,
+    /// Makes every byte zero.
+    Wipe,
+    /// Carries out generated commands: their number, which tells which they are, and how many, 1 to 1,000,000.
+    Big(u32, u32),
+}
+
+/// What a word with no arguments asks for.
+pub(crate) fn single_request(word: &str) -> Option<Request>
+    ensures value { option_map request_seen result ≡ request_of (word.now ∷ []) }
+    ensures valid { IfSome result IsInRange }
+{
+    match word {
+        "run" => Some(Request::Run),
+        "check" => Some(Request::Check),
+        "scrub" => Some(Request::Scrub),
+        "wipe" => Some(Request::Wipe),
+        _ => None,
+    }
+}
+
+/// What `format` asks for, by its arguments.
+pub(crate) fn format_request(slots: &str, height: &str, draw: &str, seed: &str) -> Option<Request>
+    ensures value { option_map request_seen result ≡ request_of (codes "format" ∷ slots.now ∷ height.now ∷ draw.now ∷ seed.now ∷ []) }
+    ensures valid { IfSome result IsInRange }
+{
+    Some(Request::Format(read_params(slots, height, draw, seed)?))
+}
+
+/// The parameters that these words spell; `None` exactly where one of them spells nothing in its range.
+fn read_params(slots: &str, height: &str, draw: &str, seed: &str) -> Option<Params>
+    ensures value { option_map Format result ≡ request_of (codes "format" ∷ slots.now ∷ height.now ∷ draw.now ∷ seed.now ∷ []) }
+    ensures valid { IfSome result IsParameters }
+{
+    let slots = parse_number(slots.as_bytes())?;
+    let height = parse_number(height.as_bytes())?;
+    let height = u8::try_from(height).ok()?;
+    let kind = draw_kind(draw)?;
+    let seed = seed_of(seed)?;
+    Params::new(slots, height, kind, seed).ok()
+}
+
+/// The draw that a word names.
+fn draw_kind(word: &str) -> Option<DrawKind>
+    ensures { result ≡ kind_of_word word.now }
+{
+    match word {
+        "ruler" => Some(DrawKind::Ruler),
+        "sha256" => Some(DrawKind::Sha256),
+        _ => None,
+    }
+}
+
+/// The 32 bytes that 64 hexadecimal digits of either case spell.
+fn seed_of(word: &str) -> Option<[u8; 32]>
+    ensures { result ≡ seed_of_word word.now }
+{
+    <[u8; 32] as FromHex>::from_hex(word).ok()
+}
+
+/// What `big` asks for, by its arguments.
+pub(crate) fn big_request(number: &str, count: &str) -> Option<Request>
+    ensures value { option_map request_seen result ≡ request_of (codes "big" ∷ number.now ∷ count.now ∷ []) }
+    ensures valid { IfSome result IsInRange }
+{
+    let number = parse_number(number.as_bytes())?;
+    let count = parse_number(count.as_bytes())?;
+    if count < 1 || count > MAX_COMMANDS {
+        return None;
+    }
+    Some(Request::Big(number, count))
+}

@@ -1,0 +1,123 @@
+//! The words of a command line, and the file that they need.
+
+ghost use Rattle.std.specs.Prelude.{◌≡◌, ◌≢◌, Some, None, IfSome, IfOk, map};
+ghost use Rattle.std.specs.Option.{option_map};
+ghost use Rattle.std.specs.String.{string_bytes};
+ghost use Rattle.clap.specs.Simple.{subcommand_rows_of};
+ghost use Rattle.store_model.specs.Words.{request_of};
+ghost use Rattle.command_line.specs.Line.{HoldsLine};
+ghost use Rattle.command_line.specs.Requests.{request_seen, wanted_of, IsInRange};
+
+use crate::line;
+use crate::line_read::LineRead;
+use crate::request::Request;
+use clap::ArgMatches;
+use clap::error::ErrorKind;
+use std::alloc::Global;
+use std::marker::Model;
+use store_base::{NoMemory, image_len};
+
+/// The words of a command line, behind the path of the image. Contracts see them as a list of texts.
+#[derive(Drop)]
+pub struct Words {
+    words: Vec<String>,
+    alloc: Global,
+}
+
+impl Model for Words {
+    ghost use Rattle.std.specs.Prelude.{List, ℕ, map};
+    ghost use Rattle.std.specs.String.{string_bytes};
+
+    ghost Value = { List (List ℕ) };
+
+    ghost view = { λ w. map string_bytes w.words.items };
+}
+
+impl Words {
+    ghost use Rattle.std.specs.Prelude.{◌≡◌, ◌++◌, ◌∷◌, [], OnOk, OnErr};
+
+    /// No words. It takes no memory.
+    pub fn new(alloc: Global) -> Self
+        ensures { result ≡ [] }
+    {
+        Words {
+            words: Vec::new(alloc),
+            alloc,
+        }
+    }
+
+    /// Adds a word behind the others.
+    /// `NoMemory`: the words are as they were.
+    pub fn push(&mut self, word: &str) -> Result<(), NoMemory>
+        ensures ok { OnOk result (self.new ≡ self.old ++ word.now ∷ []) }
+        ensures err { OnErr result (self.new ≡ self.old) }
+    {
+        let word = String::from_str(self.alloc, word)?;
+        self.words.push(word)?;
+        Ok(())
+    }
+
+    /// What the words ask for; `None` exactly where they are not well formed.
+    /// `NoMemory`: it was not found out.
+    pub fn request(&self) -> Result<Option<Request>, NoMemory>
+        ensures value { IfOk result (λ asked. option_map request_seen asked ≡ request_of self.now) }
+        ensures valid { IfOk result (λ asked. IfSome asked IsInRange) }
+    {
+        let line = line::command(self.alloc)?;
+        let words = self.words.as_slice();
+        match line.try_get_matches_from(words) {
+            Ok(matches) => Ok(asked(words, &matches)),
+            Err(error) => not_asked(error.kind()),
+        }
+    }
+}
+
+/// What words ask for that were not taken: nothing, but where memory ran out.
+fn not_asked(why: ErrorKind) -> Result<Option<Request>, NoMemory>
+    ensures { IfOk result (λ asked. (asked ≡ None) × (why ≢ ErrorKind.OutOfMemory)) }
+{
+    match why {
+        ErrorKind::OutOfMemory => Err(NoMemory),
+        _ => Ok(None),
+    }
+}
+
+/// What the matches ask for, where they hold the words just as they stand.
+fn asked(words: &[String], matches: &ArgMatches<'_>) -> Option<Request>
+    ensures right { IfSome result (λ request. request_of (map string_bytes words.now) ≡ Some (request_seen request)) }
+    ensures whole { HoldsLine (map string_bytes words.now) (subcommand_rows_of matches.now) → option_map request_seen result ≡ request_of (map string_bytes words.now) }
+    ensures valid { IfSome result IsInRange }
+{
+    let line = LineRead::of(matches)?;
+    if line.has(words) {
+        line.request()
+    } else {
+        None
+    }
+}
+
+/// The file that the words need.
+#[derive(Clone, Copy, Debug, PartialEq, Eq)]
+pub enum Wanted {
+    /// The words are not well formed.
+    Usage,
+    /// A file that is there.
+    Existing,
+    /// A file of so many bytes; where there is none, one is to be made of that many zeros.
+    Fresh(u64),
+}
+
+/// The file that the words need.
+/// `NoMemory`: it was not found out.
+pub fn wanted_len(words: &Words) -> Result<Wanted, NoMemory>
+    ensures { IfOk result (λ wanted. wanted ≡ wanted_of (request_of words.now)) }
+{
+    let Some(request) = words.request()? else {
+        return Ok(Wanted::Usage);
+    };
+    Ok(match request {
+        Request::Format(params) => Wanted::Fresh(image_len(params.slots())),
+        Request::Run | Request::Check | Request::Scrub | Request::Wipe | Request::Big(..) =>
+            Wanted::Existing,
+    })
+}

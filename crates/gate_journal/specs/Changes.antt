@@ -1,0 +1,71 @@
+-- Slots of a table that are to be changed together, and an image with these slots changed.
+use Rattle.std.specs.Prelude.{◌≡◌, ◌⊎◌, ℕ, zero, suc, ◌<◌, List, length, slice_index, Result, OnOk}
+use Rattle.store_model.specs.Lists.{zeros}
+use Rattle.store_model.specs.Parameters.{block_len, mark_at, shadow_at, table_at}
+use Rattle.store_model.specs.Images.{bytes_at, recovered}
+use Rattle.disk_model.specs.DiskState.{DiskState, IsDurable}
+use Rattle.disk_model.specs.DiskCalls.{overwrite, LeavesOnly}
+use Rattle.gate_journal.specs.Places.{IsApart}
+use Rattle.gate_journal.specs.Phases.{HasEmptyJournal}
+
+-- how many slots change, the number of each, and its new bytes
+pub record Changes : Type 0 where
+  pub count : ℕ
+  pub slot : ℕ → ℕ
+  pub bytes : ℕ → List ℕ
+
+-- the numbers rise strictly and are below that of the slots, and the new bytes fill a slot
+pub record AreChanges (slots : ℕ) (changes : Changes) : Type 0 where
+  pub rising : (j k : ℕ) → j < k → k < changes.count → changes.slot j < changes.slot k
+  pub below : (k : ℕ) → k < changes.count → changes.slot k < slots
+  pub whole : (k : ℕ) → k < changes.count → length (changes.bytes k) ≡ block_len
+
+-- the image with the first n of the slots changed
+abbrev pub with_first : ℕ → Changes → ℕ → List ℕ → List ℕ
+with_first slots changes zero image = image
+with_first slots changes (suc n) image = overwrite (with_first slots changes n image) (table_at slots (changes.slot n)) (changes.bytes n)
+
+-- the image with the slots changed
+abbrev pub with_slots : ℕ → Changes → List ℕ → List ℕ
+with_slots slots changes image = with_first slots changes changes.count image
+
+-- the image is as long as the old one, and recovers to that or to the new one
+pub record RecoversToEither (slots : ℕ) (old new image : List ℕ) : Type 0 where
+  pub same_length : length image ≡ length old
+  pub recovers : (recovered slots image ≡ old) ⊎ (recovered slots image ≡ new)
+
+-- a place outside the mark and the shadow block of a slot
+pub record OutsideEntry (slots slot place : ℕ) : Type 0 where
+  pub mark : IsApart (mark_at slot) 1 place
+  pub shadow : IsApart (shadow_at slots slot) block_len place
+
+-- a place outside the marks and the shadow blocks of the changed slots
+abbrev pub OutsideJournal : ℕ → Changes → ℕ → Type 0
+OutsideJournal slots changes place = (k : ℕ) → k < changes.count → OutsideEntry slots (changes.slot k) place
+
+-- a place outside the changed slots of the table
+abbrev pub OutsideTable : ℕ → Changes → ℕ → Type 0
+OutsideTable slots changes place = (k : ℕ) → k < changes.count → IsApart (table_at slots (changes.slot k)) block_len place
+
+-- the mark and the shadow block of a slot
+pub record HasEntry (slots slot mark : ℕ) (shadow : List ℕ) (image : List ℕ) : Type 0 where
+  pub mark_is : slice_index image (mark_at slot) ≡ mark
+  pub shadow_is : bytes_at image (shadow_at slots slot) block_len ≡ shadow
+
+-- the first n of the changed slots are marked, and their shadow blocks hold the new bytes
+abbrev pub AreJournaled : ℕ → Changes → ℕ → List ℕ → Type 0
+AreJournaled slots changes n image = (k : ℕ) → k < n → HasEntry slots (changes.slot k) 1 (changes.bytes k) image
+
+-- the marks and shadow blocks of the first n of the changed slots are zero
+abbrev pub AreErased : ℕ → Changes → ℕ → List ℕ → Type 0
+AreErased slots changes n image = (k : ℕ) → k < n → HasEntry slots (changes.slot k) 0 (zeros block_len) image
+
+-- A commit of the changes. Each image that a crash at any moment of it may leave has the old length and recovers to the
+-- old image or to the one with the slots changed; the same holds of the bytes that the disk reads, whatever the answer.
+-- Ok says that it reads the second of these, and durably.
+pub record Commits {T E : Type 0} (slots : ℕ) (changes : Changes) (old new : DiskState) (result : Result T E) : Type 0 where
+  pub crash : LeavesOnly old new (RecoversToEither slots old.bytes (with_slots slots changes old.bytes))
+  pub reads : RecoversToEither slots old.bytes (with_slots slots changes old.bytes) new.bytes
+  pub durable : OnOk result (IsDurable new)
+  pub done : OnOk result (new.bytes ≡ with_slots slots changes old.bytes)
+  pub empty : OnOk result (HasEmptyJournal slots new.bytes)

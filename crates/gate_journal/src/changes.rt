@@ -1,0 +1,22 @@
+//! Slots that are to be changed together.
+ghost use Rattle.std.specs.Prelude.{◌≡◌, ◌<◌};
+ghost use Rattle.gate_journal.specs.Changes.{Changes};
+
+use store_model::Slot;
+
+/// Slots of the table that are to be changed, each with its new bytes. `Journal::commit` asks that their numbers rise
+/// strictly and are below that of the table's slots.
+pub trait SlotChanges {
+    /// How many slots change, the number of each, and its new bytes.
+    ghost changes: { Self → Changes };
+
+    /// How many slots change.
+    fn count(&self) -> u32
+        ensures { result ≡ (changes self.now).count };
+
+    /// The number of the slot of change `k`, and its new bytes.
+    fn change(&self, k: u32) -> (u32, &Slot)
+        requires { k < (changes self.now).count }
+        ensures slot { result.0 ≡ (changes self.now).slot k }
+        ensures bytes { result.1.now ≡ (changes self.now).bytes k };
+}

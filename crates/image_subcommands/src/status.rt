@@ -1,0 +1,157 @@
+//! How a call of `top` ended.
+
+ghost use Rattle.std.specs.Prelude.{◌≡◌};
+ghost use Rattle.image_subcommands.specs.Statuses.{row, done_of_work, done_of_verdict};
+ghost use Rattle.image_subcommands.specs.Endings.{fault_status, journal_status, line_status, attach_status, apply_status};
+ghost use Rattle.image_subcommands.specs.declared.status.Status.TheVariants as statuses;
+
+use gate_journal::JournalFault;
+use image_check::{ApplyFault, AttachFault};
+use script_lines::{LineFault, SinkFault};
+use store_base::{DiskFault, Fault};
+
+/// How a call of `top` ended. The program ends with its code.
+#[derive(Clone, Copy, Debug, PartialEq, Eq)]
+pub enum Status {
+    /// All was done: the image is formatted, or is found clean, or is scrubbed, or the disk is wiped, or no line of the
+    /// script is left and every reply is written, or all commands of a number are carried out and summed up.
+    Done,
+    /// The words are not served. Nothing was read, written or printed.
+    Usage,
+    /// A take from the source failed. The image is the layout of the tree after the answered lines.
+    SourceFault,
+    /// A put into the sink failed. With `run` the image is the layout of the tree after the answered lines, with `big` that of
+    /// the tree after all commands; with `scrub` it is scrubbed, where scrubbing leaves the layout of a tree.
+    SinkFault,
+    /// A read, a write or a sync of the disk failed.
+    DiskFault,
+    /// As many bytes were taken as a script may have, and one more came. The image is the layout of the tree
+    /// after the answered lines.
+    TooLong,
+    /// The disk does not start with the header of some image of its length. Nothing was written.
+    NotImage,
+    /// What recovery would leave is the layout of no tree, or for `scrub` what scrubbing would leave. Nothing was written.
+    Damaged,
+    /// Memory ran out.
+    NoMemory,
+    /// There is an image on the disk already. Nothing was written.
+    AlreadyImage,
+    /// The disk has not the length of the image. Nothing was written.
+    WrongLength,
+}
+
+impl Status {
+    /// The number that the program ends with.
+    pub fn code(self) -> u8
+        ensures { result ≡ (row self).code }
+    {
+        match self {
+            Status::Done => 0,
+            Status::Usage => 2,
+            Status::SourceFault => 3,
+            Status::SinkFault => 4,
+            Status::DiskFault => 5,
+            Status::TooLong => 6,
+            Status::NotImage => 7,
+            Status::Damaged => 8,
+            Status::NoMemory => 9,
+            Status::AlreadyImage => 10,
+            Status::WrongLength => 11,
+        }
+    }
+
+    /// How many pieces of work were carried out by `format` or `wipe`: one or none.
+    pub(crate) fn done_of_work(self) -> u64
+        ensures { result ≡ done_of_work self }
+    {
+        match self {
+            Status::Done => 1,
+            _ => 0,
+        }
+    }
+
+    /// How many verdicts a check or a scrub came to: one or none.
+    pub(crate) fn done_of_verdict(self) -> u64
+        ensures { result ≡ done_of_verdict self }
+    {
+        match self {
+            Status::Done | Status::NotImage | Status::Damaged | Status::SinkFault => 1,
+            _ => 0,
+        }
+    }
+}
+
+impl From<DiskFault> for Status {
+    ghost from_gives = { λ _ status. status ≡ statuses.DiskFault };
+
+    fn from(_: DiskFault) -> Self {
+        Status::DiskFault
+    }
+}
+
+impl From<SinkFault> for Status {
+    ghost from_gives = { λ _ status. status ≡ statuses.SinkFault };
+
+    fn from(_: SinkFault) -> Self {
+        Status::SinkFault
+    }
+}
+
+impl From<Fault> for Status {
+    ghost from_gives = { λ fault status. status ≡ fault_status fault };
+
+    fn from(fault: Fault) -> Self {
+        match fault {
+            Fault::Disk => Status::DiskFault,
+            Fault::NoMemory => Status::NoMemory,
+        }
+    }
+}
+
+impl From<JournalFault> for Status {
+    ghost from_gives = { λ fault status. status ≡ journal_status fault };
+
+    fn from(fault: JournalFault) -> Self {
+        match fault {
+            JournalFault::Disk => Status::DiskFault,
+            JournalFault::AlreadyImage => Status::AlreadyImage,
+            JournalFault::WrongLength => Status::WrongLength,
+        }
+    }
+}
+
+impl From<LineFault> for Status {
+    ghost from_gives = { λ fault status. status ≡ line_status fault };
+
+    fn from(fault: LineFault) -> Self {
+        match fault {
+            LineFault::Source => Status::SourceFault,
+            LineFault::TooLong => Status::TooLong,
+        }
+    }
+}
+
+impl From<AttachFault> for Status {
+    ghost from_gives = { λ fault status. status ≡ attach_status fault };
+
+    fn from(fault: AttachFault) -> Self {
+        match fault {
+            AttachFault::Disk => Status::DiskFault,
+            AttachFault::NoMemory => Status::NoMemory,
+            AttachFault::NotImage => Status::NotImage,
+            AttachFault::Damaged => Status::Damaged,
+        }
+    }
+}
+
+impl From<ApplyFault> for Status {
+    ghost from_gives = { λ fault status. status ≡ apply_status fault };
+
+    fn from(fault: ApplyFault) -> Self {
+        match fault {
+            // what stopped a store was its disk
+            ApplyFault::Disk | ApplyFault::Stopped => Status::DiskFault,
+            ApplyFault::NoMemory => Status::NoMemory,
+        }
+    }
+}

@@ -1,2 +1,0 @@
-pub mod ComparedSlots
-pub mod ReadLemmas

@@ -1,3 +1,0 @@
-pub mod CallsBehind
-pub mod LevelCalls
-pub mod SetCalls

@@ -1,0 +1,36 @@
+-- Lemmas on reads of what is known of a label.
+use Rattle.std.proofs.Common.{ℕ, List, Option, Ok, refl, sym, ap, subst, ◌∙◌, inl, inr}
+use Rattle.std.specs.FinMap as maps
+use Rattle.store_model.specs.Labels.{Label}
+use Rattle.store_model.specs.Draws.{Draw}
+use Rattle.store_model.specs.Pages.{Page}
+use Rattle.store_model.specs.PageMaps.{HoldsPages}
+use Rattle.store_base.specs.SlotsState.{SlotsState, IsObservable}
+use Rattle.store_base.proofs.SlotsCalls.{AreSlotCalls-none}
+use Rattle.table_memory.specs.Memos.{Remembered, IsRemembered, IsKnown, IsMemoOf, RemembersMore}
+use Rattle.table_memory.specs.Staging.{Changes}
+use Rattle.page_store.specs.Lookups.{Reads, ReadsChanged}
+use Rattle.page_store.proofs.LookupLemmas.{staged_read, settled_read}
+
+-- what is remembered of a label needs no read
+pub recalled : (d : Draw) (slots : SlotsState) (memo : Remembered) (l : Label) (page : Option Page) → IsMemoOf d slots memo → IsRemembered memo l page → Reads d slots slots l (Ok page)
+recalled d slots memo l page of is = record { calls = AreSlotCalls-none slots page; reads = λ observable. refl; found = λ m observable holds. of.tells m observable holds l page is }
+
+-- nor does what is known of it
+pub known_read : (d : Draw) (slots : SlotsState) (changes : Changes) (memo : Remembered) (l : Label) (page : Option Page) → IsMemoOf d slots memo → IsKnown changes memo l page → ReadsChanged d slots slots changes l (Ok page)
+known_read d slots changes memo l page of known = elim known [
+  | inl staged ↦ staged_read d slots changes l page (sym staged)
+  | inr before ↦ settled_read d slots slots changes l (Ok page) (sym before.0) (recalled d slots memo l page of before.1)
+]
+
+-- behind a read it is a memo of the slots still, with what was found
+pub memo_more : (d : Draw) (old new : SlotsState) (memo after : Remembered) (at : Label) (found : Option Page) → Reads d old new at (Ok found) → IsMemoOf d old memo → RemembersMore memo after at found → IsMemoOf d new after
+memo_more d old new memo after at found read of more = record {
+  tells = λ m observable holds l page is.
+      let before : IsObservable old = sym read.calls.observable ∙ observable in
+      let held = subst (λ (slots : List (List ℕ)). HoldsPages d slots m) (read.reads before) holds in
+      elim (more l page is) [
+        | inl was ↦ of.tells m before held l page was
+        | inr now ↦ now.1 ∙ read.found m before held ∙ ap (maps.get m) (sym now.0)
+      ];
+}

@@ -1,0 +1,17 @@
+-- What is seen of an overlay.
+use Rattle.std.specs.Prelude.{ℕ, List}
+use Rattle.disk_model.specs.declared.disk.Disk as declared
+use Rattle.page_store.specs.declared.overlay.Overlay.{Overlay}
+use Rattle.store_model.specs.Parameters.{Parameters}
+
+-- the disk below
+abbrev pub disk_of : {D : Type 0} {ghosts : declared.Ghosts D} → Overlay D ghosts → D
+disk_of overlay = overlay.disk
+
+-- the parameters that the disk is read by
+abbrev pub params_of : {D : Type 0} {ghosts : declared.Ghosts D} → Overlay D ghosts → Parameters
+params_of overlay = overlay.params
+
+-- the slots that were written, with their bytes
+abbrev pub touched_of : {D : Type 0} {ghosts : declared.Ghosts D} → Overlay D ghosts → List (ℕ × List ℕ)
+touched_of overlay = overlay.touched.entries

@@ -1,5 +1,0 @@
-pub mod CellBytes
-pub mod Filled
-pub mod Inserted
-pub mod Packed
-pub mod PageBytes

@@ -1,0 +1,118 @@
+//! A change of one key on one level of the list: the pages of one group, or of two that become one.
+
+ghost use Rattle.std.specs.Prelude.{◌≡◌, ◌+◌, ◌<◌, ◌≤◌, [], ◌∷◌, length, map, cond};
+ghost use Rattle.std.specs.List.Sorted.{IsStrictlySortedBy};
+ghost use Rattle.std.specs.FinMap as maps;
+ghost use Rattle.store_base.specs.Leads.{lead_of};
+ghost use Rattle.store_model.specs.Labels.Lead.{Leader};
+ghost use Rattle.store_model.specs.Paths.{key_cmp};
+ghost use Rattle.node_pages.specs.PagesState.{IsObservable, most_pages};
+ghost use Rattle.skip_levels.specs.CellChanges.{HasRoom, SetsCells, SplitsGroup, JoinsGroups};
+ghost use Rattle.skip_groups.specs.GroupChanges.{IsRunChange};
+ghost use Rattle.skip_groups.specs.GroupParts.{run_past};
+
+use node_pages::{Cell, Cells, Pages, room};
+use skip_groups::{
+    NewCells, append_own, change_run, label_in_group, lead_behind, part_group, read_new_cells,
+};
+use std::alloc::Global;
+use store_base::{Fault, Key, Lead};
+
+/// Sets the key's cells, one or none, in the group that `lead` leads on the level, in the place of the cell that the key
+/// had there. `fresh` lends its memory; it is not needed where one page takes one cell more, which is then changed where it lies. The answer
+/// is what leads the group of the next lower level, strictly below the key.
+pub fn set_cells<P: Pages>(
+    pages: &mut P,
+    fresh: &mut NewCells,
+    level: u8,
+    lead: &Lead,
+    key: &Key,
+    own: &[Cell],
+) -> Result<Lead, Fault>
+    requires own { length own.now ≤ 1 }
+    requires room { IsObservable (P.state pages.old) → HasRoom (P.state pages.old).pages level (lead_of lead.now) }
+    ensures call { SetsCells (P.state pages.old) (P.state pages.new) level (lead_of lead.now) key.now own.now result }
+    ensures follows { P.follows pages.old pages.new }
+{
+    fresh.restart(level, lead);
+    if let Some(at) = read_new_cells(pages, lead, key, own, fresh)? {
+        pages.insert_cell(&label_in_group(level, lead, fresh.kept), at, &own[0])?;
+        return Ok(fresh.next);
+    }
+    change_run(pages, lead, fresh.kept, fresh.count, &fresh.cells)?;
+    Ok(fresh.next)
+}
+
+/// Changes the pages of the group that `lead` leads to those that come of it, unless all its cells are where they were.
+fn change_moved<P: Pages>(
+    pages: &mut P,
+    lead: &Lead,
+    made: &NewCells,
+    moved: bool,
+) -> Result<(), Fault>
+    requires rising { IsStrictlySortedBy key_cmp (map (λ c. c.key) made.now.cells.cells) }
+    requires room { IsObservable (P.state pages.old) → maps.len (P.state pages.old).pages + (made.now.count + length made.now.cells.cells) < most_pages }
+    ensures call { IsRunChange (P.state pages.old) (P.state pages.new) (lead_of lead.now) made.now.kept made.now.count made.now.cells (cond moved (run_past made.now) 0) result }
+    ensures follows { P.follows pages.old pages.new }
+{
+    if !moved {
+        return Ok(());
+    }
+    change_run(pages, lead, made.kept, made.count, &made.cells)
+}
+
+/// Cuts the group that `lead` leads on the level in two: the cells below the key stay, and the key's own cell and those above
+/// it make the group that the key leads. `fresh` lends its memory. The answer is what leads the group of the next lower level, strictly
+/// below the key.
+pub fn split_group<P: Pages>(
+    alloc: Global,
+    pages: &mut P,
+    fresh: &mut NewCells,
+    level: u8,
+    lead: &Lead,
+    key: &Key,
+    own: Cell,
+) -> Result<Lead, Fault>
+    requires room { IsObservable (P.state pages.old) → HasRoom (P.state pages.old).pages level (lead_of lead.now) }
+    ensures call { SplitsGroup (P.state pages.old) (P.state pages.new) level (lead_of lead.now) key.now (own ∷ []) result }
+    ensures follows { P.follows pages.old pages.new }
+{
+    let mut high = Cells::with_room(alloc, level, u32::from(room(level)) + 1)?;
+    append_own(&mut high, &[own], key)?;
+    let first = high.len();
+    fresh.restart(level, lead);
+    part_group(pages, lead, key, fresh, &mut high)?;
+    change_moved(pages, lead, fresh, high.len() > first)?;
+    change_run(pages, &Lead::Key(*key), 0, 0, &high)?;
+    Ok(lead_behind(&fresh.cells, &fresh.next))
+}
+
+/// Joins the group that the key leads on the level to that of `lead`, which stands before it, and leaves out the key's own cell.
+/// `fresh` lends its memory. The answer is what leads the group of the next lower level, strictly below the key.
+pub fn join_groups<P: Pages>(
+    alloc: Global,
+    pages: &mut P,
+    fresh: &mut NewCells,
+    level: u8,
+    lead: &Lead,
+    key: &Key,
+) -> Result<Lead, Fault>
+    requires room { IsObservable (P.state pages.old) → HasRoom (P.state pages.old).pages level (lead_of lead.now) }
+    requires own_room { IsObservable (P.state pages.old) → HasRoom (P.state pages.old).pages level (Leader key.now) }
+    ensures call { JoinsGroups (P.state pages.old) (P.state pages.new) level (lead_of lead.now) key.now result }
+    ensures follows { P.follows pages.old pages.new }
+{
+    let leader = Lead::Key(*key);
+    fresh.restart(level, lead);
+    let mut none = Cells::new(alloc, level);
+    part_group(pages, lead, key, fresh, &mut none)?;
+    let next = lead_behind(&fresh.cells, &fresh.next);
+    let first = fresh.cells.len();
+    let mut gone = NewCells::new(alloc);
+    gone.restart(level, &leader);
+    part_group(pages, &leader, key, &mut gone, &mut fresh.cells)?;
+    let count = gone.kept + gone.count;
+    change_run(pages, &leader, 0, count, &Cells::new(alloc, level))?;
+    change_moved(pages, lead, fresh, fresh.cells.len() > first)?;
+    Ok(next)
+}

@@ -1,7 +1,0 @@
-use Rattle.slot_memory.specs.Starts.{AreStarts}
-use Rattle.slot_cache.specs.Carrying.{TakingPages}
-use Rattle.slot_cache.proofs.carry.take_pages.Given as goal
-
-abbrev pub invariant-loop-label : goal.invariant-loop-label
-invariant-loop-label g l =
-    TakingPages (g.W.Draw.drawn l.draw) (g.S.ReadSlots.state l.fn.slots) (g.S.ReadSlots.state l.slots) l.changes.entries l.label-iterator × g.S.ReadSlots.follows l.fn.slots l.slots × AreStarts (g.W.Draw.drawn l.draw) l.hints

@@ -1,9 +1,0 @@
-use Rattle.std.proofs.Common.{◌≡◌, ◌+◌, ◌*◌, drop, length, slice_index}
-use Rattle.slot_memory.specs.Memos.{checked}
-use Rattle.slot_memory.proofs.memo.checksum_of_key.Given as goal
-
-abbrev pub invariant-loop-word : goal.invariant-loop-word
-invariant-loop-word l = record {
-  rest : checked (drop l.word-index l.words) l.sum l.sums ≡ checked l.words (l.fn.first + 256 * slice_index l.fn.key 122 + slice_index l.fn.key 123) 0;
-  few : length l.words ≡ 15;
-}

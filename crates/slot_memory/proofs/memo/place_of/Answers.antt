@@ -1,7 +1,0 @@
-use Rattle.std.proofs.Common.{ℕ, ◌%◌, ap}
-use Rattle.slot_memory.specs.Memos.{place_of}
-use Rattle.slot_memory.proofs.memo.place_of.Goals as goal
-
-pub returns-clause-value : goal.returns-clause-value
-unfolding place_of
-returns-clause-value c = ap (λ (n : ℕ). n % 227) c.checksum_of_label.ensures

@@ -1,0 +1,48 @@
+//! The slots that the calls on the table work on, wherever their bytes lie.
+
+ghost use Rattle.std.specs.Prelude.{◌<◌};
+ghost use Rattle.store_base.specs.SlotsState.{SlotsState, IsObservable, IsCounted, AreWhole, IsGet, IsSet};
+
+use crate::store_fault::Fault;
+use store_model::Slot;
+
+/// Slots that can be read, numbered from 0.
+///
+/// How many there are never changes, nor whether they tell their bytes, nor whether calls on them take no
+/// memory. A call that answers `Fault::Disk` raises the count of faults by one and no other call changes
+/// it, and none answers `Fault::NoMemory` where calls take no memory.
+pub trait ReadSlots {
+    /// What the slots mean at this moment.
+    ghost state: { Self → SlotsState };
+
+    /// What each call keeps of what lies below the slots, after faults too.
+    ghost follows: { Self → Self → Type 0 };
+
+    /// Reads slot `at` into the buffer. After a fault the buffer may hold anything, and the slots are as
+    /// they were.
+    fn get(&mut self, at: u32, into: &mut Slot) -> Result<(), Fault>
+        requires { at < (state self.old).count }
+        ensures call { IsGet (state self.old) (state self.new) at into.new result }
+        ensures follows { follows self.old self.new };
+
+    /// There are as many slots as their number says.
+    ghost counted: { (slots : Self) → IsObservable (state slots) → IsCounted (state slots) };
+
+    /// Each slot has the bytes of a block.
+    ghost whole: { (slots : Self) → IsObservable (state slots) → AreWhole (state slots).slots };
+
+    /// Slots on which no call was made follow themselves.
+    ghost follows_refl: { (slots : Self) → follows slots slots };
+
+    /// What follows slots that follow others follows those too.
+    ghost follows_trans: { (old mid new : Self) → follows old mid → follows mid new → follows old new };
+}
+
+/// Slots that can be read and written.
+pub trait Slots: ReadSlots {
+    /// Writes slot `at`. After a fault the slots are as they were.
+    fn set(&mut self, at: u32, slot: &Slot) -> Result<(), Fault>
+        requires { at < (Self.state self.old).count }
+        ensures call { IsSet (Self.state self.old) (Self.state self.new) at slot.now result }
+        ensures follows { Self.follows self.old self.new };
+}

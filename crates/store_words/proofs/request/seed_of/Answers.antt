@@ -1,6 +1,0 @@
-use Rattle.std.proofs.Common.{◌∙◌}
-use Rattle.store_words.proofs.FormatLemmas.{seed_decoded}
-use Rattle.store_words.proofs.request.seed_of.Goals as goal
-
-pub returns : goal.returns
-returns c = c.ok.ensures.value ∙ seed_decoded c.args.word.now _ c.from_hex.ensures

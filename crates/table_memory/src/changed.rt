@@ -1,0 +1,29 @@
+//! Slots of a table that a settle commits.
+
+ghost use Rattle.std.specs.Prelude.{◌≡◌, ◌<◌, length};
+ghost use Rattle.table_memory.specs.Caches.{changes_of};
+
+use crate::boxed::Boxed;
+use gate_journal::SlotChanges;
+use store_model::Slot;
+
+/// Slots of a table, each with its new bytes.
+#[derive(Drop)]
+pub struct ChangedSlots {
+    /// The slots, each with its number.
+    pub slots: Vec<(u32, Boxed<Slot>)>,
+    pub ghost few: { length slots.items < 4294967296 },
+}
+
+impl SlotChanges for ChangedSlots {
+    ghost changes = { λ c. changes_of c.slots.items };
+
+    fn count(&self) -> u32 {
+        self.slots.len() as u32
+    }
+
+    fn change(&self, k: u32) -> (u32, &Slot) {
+        let (at, bytes) = &self.slots[k as usize];
+        (*at, bytes.get())
+    }
+}
