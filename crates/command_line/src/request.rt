@@ -49,11 +49,11 @@ pub(crate) fn format_request(slots: &str, height: &str, draw: &str, seed: &str) 
     ensures value { option_map request_seen result ≡ request_of (codes "format" ∷ slots.now ∷ height.now ∷ draw.now ∷ seed.now ∷ []) }
     ensures valid { IfSome result IsInRange }
 {
-    Some(Request::Format(read_params(slots, height, draw, seed)?))
+    Some(Request::Format(params_of_values(slots, height, draw, seed)?))
 }
 
 /// The parameters that these words spell; `None` exactly where one of them spells nothing in its range.
-fn read_params(slots: &str, height: &str, draw: &str, seed: &str) -> Option<Params>
+fn params_of_values(slots: &str, height: &str, draw: &str, seed: &str) -> Option<Params>
     ensures value { option_map Format result ≡ request_of (codes "format" ∷ slots.now ∷ height.now ∷ draw.now ∷ seed.now ∷ []) }
     ensures valid { IfSome result IsParameters }
 {

@@ -29,7 +29,7 @@ use Rattle.tree_pairs.proofs.CallLemmas.{step_refused}
 use Rattle.tree_pairs.specs.Blocks.{block_value, tree_blocks}
 use Rattle.tree_pairs.proofs.BlocksLemmas.{run_value-none, length-run_at, blocks_alike}
 use Rattle.tree_pairs.proofs.ChangesLemmas.{put_block, blocks_at, pairs-with_node}
-use Rattle.file_blocks.specs.FileCalls.{file_blocks, HasFile, PutsBytes}
+use Rattle.file_blocks.specs.FileCalls.{file_blocks, HasFile, PutsFileBytes}
 use Rattle.file_blocks.specs.Refusals.{size_of, is_dir, is_absent, write_conditions, cut_conditions, read_conditions}
 use Rattle.file_blocks.proofs.RunLemmas.{length-overwrite}
 
@@ -156,7 +156,7 @@ pairs-write_within t p x at len bytes s h l are e long is has =
 
 -- what a write that isn't refused found, and what it has put but for the first pair
 pub written : (x : Path) (size at : ℕ) (bytes piece : List ℕ) (kind : Kind) (old between after : PairsState) → HasParent old x → TellsKind x old between (Ok kind) → piece ≡ bytes → first_refusal (write_conditions kind at (length piece)) ≡ None
-    → PutsBytes {T = Unit {0}} x size at piece between after (Ok (tt {0})) → size_of kind ≤ size → IsObservable old → (t : Tree) (p : Parameters) → HoldsTree old t p
+    → PutsFileBytes {T = Unit {0}} x size at piece between after (Ok (tt {0})) → size_of kind ≤ size → IsObservable old → (t : Tree) (p : Parameters) → HoldsTree old t p
     → (refusal_of t (Write x at bytes) ≡ None) × HasFile x (tree_blocks t x 0) (overwrite (contents t x) at bytes) (tree_blocks t) after.pairs
 written x size at bytes piece kind old between after parent told same fits puts short seen t p holds =
     let free : refusal_of t (Write x at bytes) ≡ None =

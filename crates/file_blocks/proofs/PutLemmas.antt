@@ -6,12 +6,12 @@ use Rattle.store_model.specs.Paths.{Path}
 use Rattle.store_base.specs.declared.store_fault.Fault.{Fault}
 use Rattle.store_base.specs.Faults.{disk_faults_after}
 use Rattle.ordered_pairs.specs.PairsState.{PairsState}
-use Rattle.file_blocks.specs.FileCalls.{HasFile, PutsBytes}
+use Rattle.file_blocks.specs.FileCalls.{HasFile, PutsFileBytes}
 use Rattle.file_blocks.proofs.RunLemmas.{length-overwrite, overwrite-nothing, overwrite-overwrite}
 use Rattle.file_blocks.proofs.FileLemmas.{on_ok}
 
 -- before the first byte nothing is put
-pub puts_nothing : (x : Path) (size at : ℕ) (s : PairsState) → PutsBytes {T = Unit {0}} x size at [] s s (Ok (tt {0}))
+pub puts_nothing : (x : Path) (size at : ℕ) (s : PairsState) → PutsFileBytes {T = Unit {0}} x size at [] s s (Ok (tt {0}))
 puts_nothing x size at s = record {
   faults = refl;
   observable = λ seen. seen;
@@ -21,7 +21,7 @@ puts_nothing x size at s = record {
 
 -- one piece and then the next
 puts_both : {T : Type 0} (x : Path) (size at : ℕ) (a b : List ℕ) (old between new : PairsState) (result : Result T Fault) → at + length a ≤ size
-    → PutsBytes {T = Unit {0}} x size at a old between (Ok (tt {0})) → PutsBytes x size (at + length a) b between new result → PutsBytes x size at (a ++ b) old new result
+    → PutsFileBytes {T = Unit {0}} x size at a old between (Ok (tt {0})) → PutsFileBytes x size (at + length a) b between new result → PutsFileBytes x size at (a ++ b) old new result
 puts_both x size at a b old between new result within h g = record {
   faults = g.faults ∙ ap (λ n. disk_faults_after n result) h.faults;
   observable = λ seen. g.observable (h.observable seen);
@@ -34,21 +34,21 @@ puts_both x size at a b old between new result within h g = record {
 -- the bytes up to a place, and then those up to a later one
 pub puts_more : {T : Type 0} (x : Path) (size at place done end : ℕ) (bytes piece : List ℕ) (old between new : PairsState) (result : Result T Fault)
     → place ≡ at + done → done ≤ end → done ≤ length bytes → at + length bytes ≤ size → piece ≡ take (end - done) (drop done bytes)
-    → PutsBytes {T = Unit {0}} x size at (take done bytes) old between (Ok (tt {0})) → PutsBytes x size place piece between new result → PutsBytes x size at (take end bytes) old new result
+    → PutsFileBytes {T = Unit {0}} x size at (take done bytes) old between (Ok (tt {0})) → PutsFileBytes x size place piece between new result → PutsFileBytes x size at (take end bytes) old new result
 puts_more x size at place done end bytes piece old between new result e l m within is h g =
     let long = length-take done bytes in
     let there : place ≡ at + length (take done bytes) = omega arith in
     let both : take done bytes ++ piece ≡ take end bytes = ap (λ z. take done bytes ++ z) is ∙ sym (take-add done (end - done) bytes) ∙ ap (λ n. take n bytes) (let f : done + (end - done) ≡ end = omega arith in f) in
     let front : at + length (take done bytes) ≤ size = omega arith in
-    subst (λ (z : List ℕ). PutsBytes x size at z old new result) both (puts_both x size at (take done bytes) piece old between new result front h (subst (λ (n : ℕ). PutsBytes x size n piece between new result) there g))
+    subst (λ (z : List ℕ). PutsFileBytes x size at z old new result) both (puts_both x size at (take done bytes) piece old between new result front h (subst (λ (n : ℕ). PutsFileBytes x size n piece between new result) there g))
 
 -- the bytes up to the end are all
-pub puts_all : (x : Path) (size at done : ℕ) (bytes : List ℕ) (old new : PairsState) → length bytes ≤ done → PutsBytes {T = Unit {0}} x size at (take done bytes) old new (Ok (tt {0})) → PutsBytes {T = Unit {0}} x size at bytes old new (Ok (tt {0}))
-puts_all x size at done bytes old new l h = subst (λ (z : List ℕ). PutsBytes {T = Unit {0}} x size at z old new (Ok (tt {0}))) (take_all done bytes l) h
+pub puts_all : (x : Path) (size at done : ℕ) (bytes : List ℕ) (old new : PairsState) → length bytes ≤ done → PutsFileBytes {T = Unit {0}} x size at (take done bytes) old new (Ok (tt {0})) → PutsFileBytes {T = Unit {0}} x size at bytes old new (Ok (tt {0}))
+puts_all x size at done bytes old new l h = subst (λ (z : List ℕ). PutsFileBytes {T = Unit {0}} x size at z old new (Ok (tt {0}))) (take_all done bytes l) h
 
 -- a fault on the way is the fault of the whole
 pub puts_failed : {T S : Type 0} (x : Path) (size at place : ℕ) (a b bytes : List ℕ) (old between new : PairsState) (fault : Fault)
-    → PutsBytes {T = Unit {0}} x size at a old between (Ok (tt {0})) → PutsBytes {T = T} x size place b between new (Err fault) → PutsBytes {T = S} x size at bytes old new (Err fault)
+    → PutsFileBytes {T = Unit {0}} x size at a old between (Ok (tt {0})) → PutsFileBytes {T = T} x size place b between new (Err fault) → PutsFileBytes {T = S} x size at bytes old new (Err fault)
 puts_failed x size at place a b bytes old between new fault h g = record {
   faults = g.faults ∙ ap (λ n. disk_faults_after {T = Unit {0}} n (Err fault)) h.faults;
   observable = λ seen. tt;

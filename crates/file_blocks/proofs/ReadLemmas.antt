@@ -8,7 +8,7 @@ use Rattle.store_model.specs.Paths.{Path, is_path, key, key_cmp}
 use Rattle.store_model.specs.Pairs.{file_block}
 use Rattle.ordered_pairs.specs.PairsState.{PairsState, IsObservable, IsPairGet}
 use Rattle.tree_pairs.specs.Blocks.{BlockMap}
-use Rattle.file_blocks.specs.FileCalls.{HasFile, ReadsBytes, block_bytes}
+use Rattle.file_blocks.specs.FileCalls.{HasFile, ReadsFileBytes, block_bytes}
 use Rattle.file_blocks.proofs.FileLemmas.{found_run}
 
 -- a front is as long as it says
@@ -38,7 +38,7 @@ pub record IsPieceRead (x : Path) (place most : ℕ) (old new : PairsState) (pie
 
 pub piece_read : (x : Path) (place most block : ℕ) (k bytes piece : List ℕ) (found : Option (List ℕ)) (at n : ℕ) (items : List ℕ) (old between new : PairsState)
     → IsTrue (is_path x) → k ≡ key x block → block ≡ place / 256 + 1 → block < 4294967296 → bytes ≡ block_bytes found → piece ≡ take most (drop (place % 256) bytes)
-    → ReadsBytes x at n old between (Ok items) → IsPairGet between new k (Ok found) → IsPieceRead x place most old new piece
+    → ReadsFileBytes x at n old between (Ok items) → IsPairGet between new k (Ok found) → IsPieceRead x place most old new piece
 piece_read x place most block k bytes piece found at n items old between new path key_is number l read is h g = record {
   piece_is = λ seen first y others has.
       let found_is = (g.observed (h.keeps.observable seen)).found ∙ ap₂ (λ q s. find key_cmp q s) key_is (h.keeps.unchanged seen) in
@@ -48,7 +48,7 @@ piece_read x place most block k bytes piece found at n items old between new pat
 -- the bytes read so far, and those of a piece behind them
 pub reads_more : (x : Path) (place most at n more : ℕ) (k piece items all : List ℕ) (found : Option (List ℕ)) (old between new : PairsState)
     → place ≡ at + n → n ≡ length items → all ≡ items ++ piece → more ≡ length all
-    → IsPieceRead x place most old new piece → ReadsBytes x at n old between (Ok items) → IsPairGet between new k (Ok found) → ReadsBytes x at more old new (Ok all)
+    → IsPieceRead x place most old new piece → ReadsFileBytes x at n old between (Ok items) → IsPairGet between new k (Ok found) → ReadsFileBytes x at more old new (Ok all)
 reads_more x place most at n more k piece items all found old between new there long all_is more_is read h g =
     let sizes = length-append items piece in
     let sum : more ≡ n + length piece = omega (arith, ap length all_is) in
@@ -65,7 +65,7 @@ reads_more x place most at n more k piece items all found old between new there 
 -- in a file that has the bytes no piece is empty, so what is read is all
 pub reads_end : (x : Path) (place most at n count : ℕ) (k items : List ℕ) (found : Option (List ℕ)) (old between new : PairsState)
     → place ≡ at + n → n < count → most ≡ count - n
-    → IsPieceRead x place most old new [] → ReadsBytes x at n old between (Ok items) → IsPairGet between new k (Ok found) → ReadsBytes x at count old new (Ok items)
+    → IsPieceRead x place most old new [] → ReadsFileBytes x at n old between (Ok items) → IsPairGet between new k (Ok found) → ReadsFileBytes x at count old new (Ok items)
 reads_end x place most at n count k items found old between new there l most_is read h g = record {
   faults = g.faults ∙ h.faults;
   keeps = record { observable = λ seen. (g.observed (h.keeps.observable seen)).observable; unchanged = λ seen. (g.observed (h.keeps.observable seen)).unchanged ∙ h.keeps.unchanged seen };
@@ -83,8 +83,8 @@ no_piece [] e = refl
 no_piece (x ∷ xs) e = absurd (let same = eqb-true (suc (length xs)) 0 e in omega arith)
 
 -- what was read, under other names
-pub reads_all : (x : Path) (at n count : ℕ) (items answer : List ℕ) (old between new : PairsState) → n ≡ count → new ≡ between → answer ≡ items → ReadsBytes x at n old between (Ok items) → ReadsBytes x at count old new (Ok answer)
+pub reads_all : (x : Path) (at n count : ℕ) (items answer : List ℕ) (old between new : PairsState) → n ≡ count → new ≡ between → answer ≡ items → ReadsFileBytes x at n old between (Ok items) → ReadsFileBytes x at count old new (Ok answer)
 reads_all x at n count items answer old between new e same is h =
-    subst (λ (m : ℕ). ReadsBytes x at m old new (Ok answer)) e
-    (subst (λ (s : PairsState). ReadsBytes x at n old s (Ok answer)) (sym same)
-    (subst (λ (z : List ℕ). ReadsBytes x at n old between (Ok z)) (sym is) h))
+    subst (λ (m : ℕ). ReadsFileBytes x at m old new (Ok answer)) e
+    (subst (λ (s : PairsState). ReadsFileBytes x at n old s (Ok answer)) (sym same)
+    (subst (λ (z : List ℕ). ReadsFileBytes x at n old between (Ok z)) (sym is) h))

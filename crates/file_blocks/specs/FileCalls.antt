@@ -24,7 +24,7 @@ block_bytes None = []
 block_bytes (Some bytes) = bytes
 
 -- a call that puts these bytes at a place of a file, over what is there and past the end, where it has at most so many
-pub record PutsBytes {T : Type 0} (path : Path) (size at : ℕ) (piece : List ℕ) (old new : PairsState) (result : Result T Fault) : Type 0 where
+pub record PutsFileBytes {T : Type 0} (path : Path) (size at : ℕ) (piece : List ℕ) (old new : PairsState) (result : Result T Fault) : Type 0 where
   pub faults : new.faults ≡ disk_faults_after old.faults result
   pub observable : IsObservable old → OnOk result (IsObservable new)
   pub written : IsObservable old → (first : Option (List ℕ)) (bytes : List ℕ) (others : BlockMap) → at ≤ length bytes → length bytes ≤ size → HasFile path first bytes others old.pairs
@@ -40,7 +40,7 @@ pub record CutsBytes {T : Type 0} (path : Path) (size len : ℕ) (old new : Pair
       → OnOk result (HasFile path first (take len bytes) others new.pairs)
 
 -- a call that reads so many bytes of a file from a place on
-pub record ReadsBytes (path : Path) (at count : ℕ) (old new : PairsState) (result : Result (List ℕ) Fault) : Type 0 where
+pub record ReadsFileBytes (path : Path) (at count : ℕ) (old new : PairsState) (result : Result (List ℕ) Fault) : Type 0 where
   pub faults : new.faults ≡ disk_faults_after old.faults result
   pub keeps : KeepsPairs old new
   pub read : IsObservable old → (first : Option (List ℕ)) (bytes : List ℕ) (others : BlockMap) → at + count ≤ length bytes → HasFile path first bytes others old.pairs

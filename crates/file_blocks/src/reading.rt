@@ -5,7 +5,7 @@ ghost use Rattle.store_model.specs.Commands.Command.{Read};
 ghost use Rattle.store_model.specs.Commands.Reply.{Content};
 ghost use Rattle.ordered_pairs.specs.PairsState.{IsObservable};
 ghost use Rattle.tree_pairs.specs.TreeCalls.{CarriesOut, KeepsPairs};
-ghost use Rattle.file_blocks.specs.FileCalls.{ReadsBytes};
+ghost use Rattle.file_blocks.specs.FileCalls.{ReadsFileBytes};
 ghost use Rattle.file_blocks.specs.Refusals.{IsUnless, read_conditions, size_of};
 
 use crate::{FILE_BLOCK, bytes_of};
@@ -70,7 +70,7 @@ fn read_bytes<P: OrderedPairs>(
 ) -> Result<Bytes, Fault>
     requires few { count ≤ Bytes.MAX_LEN }
     requires in_range { at + count < 2 ^ 32 }
-    ensures call { ReadsBytes path.now at count (P.state pairs.old) (P.state pairs.new) result }
+    ensures call { ReadsFileBytes path.now at count (P.state pairs.old) (P.state pairs.new) result }
     ensures hidden { IsObservable (P.state pairs.new) → IsObservable (P.state pairs.old) }
     ensures follows { P.follows pairs.old pairs.new }
 {

@@ -7,7 +7,7 @@ ghost use Rattle.store_model.specs.Commands.Command.{Write};
 ghost use Rattle.store_model.specs.Commands.Reply.{Acknowledged};
 ghost use Rattle.ordered_pairs.specs.PairsState.{IsObservable, most_pairs};
 ghost use Rattle.tree_pairs.specs.TreeCalls.{CarriesOut, HasRoom, HasParent};
-ghost use Rattle.file_blocks.specs.FileCalls.{PutsBytes};
+ghost use Rattle.file_blocks.specs.FileCalls.{PutsFileBytes};
 ghost use Rattle.file_blocks.specs.Refusals.{IsUnless, write_conditions, size_of};
 
 use crate::{FILE_BLOCK, bytes_of};
@@ -84,7 +84,7 @@ fn put_bytes<P: OrderedPairs>(
     requires fits { at + length bytes.now ≤ file_limit }
     requires ends { at + length bytes.now ≤ len }
     requires room { HasRoom (P.state pairs.old) }
-    ensures call { PutsBytes path.now len at bytes.now (P.state pairs.old) (P.state pairs.new) result }
+    ensures call { PutsFileBytes path.now len at bytes.now (P.state pairs.old) (P.state pairs.new) result }
     ensures hidden { IsObservable (P.state pairs.new) → IsObservable (P.state pairs.old) }
     ensures follows { P.follows pairs.old pairs.new }
 {
@@ -110,7 +110,7 @@ fn put_piece<P: OrderedPairs>(
     requires some { 1 ≤ length piece.now }
     requires within { at % FILE_BLOCK + length piece.now ≤ FILE_BLOCK }
     requires room { IsObservable (P.state pairs.old) → length (P.state pairs.old).pairs < most_pairs }
-    ensures call { PutsBytes path.now len at piece.now (P.state pairs.old) (P.state pairs.new) result }
+    ensures call { PutsFileBytes path.now len at piece.now (P.state pairs.old) (P.state pairs.new) result }
     ensures hidden { IsObservable (P.state pairs.new) → IsObservable (P.state pairs.old) }
     ensures follows { P.follows pairs.old pairs.new }
 {

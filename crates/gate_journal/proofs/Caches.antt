@@ -3,21 +3,21 @@ use Rattle.std.proofs.Common.{ℕ, List, subst, sym, ◌∙◌, Result, Ok, Err,
 use Rattle.disk_model.specs.DiskState.{DiskState, IsObservable, IsSound}
 use Rattle.disk_model.specs.DiskCalls.{IsCall}
 use Rattle.gate_journal.specs.Places.{ReadsOnly}
-use Rattle.gate_journal.specs.Caches.{Agrees, IsCacheOf, ReadsJournal}
+use Rattle.gate_journal.specs.Caches.{Agrees, IsJournalCacheOf, ReadsJournal}
 use Rattle.gate_journal.specs.declared.cache.JournalCache.{JournalCache}
 use Rattle.gate_journal.specs.ReadingLaws.{ReadsOnly-refl, ReadsOnly-trans}
 use Rattle.gate_journal.proofs.Calls.{AreCalls-none, AreCalls-one, AreCalls-then, AreCalls-fault, AreCalls-answered, observable_after}
 
 -- no call
-pub ReadsJournal-none : {T E : Type 0} (disk : DiskState) (cache : JournalCache) (value : T) → (IsObservable disk → IsSound disk) → IsCacheOf disk cache → ReadsJournal {T = T} {E = E} disk disk cache (Ok value)
+pub ReadsJournal-none : {T E : Type 0} (disk : DiskState) (cache : JournalCache) (value : T) → (IsObservable disk → IsSound disk) → IsJournalCacheOf disk cache → ReadsJournal {T = T} {E = E} disk disk cache (Ok value)
 ReadsJournal-none disk cache value sound kept = record { calls = AreCalls-none disk value; reads = λ observable. ReadsOnly-refl disk (sound observable); cache = kept }
 
 -- a call that only reads, behind which this is kept
-pub ReadsJournal-call : {T E : Type 0} (old new : DiskState) (cache : JournalCache) (result : Result T E) → IsCall old new result → (IsObservable old → ReadsOnly old new) → IsCacheOf new cache → ReadsJournal old new cache result
+pub ReadsJournal-call : {T E : Type 0} (old new : DiskState) (cache : JournalCache) (result : Result T E) → IsCall old new result → (IsObservable old → ReadsOnly old new) → IsJournalCacheOf new cache → ReadsJournal old new cache result
 ReadsJournal-call old new cache result call reads kept = record { calls = AreCalls-one old new result call; reads = reads; cache = kept }
 
 -- what was kept of a disk that was only read since
-pub IsCacheOf-reads : {T E : Type 0} (old new : DiskState) (cache : JournalCache) (result : Result T E) → IsCall old new result → (IsObservable old → ReadsOnly old new) → IsCacheOf old cache → IsCacheOf new cache
+pub IsCacheOf-reads : {T E : Type 0} (old new : DiskState) (cache : JournalCache) (result : Result T E) → IsCall old new result → (IsObservable old → ReadsOnly old new) → IsJournalCacheOf old cache → IsJournalCacheOf new cache
 IsCacheOf-reads old new cache result call reads kept observable =
     let observable_old : IsObservable old = sym call.observable ∙ observable in
     subst (λ (bytes : List ℕ). Agrees bytes cache) (sym (reads observable_old).bytes) (kept observable_old)

@@ -22,7 +22,7 @@ use Rattle.store_model.proofs.ImagesLemmas.{length-header}
 use Rattle.gate_journal.specs.declared.fault.JournalFault.{JournalFault}
 use Rattle.gate_journal.specs.declared.fault.JournalFault.TheVariants.{Disk, AlreadyImage, WrongLength}
 use Rattle.gate_journal.specs.Places.{IsApart, SameAt, Keeps, Reaches, ReadsOnly}
-use Rattle.gate_journal.specs.Formats.{IsNoImage, IsEmptyOrNone, HasEmptyRest, Formats, faults_after_format}
+use Rattle.gate_journal.specs.Formats.{NamesNoParameters, IsEmptyOrNone, HasEmptyRest, Formats, faults_after_format}
 use Rattle.gate_journal.proofs.Areas.{journal_end, marks_end, shadow_end, table_end}
 use Rattle.gate_journal.proofs.Places.{Keeps-durable}
 use Rattle.gate_journal.proofs.Reading.{IsDurable-reads}
@@ -72,7 +72,7 @@ pub first_of_header : (p : Parameters) → slice_index (header p) 0 ≡ 72
 unfolding header zero_filled
 first_of_header p = refl
 
-pub no_image : (image : List ℕ) → (slice_index image 0 ≡ 72 → ⊥) → IsNoImage image
+pub no_image : (image : List ℕ) → (slice_index image 0 ≡ 72 → ⊥) → NamesNoParameters image
 no_image image differs p names =
     differs (sym (get_or-take 4096 image 0 0 (let low : 0 < 4096 = omega arith in low)) ∙ ap (λ (l : List ℕ). slice_index l 0) names.header_is ∙ first_of_header p)
 

@@ -10,12 +10,12 @@ use Rattle.gate_journal.specs.declared.fault.JournalFault.TheVariants.{Disk, Alr
 use Rattle.gate_journal.specs.Places.{IsZeroAt}
 
 -- the image's header names no parameters, so it is no image
-abbrev pub IsNoImage : List ℕ → Type 0
-IsNoImage image = (p : Parameters) → NamesParameters image p → ⊥
+abbrev pub NamesNoParameters : List ℕ → Type 0
+NamesNoParameters image = (p : Parameters) → NamesParameters image p → ⊥
 
 -- the image of the empty tree, or no image
 abbrev pub IsEmptyOrNone : Parameters → List ℕ → Type 0
-IsEmptyOrNone p image = IsNoImage image ⊎ (image ≡ layout empty_tree p)
+IsEmptyOrNone p image = NamesNoParameters image ⊎ (image ≡ layout empty_tree p)
 
 -- every byte but the first is that of the image of the empty tree
 pub record HasEmptyRest (p : Parameters) (image : List ℕ) : Type 0 where

@@ -2,7 +2,7 @@
 ghost use Rattle.std.specs.Prelude.{◌≡◌, ◌≤◌, ◌&&◌, None, Some, OnOk, IfOk};
 ghost use Rattle.store_model.specs.Images.{is_flag_set, is_marked};
 ghost use Rattle.disk_model.specs.DiskState.{DiskState, IsObservable};
-ghost use Rattle.gate_journal.specs.Caches.{IsCacheOf, HasSlot, ReadsJournal};
+ghost use Rattle.gate_journal.specs.Caches.{IsJournalCacheOf, HasSlot, ReadsJournal};
 
 use crate::redo::is_flag_set;
 use disk_model::Disk;
@@ -36,7 +36,7 @@ impl JournalCache {
     /// Whether the commit flag is set: it is read once.
     fn is_flag_set<D: Disk>(&mut self, disk: &mut D) -> Result<bool, DiskFault>
         requires size { 4097 ≤ (D.state disk.old).size }
-        requires cache { IsCacheOf (D.state disk.old) self.old }
+        requires cache { IsJournalCacheOf (D.state disk.old) self.old }
         ensures journal { ReadsJournal (D.state disk.old) (D.state disk.new) self.new result }
         ensures value { IsObservable (D.state disk.old) → IfOk result (λ set. set ≡ is_flag_set (D.state disk.old).bytes) }
     {

@@ -19,8 +19,8 @@ use crate::digest::digest_disk;
 use crate::fault::JournalFault;
 use crate::format::{is_image, write_image};
 use crate::recover::recover_durable;
-use crate::view::read_slot;
-use crate::wipe::wipe_disk;
+use crate::view::read_recovered;
+use crate::wipe::overwrite_disk;
 use disk_model::Disk;
 use store_base::{DiskFault, Params, image_len as len_of};
 use store_model::Slot;
@@ -150,7 +150,7 @@ impl Journal {
         ensures reads { IsObservable (D.state disk.old) → ReadsOnly (D.state disk.old) (D.state disk.new) }
         ensures slot { IsObservable (D.state disk.old) → OnOk result (into.new ≡ recovered_slot params.now.slots (D.state disk.old).bytes at) }
     {
-        read_slot(disk, &mut JournalCache::new(), params.slots(), at, into)
+        read_recovered(disk, &mut JournalCache::new(), params.slots(), at, into)
     }
     /// Fills the disk with zeros, however long it is, and the first byte before all others.
     ///
@@ -169,7 +169,7 @@ impl Journal {
         if disk.len() == 0 {
             return Ok(());
         }
-        wipe_disk(disk)
+        overwrite_disk(disk)
     }
 
     /// SHA-256 (FIPS 180-4) of all bytes that the disk reads, header, journal and table, and writes nothing.

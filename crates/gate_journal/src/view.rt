@@ -3,7 +3,7 @@ ghost use Rattle.std.specs.Prelude.{◌≡◌, ◌+◌, ◌≤◌, OnOk, IfOk};
 ghost use Rattle.store_model.specs.Parameters.{IsParameters, image_len, block_len};
 ghost use Rattle.store_model.specs.Images.{bytes_at, recovered_slot};
 ghost use Rattle.disk_model.specs.DiskState.{DiskState, IsObservable};
-ghost use Rattle.gate_journal.specs.Caches.{IsCacheOf, HasSlot, ReadsJournal};
+ghost use Rattle.gate_journal.specs.Caches.{IsJournalCacheOf, HasSlot, ReadsJournal};
 ghost use Rattle.gate_journal.specs.ViewState.{viewed, viewed_count, viewed_whole, KeepsView, KeepsView-refl, KeepsView-trans};
 
 use crate::cache::JournalCache;
@@ -12,7 +12,7 @@ use store_base::{DiskFault, Fault, Params, ReadSlots, shadow_at, table_at};
 use store_model::Slot;
 
 /// Where the bytes lie that recovery leaves in this slot.
-fn place_of<D: Disk>(
+fn recovered_place<D: Disk>(
     disk: &mut D,
     cache: &mut JournalCache,
     slots: u32,
@@ -31,7 +31,7 @@ fn place_of<D: Disk>(
 }
 
 /// Reads what recovery leaves in this slot. What the cache has of the journal is not read again.
-pub fn read_slot<D: Disk>(
+pub fn read_recovered<D: Disk>(
     disk: &mut D,
     cache: &mut JournalCache,
     slots: u32,
@@ -42,7 +42,7 @@ pub fn read_slot<D: Disk>(
     ensures journal { ReadsJournal (D.state disk.old) (D.state disk.new) cache.new result }
     ensures slot { IsObservable (D.state disk.old) → OnOk result (into.new ≡ recovered_slot slots (D.state disk.old).bytes slot) }
 {
-    let place = place_of(disk, cache, slots, slot)?;
+    let place = recovered_place(disk, cache, slots, slot)?;
     disk.read_at(place, into)
 }
 
@@ -56,7 +56,7 @@ pub struct View<D: Disk> {
     params: Params,
     cache: JournalCache,
     ghost sized: { (D.state disk).size ≡ image_len params.slots },
-    ghost cached: { IsCacheOf (D.state disk) cache },
+    ghost cached: { IsJournalCacheOf (D.state disk) cache },
 }
 
 impl<D: Disk> View<D> {
@@ -107,7 +107,7 @@ impl<D: Disk> ReadSlots for View<D> {
     ghost follows_trans = { λ old mid new. KeepsView-trans (params_of old) (params_of mid) (params_of new) (D.state (disk_of old)) (D.state (disk_of mid)) (D.state (disk_of new)) };
 
     fn get(&mut self, at: u32, into: &mut Slot) -> Result<(), Fault> {
-        Ok(read_slot(
+        Ok(read_recovered(
             &mut self.disk,
             &mut self.cache,
             self.params.slots(),

@@ -31,7 +31,7 @@ fn wipe_rest<D: Disk>(disk: &mut D) -> Result<(), DiskFault>
 
 /// Makes every byte of a disk zero that has one at least: the first one before all others, so that the image is none
 /// before it is torn.
-pub fn wipe_disk<D: Disk>(disk: &mut D) -> Result<(), DiskFault>
+pub fn overwrite_disk<D: Disk>(disk: &mut D) -> Result<(), DiskFault>
     requires { 1 ≤ (D.state disk.old).size }
     ensures call { IsCall (D.state disk.old) (D.state disk.new) result }
     ensures wipes { IsObservable (D.state disk.old) → Wipes (D.state disk.old) (D.state disk.new) result }

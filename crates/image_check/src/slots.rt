@@ -5,7 +5,7 @@ ghost use Rattle.std.specs.List.Sorted.{IsPermutation};
 ghost use Rattle.store_model.specs.Parameters.{Parameters};
 ghost use Rattle.store_model.specs.Trees.{Tree, IsTree};
 ghost use Rattle.store_model.specs.Pairs as model;
-ghost use Rattle.image_check.specs.Collected.{most_pairs};
+ghost use Rattle.image_check.specs.Collected.{most_table_pairs};
 ghost use Rattle.image_check.specs.Contents.{AreCounts};
 ghost use Rattle.image_check.specs.SlotCalls.{FindsContents, ChecksSlots, IsVerdictOn};
 
@@ -24,9 +24,9 @@ fn tree_pairs(
     alloc: Global,
     mut pairs: Vec<(Key, Value)>,
 ) -> Result<Option<(PairList, Counts)>, NoMemory>
-    requires { length pairs.items ≤ most_pairs }
+    requires { length pairs.items ≤ most_table_pairs }
     ensures tree { (p : Parameters) → IfOk result (λ found. IfSome found (λ (s, counts). (t : Tree) × IsTree t × (s ≡ model.pairs t p) × AreCounts t counts)) }
-    ensures few { IfOk result (λ found. IfSome found (λ (s, counts). length s ≤ most_pairs)) }
+    ensures few { IfOk result (λ found. IfSome found (λ (s, counts). length s ≤ most_table_pairs)) }
     ensures only { (p : Parameters) (t : Tree) → IsTree t → IsPermutation pairs.items (model.pairs t p) → IfOk result (λ found. MatchOption found ⊥ (λ (s, counts). s ≡ model.pairs t p)) }
 {
     sort_pairs(&mut pairs)?;

@@ -6,7 +6,7 @@ ghost use Rattle.store_model.specs.Parameters.{Parameters};
 ghost use Rattle.store_model.specs.Paths as paths;
 ghost use Rattle.store_model.specs.Pairs as model;
 ghost use Rattle.store_model.specs.Trees as trees;
-ghost use Rattle.image_check.specs.Collected.{most_pairs};
+ghost use Rattle.image_check.specs.Collected.{most_table_pairs};
 ghost use Rattle.image_check.specs.Contents.{AreCounts};
 ghost use Rattle.node_pages.specs.Places.{IsPlaceOf};
 ghost use Rattle.image_check.specs.Parents.{MayHaveChildren};
@@ -60,7 +60,7 @@ fn has_parent(pairs: &[(Key, Value)], path: &Path) -> bool
 
 /// The counts with one entry more.
 fn counted(counts: Counts, kind: Kind) -> Counts
-    requires few { counts.dirs + counts.files ≤ most_pairs }
+    requires few { counts.dirs + counts.files ≤ most_table_pairs }
     requires short { counts.bytes + trees.file_limit ≤ u64.MAX }
     requires kind { IsKind kind }
     ensures { CountsMore counts kind result }
@@ -80,7 +80,7 @@ fn counted(counts: Counts, kind: Kind) -> Counts
 
 /// What the tree holds whose pairs these are, in the order of their keys; `None` exactly where they are no tree's.
 pub fn count_tree(pairs: &[(Key, Value)]) -> Option<Counts>
-    requires few { length pairs.now ≤ most_pairs }
+    requires few { length pairs.now ≤ most_table_pairs }
     requires sorted { IsTrue (is_sorted paths.key_cmp pairs.now) }
     ensures tree { (p : Parameters) → IfSome result (λ counts. (t : trees.Tree) × trees.IsTree t × (pairs.now ≡ model.pairs t p) × AreCounts t counts) }
     ensures none { (p : Parameters) → IfNone result ((t : trees.Tree) → trees.IsTree t → pairs.now ≡ model.pairs t p → ⊥) }

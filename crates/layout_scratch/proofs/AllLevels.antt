@@ -5,7 +5,7 @@ use Rattle.std.proofs.lemmas.List.{length-append}
 use Rattle.store_model.specs.Lists.{numbers_from, numbers_below}
 use Rattle.store_model.specs.Draws.{Draw}
 use Rattle.store_model.specs.Pages.{level_pages}
-use Rattle.layout_scratch.specs.Sorting.{pairs_limit}
+use Rattle.layout_scratch.specs.Sorting.{sorted_limit}
 use Rattle.layout_scratch.specs.declared.ranked.Ranked.{Ranked}
 use Rattle.layout_scratch.specs.Ranks.{pairs_of, AreRanked}
 
@@ -24,7 +24,7 @@ made_of_levels f level =
 
 -- the pages of the levels below one are counted
 pub record CountsLevels (ranked : List Ranked) (count level : ℕ) : Type 0 where
-  pub few : count ≤ level * pairs_limit
+  pub few : count ≤ level * sorted_limit
   pub counted : (d : Draw) → AreRanked d ranked → count ≡ length (flat_map (level_pages d (pairs_of ranked)) (numbers_below level))
 
 pub levels_none : (ranked : List Ranked) → CountsLevels ranked 0 0
@@ -32,7 +32,7 @@ unfolding numbers_from
 levels_none ranked = record { few = omega arith; counted = λ d levels. refl }
 
 -- one level on
-pub levels_more : (ranked : List Ranked) (count level n : ℕ) → CountsLevels ranked count level → n ≤ pairs_limit → ((d : Draw) → AreRanked d ranked → n ≡ length (level_pages d (pairs_of ranked) level)) → CountsLevels ranked (count + n) (level + 1)
+pub levels_more : (ranked : List Ranked) (count level n : ℕ) → CountsLevels ranked count level → n ≤ sorted_limit → ((d : Draw) → AreRanked d ranked → n ≡ length (level_pages d (pairs_of ranked) level)) → CountsLevels ranked (count + n) (level + 1)
 levels_more ranked count level n so_far few n_is = record {
   few = omega (arith, so_far.few);
   counted = λ d levels.

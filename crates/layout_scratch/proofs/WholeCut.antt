@@ -14,7 +14,7 @@ use Rattle.store_model.proofs.ListsLemmas.{all_weaker, rising_from_is_sorted}
 use Rattle.store_model.proofs.PlacementLemmas.{IsPermutation-in_order}
 use Rattle.store_model.proofs.PagesLemmasOrder.{rising_labels}
 use Rattle.layout_scratch.specs.declared.ranked.Ranked.{Ranked}
-use Rattle.layout_scratch.specs.Sorting.{pair_cmp, by_key, pairs_limit}
+use Rattle.layout_scratch.specs.Sorting.{pair_cmp, by_key, sorted_limit}
 use Rattle.layout_scratch.specs.Ranks.{pairs_of, AreRanked}
 
 -- as many pairs as before
@@ -23,13 +23,13 @@ length-by_key pairs = length_permutation pairs (by_key pairs) (IsPermutation-in_
 
 -- the ranked pairs: they are few, their keys rise, their levels are drawn, and the pages of their levels are all pages, which come by rank
 pub record IsWhole (d : Draw) (pairs : List Pair) (height : ℕ) (ranked : List Ranked) : Type 0 where
-  pub few : length ranked ≤ pairs_limit
+  pub few : length ranked ≤ sorted_limit
   pub rising : IsStrictlySortedBy pair_cmp (pairs_of ranked)
   pub levels : AreRanked d ranked
   pub all : flat_map (level_pages d (pairs_of ranked)) (numbers_below height) ≡ pages_of_pairs d (by_key pairs)
   pub by_rank : IsStrictlySortedBy label_cmp (map (λ page. page.label) (pages_of_pairs d (by_key pairs)))
 
-pub whole : (d : Draw) (pairs : List Pair) (height : ℕ) (sorted ranked : List Ranked) → length pairs ≤ pairs_limit → height ≡ d.height → ranked ≡ sorted → pairs_of sorted ≡ by_key pairs → AreRanked d sorted → IsPairs (by_key pairs) → IsWhole d pairs height ranked
+pub whole : (d : Draw) (pairs : List Pair) (height : ℕ) (sorted ranked : List Ranked) → length pairs ≤ sorted_limit → height ≡ d.height → ranked ≡ sorted → pairs_of sorted ≡ by_key pairs → AreRanked d sorted → IsPairs (by_key pairs) → IsWhole d pairs height ranked
 unfolding pages_of_pairs
 whole d pairs height sorted ranked few height_is same sorted_are levels valid =
     let pairs_are = ap pairs_of same ∙ sorted_are in

@@ -8,8 +8,8 @@ use Rattle.store_model.specs.Paths.{key_cmp}
 use Rattle.store_model.specs.Pairs.{Pair}
 
 -- the most pairs that are laid out: their pages on all levels are counted in 32 bits
-abbrev pub pairs_limit : ℕ
-pairs_limit = 268435456
+abbrev pub sorted_limit : ℕ
+sorted_limit = 268435456
 
 -- pairs are ordered as their keys
 abbrev pub pair_cmp : Pair → Pair → Ordering

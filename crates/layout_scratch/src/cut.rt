@@ -8,7 +8,7 @@ ghost use Rattle.store_model.specs.Lists.{numbers_below};
 ghost use Rattle.store_model.specs.Labels.{label_cmp};
 ghost use Rattle.store_model.specs.Draws as draws;
 ghost use Rattle.store_model.specs.Pages.{level_pages, pages_of_pairs};
-ghost use Rattle.layout_scratch.specs.Sorting.{HasDistinctKeys, pair_cmp, by_key, pairs_limit};
+ghost use Rattle.layout_scratch.specs.Sorting.{HasDistinctKeys, pair_cmp, by_key, sorted_limit};
 ghost use Rattle.layout_scratch.specs.Ranks.{pairs_of, AreRanked};
 ghost use Rattle.layout_scratch.specs.Faults.{IsRefusal};
 
@@ -61,7 +61,7 @@ pub fn cut_pages<W: Draw>(
     pairs: &PairList,
 ) -> Result<PageList, ScratchFault>
     requires distinct { HasDistinctKeys pairs.now }
-    requires few { length pairs.now ≤ pairs_limit }
+    requires few { length pairs.now ≤ sorted_limit }
     requires height { (W.drawn draw.now).height ≤ height_limit }
     ensures value { IfOk result (λ pages. pages ≡ pages_of_pairs (W.drawn draw.now) (by_key pairs.now)) }
     ensures fits { IfOk result (λ pages. length pages ≤ (W.drawn draw.now).slots) }

@@ -6,7 +6,7 @@ ghost use Rattle.store_model.specs.Parameters.{height_limit};
 ghost use Rattle.store_model.specs.Draws.{draw_of};
 ghost use Rattle.store_model.specs.Pages.{pages_of_pairs};
 ghost use Rattle.store_model.specs.Placement.{place};
-ghost use Rattle.layout_scratch.specs.Sorting.{HasDistinctKeys, by_key, pairs_limit};
+ghost use Rattle.layout_scratch.specs.Sorting.{HasDistinctKeys, by_key, sorted_limit};
 ghost use Rattle.layout_scratch.specs.Faults.{IsRefusal};
 
 use crate::cut::cut_pages;
@@ -21,7 +21,7 @@ use store_base::Params;
 /// The layout of a list of pairs under a draw.
 fn build_by<W: Draw>(alloc: Global, draw: &W, pairs: &PairList) -> Result<Layout, ScratchFault>
     requires distinct { HasDistinctKeys pairs.now }
-    requires few { length pairs.now ≤ pairs_limit }
+    requires few { length pairs.now ≤ sorted_limit }
     requires height { (W.drawn draw.now).height ≤ height_limit }
     ensures value { IfOk result (λ layout. layout ≡ place (W.drawn draw.now) (pages_of_pairs (W.drawn draw.now) (by_key pairs.now))) }
     ensures fits { IfOk result (λ _. length (pages_of_pairs (W.drawn draw.now) (by_key pairs.now)) ≤ (W.drawn draw.now).slots) }
@@ -38,7 +38,7 @@ fn build_by<W: Draw>(alloc: Global, draw: &W, pairs: &PairList) -> Result<Layout
 #[tactic(auto, unfolding(store_model::specs::Draws::draw_of))]
 pub fn build(alloc: Global, params: &Params, pairs: &PairList) -> Result<Layout, ScratchFault>
     requires distinct { HasDistinctKeys pairs.now }
-    requires few { length pairs.now ≤ pairs_limit }
+    requires few { length pairs.now ≤ sorted_limit }
     ensures value { IfOk result (λ layout. layout ≡ place (draw_of params.now) (pages_of_pairs (draw_of params.now) (by_key pairs.now))) }
     ensures fits { IfOk result (λ _. length (pages_of_pairs (draw_of params.now) (by_key pairs.now)) ≤ params.now.slots) }
     ensures full { IfErr result (IsRefusal (draw_of params.now) pairs.now) }

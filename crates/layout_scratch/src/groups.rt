@@ -6,8 +6,8 @@ ghost use Rattle.std.specs.List.{AllByRecursion, take_while};
 ghost use Rattle.store_model.specs.Draws.{Draw};
 ghost use Rattle.store_model.specs.Pages as model;
 ghost use Rattle.store_model.specs.Pages.{cell_on, IsCell};
-ghost use Rattle.store_base.specs.Leads.{lead_of};
-ghost use Rattle.layout_scratch.specs.Sorting.{pairs_limit};
+ghost use Rattle.store_base.specs.Leads.{model_lead};
+ghost use Rattle.layout_scratch.specs.Sorting.{sorted_limit};
 ghost use Rattle.layout_scratch.specs.Ranks.{AreRanked, cells_on, IsFirstGroup};
 
 use crate::ranked::Ranked;
@@ -35,7 +35,7 @@ pub fn first_group<'a, 'p>(level: u8, ranked: &'a [Ranked<'p>]) -> &'a [Ranked<'
 
 /// How many cells a group has.
 pub fn cell_count(level: u8, group: &[Ranked]) -> u32
-    requires { length group.now ≤ pairs_limit }
+    requires { length group.now ≤ sorted_limit }
     ensures { result ≡ length (cells_on level group.now) }
 {
     group.iter().filter(|pair| level <= pair.level).count() as u32
@@ -45,7 +45,7 @@ pub fn cell_count(level: u8, group: &[Ranked]) -> u32
 pub fn lead_of_group(level: u8, group: &[Ranked]) -> Lead
     requires some { 1 ≤ length group.now }
     requires uncut { AllByRecursion (λ other. other.level ≤ level) (drop 1 group.now) }
-    ensures { (d : Draw) → AreRanked d group.now → lead_of result ≡ model.lead_of d level (cells_on level group.now) }
+    ensures { (d : Draw) → AreRanked d group.now → model_lead result ≡ model.lead_of d level (cells_on level group.now) }
 {
     let first = &group[0];
     if first.level > level {

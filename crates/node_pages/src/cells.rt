@@ -10,7 +10,7 @@ ghost use Rattle.store_model.specs.Pages.{IsCell, page_room};
 ghost use Rattle.store_model.specs.Labels.{IsLabel};
 ghost use Rattle.store_model.specs.Images.{cell_bytes};
 ghost use Rattle.store_base.specs.Keys.{IsKey};
-ghost use Rattle.store_base.specs.Leads.{lead_of};
+ghost use Rattle.store_base.specs.Leads.{model_lead};
 ghost use Rattle.node_pages.specs.Cells.{IsCellList};
 ghost use Rattle.node_pages.specs.Groups.{page_of_run, pages_from};
 ghost use Rattle.node_pages.specs.PagesState.{IsObservable, IsPagePut, most_pages};
@@ -159,7 +159,7 @@ impl Cells {
 
     /// The label of the level with this lead and number.
     fn label(&self, lead: &Lead, number: u32) -> Label
-        ensures value { result ≡ record { level = self.now.level; lead = lead_of lead.now; index = number } }
+        ensures value { result ≡ record { level = self.now.level; lead = model_lead lead.now; index = number } }
         ensures valid { IsLabel result }
     {
         let _ = lead.key_bytes();
@@ -177,7 +177,7 @@ impl Cells {
         requires rising { IsStrictlySortedBy key_cmp (map (λ c. c.key) self.now.cells) }
         requires number { first + index < 4294967296 }
         requires within { index < length (runs (page_room self.now.level) self.now.cells) }
-        ensures { slice_get (pages_from self.now.level (lead_of lead.now) first self.now.cells) index ≡ Some result }
+        ensures { slice_get (pages_from self.now.level (model_lead lead.now) first self.now.cells) index ≡ Some result }
     {
         let _ = self.len();
         let label = self.label(lead, first + index);
@@ -198,7 +198,7 @@ impl Cells {
         requires number { first + index < 4294967296 }
         requires within { index < length (runs (page_room self.now.level) self.now.cells) }
         requires room { IsObservable (P.state pages.old) → maps.len (P.state pages.old).pages < most_pages }
-        ensures call { IsPagePut (P.state pages.old) (P.state pages.new) (page_of_run self.now.level (lead_of lead.now) (first + index) (take (page_room self.now.level) (drop (page_room self.now.level * index) self.now.cells))) result }
+        ensures call { IsPagePut (P.state pages.old) (P.state pages.new) (page_of_run self.now.level (model_lead lead.now) (first + index) (take (page_room self.now.level) (drop (page_room self.now.level * index) self.now.cells))) result }
         ensures follows { P.follows pages.old pages.new }
     {
         let _ = self.len();
@@ -214,7 +214,7 @@ impl Cells {
     pub fn is_page(&self, lead: &Lead, first: u32, index: u32, page: &Page) -> bool
         requires number { first + index < 4294967296 }
         requires within { index < length (runs (page_room self.now.level) self.now.cells) }
-        ensures { IsTrue result ↔ (slice_get (pages_from self.now.level (lead_of lead.now) first self.now.cells) index ≡ Some page.now) }
+        ensures { IsTrue result ↔ (slice_get (pages_from self.now.level (model_lead lead.now) first self.now.cells) index ≡ Some page.now) }
     {
         let _ = self.len();
         let (done, past) = self.run(index);

@@ -6,7 +6,7 @@ ghost use Rattle.std.specs.List.Sorted.{IsStrictlySortedBy};
 ghost use Rattle.store_model.specs.Paths.{key_cmp};
 ghost use Rattle.store_model.specs.Pages.{Cell as ModelCell, group_pages};
 ghost use Rattle.store_model.specs.Labels.{Lead as ModelLead};
-ghost use Rattle.store_base.specs.Leads.{lead_of};
+ghost use Rattle.store_base.specs.Leads.{model_lead};
 
 use crate::cells::Cells;
 use crate::sequence::PageList;
@@ -17,7 +17,7 @@ use store_base::{Lead, NoMemory};
 /// above, the last run holding the rest, with labels numbered from 0.
 pub fn cut_group(alloc: Global, lead: &Lead, cells: &Cells) -> Result<PageList, NoMemory>
     requires { IsStrictlySortedBy key_cmp (map (λ c. c.key) cells.now.cells) }
-    ensures { IfOk result (λ pages. pages ≡ group_pages cells.now.level (lead_of lead.now) cells.now.cells) }
+    ensures { IfOk result (λ pages. pages ≡ group_pages cells.now.level (model_lead lead.now) cells.now.cells) }
 {
     let mut pages = PageList::with_room(alloc, cells.page_count())?;
     append_group(&mut pages, lead, cells)?;
@@ -28,8 +28,8 @@ pub fn cut_group(alloc: Global, lead: &Lead, cells: &Cells) -> Result<PageList, 
 /// few of them appended, or none.
 pub fn append_group(pages: &mut PageList, lead: &Lead, cells: &Cells) -> Result<(), NoMemory>
     requires { IsStrictlySortedBy key_cmp (map (λ c. c.key) cells.now.cells) }
-    ensures ok { OnOk result (pages.new ≡ pages.old ++ group_pages cells.now.level (lead_of lead.now) cells.now.cells) }
-    ensures err { OnErr result ((n : ℕ) × (pages.new ≡ pages.old ++ take n (group_pages cells.now.level (lead_of lead.now) cells.now.cells))) }
+    ensures ok { OnOk result (pages.new ≡ pages.old ++ group_pages cells.now.level (model_lead lead.now) cells.now.cells) }
+    ensures err { OnErr result ((n : ℕ) × (pages.new ≡ pages.old ++ take n (group_pages cells.now.level (model_lead lead.now) cells.now.cells))) }
 {
     let _ = cells.len();
     for index in 0..cells.page_count() {

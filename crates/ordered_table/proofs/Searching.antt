@@ -27,7 +27,7 @@ use Rattle.store_model.proofs.PageMapsLemmas.{IsOrderedTable-page_map, pages_of_
 use Rattle.store_base.specs.declared.store_fault.Fault.{Fault}
 use Rattle.store_base.specs.SlotsState.{SlotsState, IsObservable, AreSlotCalls}
 use Rattle.store_base.proofs.SlotsCalls.{AreSlotCalls-none, AreSlotCalls-then, AreSlotCalls-value, AreSlotCalls-fault, IsObservable-later}
-use Rattle.ordered_table.specs.Tables.{is_passed, looks, TellsOrder, Orders, IsSlotOf, Finds, Looks}
+use Rattle.ordered_table.specs.Tables.{is_passed, looks, TellsOrder, Orders, IsSlotWith, Finds, Looks}
 use Rattle.ordered_table.proofs.Reading.{probe_first, probe_next, probe_within, stands_in, seen_page}
 
 -- ---- how many slots a search looks at
@@ -371,7 +371,7 @@ looks_into d old new at l wanted order law count below orders same =
 
 -- the page of the label stands in a slot of which just this is told
 stands_there : (d : Draw) (old new : SlotsState) (at : ℕ) (l : Label) (order : Option Ordering) → LooksInto d old new at l order → (m : PageMap) → IsObservable old → HoldsPages d old.slots m
-    → (order ≡ Some Equal) ↔ IsSlotOf old.slots m l at
+    → (order ≡ Some Equal) ↔ IsSlotWith old.slots m l at
 stands_there d old new at l order s m observable holds = (there, back)
   where
     table : Table
@@ -383,7 +383,7 @@ stands_there d old new at l order s m observable holds = (there, back)
     what : (what : Option Page) × (slice_get table at ≡ Some what) × (slice_get old.slots at ≡ Some (slot_bytes what))
     what = let within = s.within in stands_in table old.slots at is.slots_are (omega (arith, within, is.ordered.slots))
 
-    there : order ≡ Some Equal → IsSlotOf old.slots m l at
+    there : order ≡ Some Equal → IsSlotWith old.slots m l at
     there same =
         let order_is = told l what.0 order (λ page e. seen_page d table at what.0 page is.ordered what.1 e) (s.orders.told (slot_bytes what.0) observable what.2) in
         let p = same_label_there l what.0 (sym order_is ∙ same) in
@@ -393,7 +393,7 @@ stands_there d old new at l order s m observable holds = (there, back)
           in_slot = what.2 ∙ ap (λ (o : Option Page). Some (slot_bytes o)) p.1;
         }
 
-    back : IsSlotOf old.slots m l at → order ≡ Some Equal
+    back : IsSlotWith old.slots m l at → order ≡ Some Equal
     back slot =
         let under = holds.pages (label_bytes l) slot.page slot.in_map in
         let tied : label_cmp slot.page.label l ≡ Equal = ap (λ (b : List ℕ). slice_cmp nat_cmp b (label_bytes l)) (sym under.under) ∙ tied_itself nat_list_cmp_total (label_bytes l) in

@@ -54,7 +54,7 @@ InsertsOrCarries d old new page there result = MatchResult result
     (λ fault. Inserts {T = Unit {0}} d old new page (Err fault))
 
 -- what taking a page in hand to a slot does for the insertion that it is part of
-pub record Settles (d : Draw) (old new : SlotsState) (way : Way) (hand there : List ℕ) (result : Result (Option Way) Fault) : Type 0 where
+pub record Displaces (d : Draw) (old new : SlotsState) (way : Way) (hand there : List ℕ) (result : Result (Option Way) Fault) : Type 0 where
   pub calls : AreSlotCalls old new result
   pub within : IfOk result (λ displaced. IfSome displaced (λ onward. onward.at < d.slots))
   pub fewer : IfOk result (λ displaced. IfSome displaced (λ onward. onward.left < way.left))

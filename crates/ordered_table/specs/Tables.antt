@@ -36,7 +36,7 @@ pub record Orders (old new : SlotsState) (at : ℕ) (wanted : List ℕ) (result 
   pub told : (slot : List ℕ) → IsObservable old → slice_get old.slots at ≡ Some slot → IfOk result (TellsOrder slot wanted)
 
 -- the slot holds the page that the map has under the label
-pub record IsSlotOf (slots : List (List ℕ)) (m : PageMap) (l : Label) (at : ℕ) : Type 0 where
+pub record IsSlotWith (slots : List (List ℕ)) (m : PageMap) (l : Label) (at : ℕ) : Type 0 where
   pub page : Page
   pub in_map : page_at m l ≡ Some page
   pub in_slot : slice_get slots at ≡ Some (slot_bytes (Some page))
@@ -44,7 +44,7 @@ pub record IsSlotOf (slots : List (List ℕ)) (m : PageMap) (l : Label) (at : �
 -- what a search answers where the slots hold the pages of the map, and the steps that it counts: one for each slot that it reads
 pub record IsFound (d : Draw) (slots : List (List ℕ)) (m : PageMap) (l : Label) (before after : ℕ) (result : Result (Option ℕ) Fault) : Type 0 where
   pub absent : IfOk result (λ found. IsNone found ↔ (page_at m l ≡ None))
-  pub slot : IfOk result (λ found. IfSome found (IsSlotOf slots m l))
+  pub slot : IfOk result (λ found. IfSome found (IsSlotWith slots m l))
   pub steps : OnOk result (after ≡ before + looks d (place d (pages_of_map m)) l)
   pub limit : after ≤ before + looks d (place d (pages_of_map m)) l
 
@@ -57,7 +57,7 @@ pub record HasRoomFor (d : Draw) (slots : List (List ℕ)) (m : PageMap) (page :
 -- the slot holds the label in slots that hold the pages of the map
 pub record HasInSlot (d : Draw) (slots : List (List ℕ)) (m : PageMap) (l : Label) (at : ℕ) : Type 0 where
   pub holds : HoldsPages d slots m
-  pub there : IsSlotOf slots m l at
+  pub there : IsSlotWith slots m l at
 
 -- what a search does
 pub record Finds (d : Draw) (old new : SlotsState) (l : Label) (before after : ℕ) (result : Result (Option ℕ) Fault) : Type 0 where
@@ -71,7 +71,7 @@ pub record Finds (d : Draw) (old new : SlotsState) (l : Label) (before after : �
 pub record Looks (d : Draw) (old new : SlotsState) (at : ℕ) (l : Label) (result : Result Bool Fault) : Type 0 where
   pub calls : AreSlotCalls old new result
   pub reads : IsObservable old → new.slots ≡ old.slots
-  pub there : (m : PageMap) → IsObservable old → HoldsPages d old.slots m → IfOk result (λ is_there. IsTrue is_there ↔ IsSlotOf old.slots m l at)
+  pub there : (m : PageMap) → IsObservable old → HoldsPages d old.slots m → IfOk result (λ is_there. IsTrue is_there ↔ IsSlotWith old.slots m l at)
 
 -- what an insertion does
 pub record Inserts {T : Type 0} (d : Draw) (old new : SlotsState) (page : Page) (result : Result T Fault) : Type 0 where

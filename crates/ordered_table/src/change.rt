@@ -1,7 +1,7 @@
 //! Insertion and overwriting.
 
 ghost use Rattle.std.specs.Prelude.{◌≡◌, ◌<◌};
-ghost use Rattle.ordered_table.specs.Carrying.{Settles, CarriesOn};
+ghost use Rattle.ordered_table.specs.Carrying.{Displaces, CarriesOn};
 ghost use Rattle.ordered_table.specs.Tables.{Inserts, Overwrites};
 
 use crate::round::next_slot;
@@ -25,7 +25,7 @@ struct Way {
 /// of greater label. Where it displaces such a page, that page's bytes are then in `there`, and its way is answered.
 ///
 /// There have to be as many slots as the draw's. A fault of the slots ends the call.
-fn settle<S: Slots, W: Draw>(
+fn displace<S: Slots, W: Draw>(
     slots: &mut S,
     draw: &W,
     hand: &Slot,
@@ -34,7 +34,7 @@ fn settle<S: Slots, W: Draw>(
 ) -> Result<Option<Way>, Fault>
     requires count { (S.ReadSlots.state slots.old).count ≡ (W.drawn draw.now).slots }
     requires below { way.now.at < (S.ReadSlots.state slots.old).count }
-    ensures call { Settles (W.drawn draw.now) (S.ReadSlots.state slots.old) (S.ReadSlots.state slots.new) way.now hand.now there.new result }
+    ensures call { Displaces (W.drawn draw.now) (S.ReadSlots.state slots.old) (S.ReadSlots.state slots.new) way.now hand.now there.new result }
     ensures follows { S.ReadSlots.follows slots.old slots.new }
 {
     let count = draw.slots();
@@ -76,8 +76,8 @@ fn carry_on<S: Slots, W: Draw>(
 {
     let mut spare = [0; BLOCK];
     let mut way = displaced;
-    while let Some(onward) = settle(slots, draw, hand, &way, &mut spare)? {
-        let Some(further) = settle(slots, draw, &spare, &onward, hand)? else {
+    while let Some(onward) = displace(slots, draw, hand, &way, &mut spare)? {
+        let Some(further) = displace(slots, draw, &spare, &onward, hand)? else {
             return Ok(());
         };
         way = further;
@@ -118,7 +118,7 @@ pub fn insert_from<S: Slots, W: Draw>(
         at: start,
         left: draw.slots(),
     };
-    match settle(slots, draw, page.as_slot(), &way, &mut there)? {
+    match displace(slots, draw, page.as_slot(), &way, &mut there)? {
         Some(onward) => carry_on(slots, draw, &mut there, onward),
         None => Ok(()),
     }

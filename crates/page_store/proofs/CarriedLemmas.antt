@@ -1,4 +1,4 @@
--- Changes that are carried out, the pages first that go and then those that come, lead where the changes lead.
+-- StagedPages that are carried out, the pages first that go and then those that come, lead where the changes lead.
 use Rattle.std.proofs.Common.{◌≡◌, ℕ, ◌≤◌, cond, List, [], ◌∷◌, Option, Some, None, Result, Ok, Err, OnOk, refl, sym, ap, subst, ◌∙◌}
 use Rattle.std.specs.declared.cmp.Ordering.{Ordering}
 use Rattle.std.specs.declared.cmp.Ordering.TheVariants.{Less, Equal}
@@ -18,8 +18,8 @@ use Rattle.store_model.specs.PageMaps.{PageMap, with_page, without_page, IsPageM
 use Rattle.store_base.specs.declared.store_fault.Fault.{Fault}
 use Rattle.store_base.specs.SlotsState.{SlotsState}
 use Rattle.store_base.proofs.SlotsCalls.{AreSlotCalls-then, AreSlotCalls-fault, IsObservable-later}
-use Rattle.table_memory.specs.Staging.{Changes, with_change, with_changes}
-use Rattle.page_store.specs.Carrying.{taken_by, laid_by, TakesPages, LaysPages, CarriesOut}
+use Rattle.table_memory.specs.Staging.{StagedPages, with_change, with_changes}
+use Rattle.page_store.specs.Carrying.{taken_by, laid_by, TakesPages, LaysPages, LaysChanges}
 use Rattle.table_memory.proofs.ChangeLemmas.{get-with_change, same_when_tied, exchanged}
 
 -- two changes under different labels may change places
@@ -42,14 +42,14 @@ apart_below k l less same =
     cc
 
 -- a change under a label below all others may come first
-with_changes-first : (m : PageMap) (k : Label) (v : Option Page) (es : Changes) → AllByRecursion (λ l. label_cmp k l ≡ Less) (keys_of es) → with_changes (with_change m k v) es ≡ with_change (with_changes m es) k v
+with_changes-first : (m : PageMap) (k : Label) (v : Option Page) (es : StagedPages) → AllByRecursion (λ l. label_cmp k l ≡ Less) (keys_of es) → with_changes (with_change m k v) es ≡ with_change (with_changes m es) k v
 with_changes-first m k v [] below = refl
 with_changes-first m k v (e ∷ es) below =
     ap (λ (n : PageMap). with_change n e.0 e.1) (with_changes-first m k v es below.1)
     ∙ with_change-swap (with_changes m es) k e.0 v e.1 (apart_below k e.0 below.0)
 
 -- and its page may be put before others are taken away
-taken_by-first : (m : PageMap) (k : Label) (page : Page) (es : Changes) → label_bytes k ≡ label_bytes page.label → AllByRecursion (λ l. label_cmp k l ≡ Less) (keys_of es) → taken_by (with_page m page) es ≡ with_page (taken_by m es) page
+taken_by-first : (m : PageMap) (k : Label) (page : Page) (es : StagedPages) → label_bytes k ≡ label_bytes page.label → AllByRecursion (λ l. label_cmp k l ≡ Less) (keys_of es) → taken_by (with_page m page) es ≡ with_page (taken_by m es) page
 taken_by-first m k page [] under below = refl
 taken_by-first m k page ((l, None) ∷ es) under below =
     ap (λ (n : PageMap). taken_by n es) (with_change-swap m page.label l (Some page) None (λ same. apart_below k l below.0 (under ∙ same)))
@@ -63,7 +63,7 @@ get-changed m k page =
     ∙ ap (λ (o : Ordering). cond (is_eq o) (Some page) (maps.get m (label_bytes k))) (tied_itself nat_list_cmp_total (label_bytes k))
 
 -- changes with rising labels, whose pages are under their labels
-laid-taken : (m : PageMap) (es : Changes) → IsStrictlySortedBy label_cmp (keys_of es) → IsPageMap (with_changes m es) → laid_by (taken_by m es) (values_of es) ≡ with_changes m es
+laid-taken : (m : PageMap) (es : StagedPages) → IsStrictlySortedBy label_cmp (keys_of es) → IsPageMap (with_changes m es) → laid_by (taken_by m es) (values_of es) ≡ with_changes m es
 laid-taken m [] sorted valid = refl
 laid-taken m ((k, None) ∷ es) sorted valid =
     let first = with_changes-first m k None es (sorted_head label_cmp k (keys_of es) sorted) in
@@ -77,8 +77,8 @@ laid-taken m ((k, Some page) ∷ es) sorted valid =
     ∙ laid-taken (with_change m k (Some page)) es (sorted_tail label_cmp k (keys_of es) sorted) (subst IsPageMap (sym first) valid) ∙ first
 
 -- pages were taken away, and then others were laid in
-pub carried_out : {T : Type 0} (d : Draw) (old mid new : SlotsState) (changes : Changes) (value : Unit {0}) (result : Result T Fault) → IsStrictlySortedBy label_cmp (keys_of changes) → TakesPages d old mid changes (Ok value) → LaysPages d mid new (values_of changes) result
-    → CarriesOut d old new changes result
+pub carried_out : {T : Type 0} (d : Draw) (old mid new : SlotsState) (changes : StagedPages) (value : Unit {0}) (result : Result T Fault) → IsStrictlySortedBy label_cmp (keys_of changes) → TakesPages d old mid changes (Ok value) → LaysPages d mid new (values_of changes) result
+    → LaysChanges d old new changes result
 carried_out d old mid new changes value result sorted taken laid = record {
   calls = AreSlotCalls-then old mid new value result taken.calls laid.calls;
   carried = λ m observable holds valid few.
@@ -88,5 +88,5 @@ carried_out d old mid new changes value result sorted taken laid = record {
 }
 
 -- or they could not be taken away
-pub carried_failed : (d : Draw) (old mid : SlotsState) (changes : Changes) (fault : Fault) → TakesPages {T = Unit {0}} d old mid changes (Err fault) → CarriesOut {T = Unit {0}} d old mid changes (Err fault)
+pub carried_failed : (d : Draw) (old mid : SlotsState) (changes : StagedPages) (fault : Fault) → TakesPages {T = Unit {0}} d old mid changes (Err fault) → LaysChanges {T = Unit {0}} d old mid changes (Err fault)
 carried_failed d old mid changes fault taken = record { calls = AreSlotCalls-fault old mid fault taken.calls; carried = λ m observable holds valid few. tt }

@@ -11,9 +11,9 @@ use Rattle.store_model.specs.PageMaps.{PageMap, page_at, without_page, HoldsPage
 use Rattle.store_base.specs.declared.store_fault.Fault.{Fault}
 use Rattle.store_base.specs.SlotsState.{SlotsState}
 use Rattle.store_base.proofs.SlotsCalls.{AreSlotCalls-none, AreSlotCalls-then, AreSlotCalls-value, AreSlotCalls-fault, IsObservable-later}
-use Rattle.ordered_table.specs.Tables.{IsSlotOf, Removes}
+use Rattle.ordered_table.specs.Tables.{IsSlotWith, Removes}
 use Rattle.page_store.specs.Lookups.{Locates}
-use Rattle.table_memory.specs.Staging.{Changes}
+use Rattle.table_memory.specs.Staging.{StagedPages}
 use Rattle.page_store.specs.Carrying.{TakesPage, taken_by, TakesPages, TakingPages}
 use Rattle.table_memory.proofs.ChangeLemmas.{same_when_tied}
 
@@ -44,7 +44,7 @@ found_taken d old mid new l at result located removes = record {
       let same = sym (located.reads observable) in
       removes.removed m l (IsObservable-later old mid (Ok (Some at)) located.calls observable) (record {
         holds = subst (λ (slots : List (List ℕ)). HoldsPages d slots m) same holds;
-        there = subst (λ (slots : List (List ℕ)). IsSlotOf slots m l at) same ((located.found m observable holds).slot);
+        there = subst (λ (slots : List (List ℕ)). IsSlotWith slots m l at) same ((located.found m observable holds).slot);
       });
 }
 
@@ -62,20 +62,20 @@ pub none_of : (o : Option Page) → is_some o ≡ false → o ≡ None
 none_of None e = refl
 none_of (Some page) e = absurd (cc)
 
-pub taking_begins : (d : Draw) (slots : SlotsState) (all : Changes) → TakingPages d slots slots all all
+pub taking_begins : (d : Draw) (slots : SlotsState) (all : StagedPages) → TakingPages d slots slots all all
 taking_begins d slots all = record { calls = AreSlotCalls-none slots tt; leads = λ m observable holds. record { now = m; holds = holds; leads = refl } }
 
-module _ (d : Draw) (old now : SlotsState) (all rest left : Changes) (l : Label) (change : Option Page) (next : rest ≡ (l, change) ∷ left) (so_far : TakingPages d old now all rest) where
+module _ (d : Draw) (old now : SlotsState) (all rest left : StagedPages) (l : Label) (change : Option Page) (next : rest ≡ (l, change) ∷ left) (so_far : TakingPages d old now all rest) where
   -- a label that has a page
   pub taking_passes : (page : Page) → change ≡ Some page → TakingPages d old now all left
   taking_passes page is =
-      let here = subst (λ (es : Changes). TakingPages d old now all es) (next ∙ ap (λ (o : Option Page). (l, o) ∷ left) is) so_far in
+      let here = subst (λ (es : StagedPages). TakingPages d old now all es) (next ∙ ap (λ (o : Option Page). (l, o) ∷ left) is) so_far in
       record { calls = here.calls; leads = λ m observable holds. let at = here.leads m observable holds in record { now = at.now; holds = at.holds; leads = at.leads } }
 
   -- a label that has none
   pub taking_takes : (new : SlotsState) → change ≡ None → TakesPage {T = Unit {0}} d now new l (Ok tt) → TakingPages d old new all left
   taking_takes new is taken =
-      let here = subst (λ (es : Changes). TakingPages d old now all es) (next ∙ ap (λ (o : Option Page). (l, o) ∷ left) is) so_far in
+      let here = subst (λ (es : StagedPages). TakingPages d old now all es) (next ∙ ap (λ (o : Option Page). (l, o) ∷ left) is) so_far in
       record {
         calls = AreSlotCalls-then old now new tt (Ok tt) here.calls taken.calls;
         leads = λ m observable holds.
@@ -84,11 +84,11 @@ module _ (d : Draw) (old now : SlotsState) (all rest left : Changes) (l : Label)
       }
 
 -- one that cannot be taken away
-pub taking_fails : (d : Draw) (old now new : SlotsState) (all rest : Changes) (l : Label) (fault : Fault) → TakingPages d old now all rest → TakesPage {T = Unit {0}} d now new l (Err fault) → TakesPages {T = Unit {0}} d old new all (Err fault)
+pub taking_fails : (d : Draw) (old now new : SlotsState) (all rest : StagedPages) (l : Label) (fault : Fault) → TakingPages d old now all rest → TakesPage {T = Unit {0}} d now new l (Err fault) → TakesPages {T = Unit {0}} d old new all (Err fault)
 taking_fails d old now new all rest l fault so_far fails = record { calls = AreSlotCalls-then old now new tt (Err fault) so_far.calls fails.calls; taken = λ m observable holds. tt }
 
 -- all were gone over
-pub taking_ends : (d : Draw) (old now : SlotsState) (all rest : Changes) → rest ≡ [] → TakingPages d old now all rest → TakesPages {T = Unit {0}} d old now all (Ok tt)
+pub taking_ends : (d : Draw) (old now : SlotsState) (all rest : StagedPages) → rest ≡ [] → TakingPages d old now all rest → TakesPages {T = Unit {0}} d old now all (Ok tt)
 taking_ends d old now all rest none so_far = record {
   calls = so_far.calls;
   taken = λ m observable holds. let at = so_far.leads m observable holds in subst (HoldsPages d now.slots) (ap (taken_by at.now) (sym none) ∙ at.leads) at.holds;

@@ -15,7 +15,7 @@ use Rattle.node_pages.specs.Insertions.{TakesCell, with_cell}
 use Rattle.node_pages.specs.PagesState.{IsCellInsert}
 use Rattle.table_memory.specs.Memos.{Remembered, staged_at, IsRemembered, IsMemoOf}
 use Rattle.table_memory.specs.OverlayState.{overlaid}
-use Rattle.table_memory.specs.Staging.{Changes, with_change, with_changes}
+use Rattle.table_memory.specs.Staging.{StagedPages, with_change, with_changes}
 use Rattle.table_memory.proofs.ChangeLemmas.{with_changes-insert, with_changes-set_value}
 use Rattle.page_store.proofs.KnownLemmas.{known_read}
 use Rattle.page_store.specs.PageImages.{pages_in_table}
@@ -27,7 +27,7 @@ use Rattle.page_store.proofs.StagedCalls.{len_after}
 -- ---- the changes
 
 -- a page that is staged is changed where it lies
-pub written_cell : (old new : Changes) (memo : Remembered) (l : Label) (at : ℕ) (cell : Cell) (found now : Option Page) → staged_at old l ≡ Some found → InsertsCell found now at cell → new ≡ set_value (is_at (label_cmp l)) old now → StagesCell old new memo l at cell
+pub written_cell : (old new : StagedPages) (memo : Remembered) (l : Label) (at : ℕ) (cell : Cell) (found now : Option Page) → staged_at old l ≡ Some found → InsertsCell found now at cell → new ≡ set_value (is_at (label_cmp l)) old now → StagesCell old new memo l at cell
 written_cell old new memo l at cell found now is inserts set = record {
   page = inserts.page;
   known = inl (is ∙ ap Some inserts.was);
@@ -36,7 +36,7 @@ written_cell old new memo l at cell found now is inserts set = record {
 }
 
 -- one that is remembered is staged with the cell
-pub put_cell : (old new : Changes) (memo : Remembered) (l : Label) (at : ℕ) (cell : Cell) (page : Page) → staged_at old l ≡ None → IsRemembered memo l (Some page) → TakesCell page at cell → new ≡ insert_entry label_cmp old l (Some (with_cell page at cell)) → StagesCell old new memo l at cell
+pub put_cell : (old new : StagedPages) (memo : Remembered) (l : Label) (at : ℕ) (cell : Cell) (page : Page) → staged_at old l ≡ None → IsRemembered memo l (Some page) → TakesCell page at cell → new ≡ insert_entry label_cmp old l (Some (with_cell page at cell)) → StagesCell old new memo l at cell
 put_cell old new memo l at cell page none is takes put = record {
   page = page;
   known = inr (none, is);
@@ -66,7 +66,7 @@ has_key : (m : PageMap) (l : Label) (page : Page) → page_at m l ≡ Some page 
 has_key m l page found = sym (ap is_some found)
 
 -- a page with one cell more is staged
-module _ {D W : Type 0} (state : D → DiskState) (draw : W) (d : Draw) (p : Parameters) (disk : D) (touched : List (ℕ × List ℕ)) (changes next : Changes) (used settled lookups : ℕ) (is_spent : Bool)
+module _ {D W : Type 0} (state : D → DiskState) (draw : W) (d : Draw) (p : Parameters) (disk : D) (touched : List (ℕ × List ℕ)) (changes next : StagedPages) (used settled lookups : ℕ) (is_spent : Bool)
     (staged : IsStaged d p (state disk) touched changes used settled is_spent) (memo : Remembered) (of : IsMemoOf d (overlaid p.slots touched (state disk)) memo) (l : Label) (at : ℕ) (cell : Cell) (did : StagesCell changes next memo l at cell) where
   abbrev before : PageMap
   before = with_changes (pages_in_table p.slots (state disk).bytes) changes
@@ -97,7 +97,7 @@ module _ {D W : Type 0} (state : D → DiskState) (draw : W) (d : Draw) (p : Par
         };
   }
 
-  told_valid : (es : Changes) → IsStaged d p (state disk) touched es used settled is_spent → IsObservable (state disk) → is_spent ≡ false → IsTold state (staged_state state p draw disk es lookups is_spent)
+  told_valid : (es : StagedPages) → IsStaged d p (state disk) touched es used settled is_spent → IsObservable (state disk) → is_spent ≡ false → IsTold state (staged_state state p draw disk es lookups is_spent)
   told_valid es is observable runs = record { disk = observable; runs = runs; valid = (is.counted observable runs).valid }
 
   pub cell_done : (was : StagedState D W) → staged_state state p draw disk changes lookups is_spent ≡ was → IsCellInsert {T = Unit {0}} (pages_state state was) (pages_state state (staged_state state p draw disk next lookups is_spent)) l at cell (Ok tt)

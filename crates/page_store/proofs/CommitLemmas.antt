@@ -19,12 +19,12 @@ use Rattle.gate_journal.specs.Places.{Makes, ReadsOnly}
 use Rattle.gate_journal.proofs.Committing.{find_slot, new_header, new_empty}
 use Rattle.gate_journal.proofs.Layouts.{with-slots-changed, with-slots-kept}
 use Rattle.table_memory.specs.Differences.{AreDifferences}
-use Rattle.page_store.specs.PageImages.{table_slots, placed_slot, IsLayoutOf, StandsAt, RepresentsPages}
+use Rattle.page_store.specs.PageImages.{table_slots, placed_slot, IsLayoutOf, SlotStandsAt, RepresentsPages}
 use Rattle.page_store.proofs.FindLemmas.{placed}
 use Rattle.page_store.proofs.TreeLayouts.{slots_by_number}
 
 -- a disk that stands at a map of pages, and the changes that lead to another
-module _ (d : Draw) (p : Parameters) (m n : PageMap) (disk : DiskState) (drawn : d.slots ≡ p.slots) (sound : IsSound disk) (sized : disk.size ≡ image_len p.slots) (stands : StandsAt d p m disk) (valid : IsPageMap n) (fits : maps.len n ≤ d.slots) (changes : journal.Changes)
+module _ (d : Draw) (p : Parameters) (m n : PageMap) (disk : DiskState) (drawn : d.slots ≡ p.slots) (sound : IsSound disk) (sized : disk.size ≡ image_len p.slots) (stands : SlotStandsAt d p m disk) (valid : IsPageMap n) (fits : maps.len n ≤ d.slots) (changes : journal.Changes)
     (are : journal.AreChanges p.slots changes) (differ : AreDifferences (placed_slot d m) (placed_slot d n) d.slots changes) where
   long : length disk.bytes ≡ image_len p.slots
   long = sound.size ∙ sized

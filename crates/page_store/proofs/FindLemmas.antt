@@ -16,14 +16,14 @@ use Rattle.gate_journal.specs.Changes.{AreChanges}
 use Rattle.gate_journal.specs.Phases.{table_slot}
 use Rattle.gate_journal.specs.ViewState.{KeepsView}
 use Rattle.table_memory.specs.declared.changed.ChangedSlots.{ChangedSlots}
-use Rattle.page_store.specs.Carrying.{CarriesOut}
+use Rattle.page_store.specs.Carrying.{LaysChanges}
 use Rattle.table_memory.specs.Differences.{AreDifferences}
 use Rattle.table_memory.specs.OverlayState.{slot_over, overlaid}
 use Rattle.page_store.specs.PageImages.{table_slots, placed_slot}
 use Rattle.table_memory.specs.Caches.{Kept, changes_of}
 use Rattle.table_memory.specs.Comparing.{FindsChanges}
 use Rattle.page_store.specs.Preparing.{FindsSlots}
-use Rattle.table_memory.specs.Staging.{Changes, with_changes}
+use Rattle.table_memory.specs.Staging.{StagedPages, with_changes}
 use Rattle.table_memory.proofs.DifferLemmas.{differences_as}
 use Rattle.page_store.proofs.OverlayLemmas.{get_number}
 
@@ -40,7 +40,7 @@ placed d slots f m held i below = by_slot (slice_get (place d (pages_of_map m)) 
     by_slot None e = absurd (cc)
     by_slot (Some content) e = sym (same_Some (slot_bytes content) (f i) e)
 
-module _ (d : Draw) (p q : Parameters) (touched later : List (ℕ × List ℕ)) (changes : Changes) (old mid new : DiskState) (value : Unit {0}) (drawn : p.slots ≡ d.slots) (carried : CarriesOut d (overlaid p.slots touched old) (overlaid q.slots later mid) changes (Ok value)) (kept : KeepsView p q old mid) where
+module _ (d : Draw) (p q : Parameters) (touched later : List (ℕ × List ℕ)) (changes : StagedPages) (old mid new : DiskState) (value : Unit {0}) (drawn : p.slots ≡ d.slots) (carried : LaysChanges d (overlaid p.slots touched old) (overlaid q.slots later mid) changes (Ok value)) (kept : KeepsView p q old mid) where
   slots_kept : q.slots ≡ p.slots
   slots_kept = ap (λ (r : Parameters). r.slots) kept.params
 

@@ -10,7 +10,7 @@ use Rattle.store_model.specs.PageMaps.{PageMap, page_at, with_page, HoldsPages}
 use Rattle.store_base.specs.declared.store_fault.Fault.{Fault}
 use Rattle.store_base.specs.SlotsState.{SlotsState}
 use Rattle.store_base.proofs.SlotsCalls.{AreSlotCalls-none, AreSlotCalls-then, AreSlotCalls-fault, IsObservable-later}
-use Rattle.ordered_table.specs.Tables.{IsSlotOf, Overwrites, Inserts}
+use Rattle.ordered_table.specs.Tables.{IsSlotWith, Overwrites, Inserts}
 use Rattle.page_store.specs.Lookups.{Locates}
 use Rattle.page_store.specs.Carrying.{LaysPage, laid_by, LaysPages, LayingPages}
 
@@ -28,7 +28,7 @@ lays_over d old mid new page at result located over = record {
       let same = sym (located.reads observable) in
       over.overwritten m (IsObservable-later old mid (Ok (Some at)) located.calls observable) (record {
         holds = subst (λ (slots : List (List ℕ)). HoldsPages d slots m) same holds;
-        there = subst (λ (slots : List (List ℕ)). IsSlotOf slots m page.label at) same ((located.found m observable holds).slot);
+        there = subst (λ (slots : List (List ℕ)). IsSlotWith slots m page.label at) same ((located.found m observable holds).slot);
       });
 }
 

@@ -11,9 +11,9 @@ use Rattle.store_model.specs.PageMaps.{PageMap, page_at, HoldsPages}
 use Rattle.store_base.specs.declared.store_fault.Fault.{Fault}
 use Rattle.store_base.specs.SlotsState.{SlotsState, IsObservable, IsGet}
 use Rattle.store_base.proofs.SlotsCalls.{AreSlotCalls-none, AreSlotCalls-then, AreSlotCalls-value, AreSlotCalls-fault, IsObservable-later}
-use Rattle.ordered_table.specs.Tables.{IsSlotOf, Looks}
-use Rattle.table_memory.specs.Staging.{Changes, with_changes}
-use Rattle.page_store.specs.Lookups.{Consults, Locates, LocatesAgain, Reads, ReadsChanged, Finds}
+use Rattle.ordered_table.specs.Tables.{IsSlotWith, Looks}
+use Rattle.table_memory.specs.Staging.{StagedPages, with_changes}
+use Rattle.page_store.specs.Lookups.{Consults, Locates, LocatesAgain, Reads, ReadsChanged, LooksUp}
 use Rattle.table_memory.proofs.ChangeLemmas.{page_or, page_at-with_changes}
 
 -- the page in the slot that was found
@@ -47,7 +47,7 @@ still_located d old new l at located = record {
   found = λ m observable holds.
       let before : IsObservable old = sym located.calls.observable ∙ observable in
       let was = located.found m before (subst (λ (slots : List (List ℕ)). HoldsPages d slots m) (located.reads before) holds) in
-      record { absent = was.absent; slot = subst (λ (slots : List (List ℕ)). IsSlotOf slots m l at) (sym (located.reads before)) was.slot };
+      record { absent = was.absent; slot = subst (λ (slots : List (List ℕ)). IsSlotWith slots m l at) (sym (located.reads before)) was.slot };
 }
 
 -- nothing is told where the slot of a hint lies behind the table
@@ -88,7 +88,7 @@ located_then d old mid new l (Ok found) again located = record {
   within = subst (λ (n : ℕ). IfSome found (λ at. at < n)) again.calls.count located.within;
   found = λ m observable holds.
       let is = located.found m (later observable) (subst (λ (slots : List (List ℕ)). HoldsPages d slots m) (sym (again.reads observable)) holds) in
-      record { absent = is.absent; slot = subst (λ (slots : List (List ℕ)). IfSome found (IsSlotOf slots m l)) (again.reads observable) is.slot };
+      record { absent = is.absent; slot = subst (λ (slots : List (List ℕ)). IfSome found (IsSlotWith slots m l)) (again.reads observable) is.slot };
 }
   where
     later : IsObservable old → IsObservable mid
@@ -117,26 +117,26 @@ consults_then d old mid new l found result located then = record {
   reads = λ observable. then.reads (IsObservable-later old mid (Ok found) located.calls observable) ∙ located.reads observable;
 }
 
-pub finds_failed : (d : Draw) (old new : SlotsState) (changes : Changes) (l : Label) (fault : Fault) → Locates d old new l (Err fault) → Finds d old new changes l (Err fault)
+pub finds_failed : (d : Draw) (old new : SlotsState) (changes : StagedPages) (l : Label) (fault : Fault) → Locates d old new l (Err fault) → LooksUp d old new changes l (Err fault)
 finds_failed d old new changes l fault located = record { calls = AreSlotCalls-fault old new fault located.calls; reads = located.reads; found = λ m observable holds. tt }
 
 -- where something is staged under the label
-staged_is : (m : PageMap) (changes : Changes) (l : Label) (page : Option Page) → Some page ≡ lookup (is_at (label_cmp l)) changes → page ≡ page_at (with_changes m changes) l
+staged_is : (m : PageMap) (changes : StagedPages) (l : Label) (page : Option Page) → Some page ≡ lookup (is_at (label_cmp l)) changes → page ≡ page_at (with_changes m changes) l
 staged_is m changes l page staged = ap (λ (o : Option (Option Page)). page_or o (page_at m l)) staged ∙ sym (page_at-with_changes m changes l)
 
-pub staged_read : (d : Draw) (slots : SlotsState) (changes : Changes) (l : Label) (page : Option Page) → Some page ≡ lookup (is_at (label_cmp l)) changes → ReadsChanged d slots slots changes l (Ok page)
+pub staged_read : (d : Draw) (slots : SlotsState) (changes : StagedPages) (l : Label) (page : Option Page) → Some page ≡ lookup (is_at (label_cmp l)) changes → ReadsChanged d slots slots changes l (Ok page)
 staged_read d slots changes l page staged = record { calls = AreSlotCalls-none slots page; reads = λ observable. refl; found = λ m observable holds. staged_is m changes l page staged }
 
 -- where nothing is
-settled_is : (m : PageMap) (changes : Changes) (l : Label) → None ≡ lookup (is_at (label_cmp l)) changes → page_at m l ≡ page_at (with_changes m changes) l
+settled_is : (m : PageMap) (changes : StagedPages) (l : Label) → None ≡ lookup (is_at (label_cmp l)) changes → page_at m l ≡ page_at (with_changes m changes) l
 settled_is m changes l none = ap (λ (o : Option (Option Page)). page_or o (page_at m l)) none ∙ sym (page_at-with_changes m changes l)
 
-pub settled_read : (d : Draw) (old new : SlotsState) (changes : Changes) (l : Label) (result : Result (Option Page) Fault) → None ≡ lookup (is_at (label_cmp l)) changes → Reads d old new l result → ReadsChanged d old new changes l result
+pub settled_read : (d : Draw) (old new : SlotsState) (changes : StagedPages) (l : Label) (result : Result (Option Page) Fault) → None ≡ lookup (is_at (label_cmp l)) changes → Reads d old new l result → ReadsChanged d old new changes l result
 settled_read d old new changes l (Ok page) none read = record { calls = read.calls; reads = read.reads; found = λ m observable holds. read.found m observable holds ∙ settled_is m changes l none }
 settled_read d old new changes l (Err fault) none read = record { calls = read.calls; reads = read.reads; found = λ m observable holds. tt }
 
 -- whether there is a page, by the page that was read
-pub found_by_read : (d : Draw) (old new : SlotsState) (changes : Changes) (l : Label) (page : Option Page) (is_there : Bool) → ReadsChanged d old new changes l (Ok page) → is_there ≡ is_some page → Finds d old new changes l (Ok is_there)
+pub found_by_read : (d : Draw) (old new : SlotsState) (changes : StagedPages) (l : Label) (page : Option Page) (is_there : Bool) → ReadsChanged d old new changes l (Ok page) → is_there ≡ is_some page → LooksUp d old new changes l (Ok is_there)
 found_by_read d old new changes l page is_there read is = record { calls = AreSlotCalls-value old new page is_there read.calls; reads = read.reads; found = λ m observable holds. is ∙ ap is_some (read.found m observable holds) }
 
 -- or by the place where it stands
@@ -146,7 +146,7 @@ same_found None (Some page) both = absurd (none-some page (sym (both.0 refl)))
 same_found (Some at) None both = let none : true ≡ false = both.1 refl in absurd (cc)
 same_found (Some at) (Some page) both = refl
 
-pub found_by_place : (d : Draw) (old new : SlotsState) (changes : Changes) (l : Label) (at : Option ℕ) (is_there : Bool) → None ≡ lookup (is_at (label_cmp l)) changes → Locates d old new l (Ok at) → is_there ≡ is_some at → Finds d old new changes l (Ok is_there)
+pub found_by_place : (d : Draw) (old new : SlotsState) (changes : StagedPages) (l : Label) (at : Option ℕ) (is_there : Bool) → None ≡ lookup (is_at (label_cmp l)) changes → Locates d old new l (Ok at) → is_there ≡ is_some at → LooksUp d old new changes l (Ok is_there)
 found_by_place d old new changes l at is_there none located is = record {
   calls = AreSlotCalls-value old new at is_there located.calls;
   reads = located.reads;

@@ -26,11 +26,11 @@ use Rattle.page_store.specs.Faults.{settle_faults_after, settle_fault_of}
 use Rattle.table_memory.specs.Caches.{changes_of}
 use Rattle.table_memory.specs.Memos.{Remembered, IsMemoOf, Renews}
 use Rattle.table_memory.specs.OverlayState.{overlaid}
-use Rattle.page_store.specs.PageImages.{table_slots, pages_in_table, placed_slot, IsLayoutOf, StandsAt, RepresentsPages, slots_between}
+use Rattle.page_store.specs.PageImages.{table_slots, pages_in_table, placed_slot, IsLayoutOf, SlotStandsAt, RepresentsPages, slots_between}
 use Rattle.page_store.specs.Preparing.{FindsSlots}
 use Rattle.page_store.specs.Settling.{AnswersFull, SettlesDisk, Settles}
-use Rattle.page_store.specs.StagedState.{StagedState, staged_state, IsCounted, IsStaged}
-use Rattle.table_memory.specs.Staging.{Changes, with_changes}
+use Rattle.page_store.specs.StagedState.{StagedState, staged_state, CountsPages, IsStaged}
+use Rattle.table_memory.specs.Staging.{StagedPages, with_changes}
 use Rattle.page_store.proofs.CommitLemmas.{becomes, either, counts_commit}
 use Rattle.table_memory.proofs.DifferLemmas.{differing-itself}
 use Rattle.table_memory.proofs.MemoLemmas.{renewed}
@@ -45,7 +45,7 @@ represents_at d p m image long layout = record {
 }
 
 -- a value that is not spent, over a disk that was only read since
-pub record IsReadSince {D W : Type 0} (state : D → DiskState) (drawn : W → Draw) (p q : Parameters) (draw : W) (disk mid : D) (touched : List (ℕ × List ℕ)) (changes : Changes) (used settled lookups : ℕ) (is_spent : Bool) (was : StagedState D W) : Type 0 where
+pub record IsReadSince {D W : Type 0} (state : D → DiskState) (drawn : W → Draw) (p q : Parameters) (draw : W) (disk mid : D) (touched : List (ℕ × List ℕ)) (changes : StagedPages) (used settled lookups : ℕ) (is_spent : Bool) (was : StagedState D W) : Type 0 where
   pub sound : (x : D) → IsObservable (state x) → IsSound (state x)
   pub sized : (state disk).size ≡ image_len p.slots
   pub staged : IsStaged (drawn draw) p (state disk) touched changes used settled is_spent
@@ -53,12 +53,12 @@ pub record IsReadSince {D W : Type 0} (state : D → DiskState) (drawn : W → D
   pub unspent : was.is_spent ≡ false
   pub kept : KeepsView p q (state disk) (state mid)
 
-pub read_since : {D W : Type 0} (state : D → DiskState) (drawn : W → Draw) {p q : Parameters} (draw : W) (disk mid : D) {touched : List (ℕ × List ℕ)} {changes : Changes} {used settled lookups : ℕ} {is_spent : Bool} {was : StagedState D W}
+pub read_since : {D W : Type 0} (state : D → DiskState) (drawn : W → Draw) {p q : Parameters} (draw : W) (disk mid : D) {touched : List (ℕ × List ℕ)} {changes : StagedPages} {used settled lookups : ℕ} {is_spent : Bool} {was : StagedState D W}
     → ((x : D) → IsObservable (state x) → IsSound (state x)) → (state disk).size ≡ image_len p.slots → IsStaged (drawn draw) p (state disk) touched changes used settled is_spent
     → staged_state state p draw disk changes lookups is_spent ≡ was → was.is_spent ≡ false → KeepsView p q (state disk) (state mid) → IsReadSince state drawn p q draw disk mid touched changes used settled lookups is_spent was
 read_since state drawn draw disk mid sound sized staged view_is unspent kept = record { sound = sound; sized = sized; staged = staged; view_is = view_is; unspent = unspent; kept = kept }
 
-module _ {D W : Type 0} {state : D → DiskState} {drawn : W → Draw} {p q : Parameters} {draw : W} {disk mid : D} {touched : List (ℕ × List ℕ)} {changes : Changes} {used settled lookups : ℕ} {is_spent : Bool} {was : StagedState D W} (at : IsReadSince state drawn p q draw disk mid touched changes used settled lookups is_spent was) where
+module _ {D W : Type 0} {state : D → DiskState} {drawn : W → Draw} {p q : Parameters} {draw : W} {disk mid : D} {touched : List (ℕ × List ℕ)} {changes : StagedPages} {used settled lookups : ℕ} {is_spent : Bool} {was : StagedState D W} (at : IsReadSince state drawn p q draw disk mid touched changes used settled lookups is_spent was) where
   pub runs : is_spent ≡ false
   runs = ap (λ (x : StagedState D W). x.is_spent) at.view_is ∙ at.unspent
 
@@ -71,7 +71,7 @@ module _ {D W : Type 0} {state : D → DiskState} {drawn : W → Draw} {p q : Pa
   abbrev Either : List ℕ → Type 0
   Either image = RepresentsPages (drawn draw) p table image ⊎ RepresentsPages (drawn draw) p pages image
 
-  counted : IsObservable (state disk) → IsCounted (drawn draw) p (state disk) touched changes used settled
+  counted : IsObservable (state disk) → CountsPages (drawn draw) p (state disk) touched changes used settled
   counted observable = at.staged.counted observable runs
 
   represents : IsObservable (state disk) → RepresentsPages (drawn draw) p table (state disk).bytes
@@ -140,7 +140,7 @@ module _ {D W : Type 0} {state : D → DiskState} {drawn : W → Draw} {p q : Pa
   unseen : IsObservable (state mid) → IsObservable (state disk)
   unseen observable = sym at.kept.observable ∙ observable
 
-  stands_mid : IsObservable (state disk) → StandsAt (drawn draw) p table (state mid)
+  stands_mid : IsObservable (state disk) → SlotStandsAt (drawn draw) p table (state mid)
   stands_mid observable =
       let reads = at.kept.reads observable in
       let stands = (counted observable).stands in
@@ -250,7 +250,7 @@ module _ {D W : Type 0} {state : D → DiskState} {drawn : W → Draw} {p q : Pa
 
     -- all was done
     module _ {E : Type 0} (value : Unit {0}) (calls : AreCalls {E = E} (state mid) (state after) (Ok value)) (commits : IsObservable (state mid) → journal.Commits {E = E} p.slots commit (state mid) (state after) (Ok value)) where
-      stands_after : IsObservable (state disk) → StandsAt (drawn draw) p pages (state after)
+      stands_after : IsObservable (state disk) → SlotStandsAt (drawn draw) p pages (state after)
       stands_after observable =
           let done = commits (seen observable) in
           record { layout = subst (IsLayoutOf (drawn draw) p pages) (sym done.done) (becomes_pages observable); durable = done.durable }
@@ -258,17 +258,17 @@ module _ {D W : Type 0} {state : D → DiskState} {drawn : W → Draw} {p q : Pa
       new_table : IsObservable (state disk) → pages_in_table p.slots (state after).bytes ≡ pages
       new_table observable = pages_in_held (drawn draw) (table_slots p.slots (state after).bytes) pages law (stands_after observable).layout.holds
 
-      pub done_staged : (later : List (ℕ × List ℕ)) (no_change : Changes) → later ≡ [] → no_change ≡ [] → IsStaged (drawn draw) q (state after) later no_change used used is_spent
+      pub done_staged : (later : List (ℕ × List ℕ)) (no_change : StagedPages) → later ≡ [] → no_change ≡ [] → IsStaged (drawn draw) q (state after) later no_change used used is_spent
       done_staged later no_change untouched empty = record {
         drawn = at.staged.drawn ∙ ap (λ (r : Parameters). r.slots) (sym at.kept.params);
         counted = λ observable still.
             let before : IsObservable (state disk) = sym (calls.observable ∙ at.kept.observable) ∙ observable in
             let table_is = new_table before in
             let used_is = (counted before).used_is ∙ ap maps.len (sym table_is) in
-            subst (λ (es : Changes). IsCounted (drawn draw) q (state after) later es used used) (sym empty)
-            (subst (λ (t : List (ℕ × List ℕ)). IsCounted (drawn draw) q (state after) t [] used used) (sym untouched)
-            (subst (λ (r : Parameters). IsCounted (drawn draw) r (state after) [] [] used used) (sym at.kept.params) (record {
-              stands = subst (λ (m : PageMap). StandsAt (drawn draw) p m (state after)) (sym table_is) (stands_after before);
+            subst (λ (es : StagedPages). CountsPages (drawn draw) q (state after) later es used used) (sym empty)
+            (subst (λ (t : List (ℕ × List ℕ)). CountsPages (drawn draw) q (state after) t [] used used) (sym untouched)
+            (subst (λ (r : Parameters). CountsPages (drawn draw) r (state after) [] [] used used) (sym at.kept.params) (record {
+              stands = subst (λ (m : PageMap). SlotStandsAt (drawn draw) p m (state after)) (sym table_is) (stands_after before);
               valid = subst IsPageMap (sym table_is) (counted before).valid;
               used_is = used_is;
               untouched = refl;
@@ -290,7 +290,7 @@ module _ {D W : Type 0} {state : D → DiskState} {drawn : W → Draw} {p q : Pa
             renewed table changes memo renewed_memo l page (of.tells table before held_before l page) renews is ∙ ap (λ (n : PageMap). page_at n l) (sym map_is);
       }
 
-      pub done : (no_change : Changes) → no_change ≡ [] → (commit.count ≡ 0 → after ≡ mid) → (IsObservable (state mid) → 0 < commit.count → Makes {E = E} (5 * commit.count + 2) 5 (state mid) (state after) (Ok value))
+      pub done : (no_change : StagedPages) → no_change ≡ [] → (commit.count ≡ 0 → after ≡ mid) → (IsObservable (state mid) → 0 < commit.count → Makes {E = E} (5 * commit.count + 2) 5 (state mid) (state after) (Ok value))
           → Settles state drawn was (staged_state state q draw after no_change lookups is_spent) (Ok value)
       done no_change empty none makes =
           let table_is = λ (observable : IsObservable (state disk)). ap (λ (r : Parameters). pages_in_table r.slots (state after).bytes) at.kept.params ∙ new_table observable in

@@ -17,8 +17,8 @@ use Rattle.gate_journal.specs.ViewState.{KeepsView}
 use Rattle.node_pages.specs.PagesState.{IsPageGet, IsPagePut, most_pages}
 use Rattle.table_memory.specs.OverlayState.{overlaid}
 use Rattle.page_store.specs.PageImages.{pages_in_table}
-use Rattle.table_memory.specs.Staging.{Changes, with_change, with_changes, used_after}
-use Rattle.page_store.specs.Lookups.{Finds}
+use Rattle.table_memory.specs.Staging.{StagedPages, with_change, with_changes, used_after}
+use Rattle.page_store.specs.Lookups.{LooksUp}
 use Rattle.page_store.specs.StagedState.{StagedState, staged_state, IsStaged, IsTold, Follows, pages_state}
 use Rattle.page_store.specs.Stagings.{Stages}
 use Rattle.page_store.proofs.StagedLemmas.{IsReadLater, read_later, staged_later, staged_change, changed_map, same_table}
@@ -48,7 +48,7 @@ in_u32 None used false within few = omega arith
 -- ---- the calls
 
 -- calls that keep the view follow, whatever they stage
-pub view_follows : {D W : Type 0} (state : D → DiskState) (draw : W) (p q : Parameters) (disk after : D) (changes next : Changes) (lookups n : ℕ) (is_spent : Bool) (was : StagedState D W) → staged_state state p draw disk changes lookups is_spent ≡ was → KeepsView p q (state disk) (state after)
+pub view_follows : {D W : Type 0} (state : D → DiskState) (draw : W) (p q : Parameters) (disk after : D) (changes next : StagedPages) (lookups n : ℕ) (is_spent : Bool) (was : StagedState D W) → staged_state state p draw disk changes lookups is_spent ≡ was → KeepsView p q (state disk) (state after)
     → Follows state was (staged_state state q draw after next n is_spent)
 view_follows {D} {W} state draw p q disk after changes next lookups n is_spent was is view = subst (λ (x : StagedState D W). Follows state x (staged_state state q draw after next n is_spent)) is (record {
   disk = view;
@@ -67,18 +67,18 @@ put_refused {D} {W} state now was page is = subst (λ (x : StagedState D W). IsP
 })
 
 -- slots over the disk were read
-module _ {D W : Type 0} (state : D → DiskState) (draw : W) (d : Draw) (p q : Parameters) (disk after : D) (touched later : List (ℕ × List ℕ)) (changes : Changes) (used settled lookups : ℕ) (is_spent : Bool)
+module _ {D W : Type 0} (state : D → DiskState) (draw : W) (d : Draw) (p q : Parameters) (disk after : D) (touched later : List (ℕ × List ℕ)) (changes : StagedPages) (used settled lookups : ℕ) (is_spent : Bool)
     (staged : IsStaged d p (state disk) touched changes used settled is_spent) (view : KeepsView p q (state disk) (state after)) (slots : IsObservable (state disk) → (overlaid q.slots later (state after)).slots ≡ (overlaid p.slots touched (state disk)).slots)
     (was : StagedState D W) (view_is : staged_state state p draw disk changes lookups is_spent ≡ was) where
   read : IsReadLater p q (state disk) (state after) touched later
   read = read_later p q (state disk) (state after) touched later view slots
 
-  told_before : (next : Changes) (n : ℕ) → IsTold state (staged_state state q draw after next n is_spent) → IsTold state (staged_state state p draw disk changes lookups is_spent)
+  told_before : (next : StagedPages) (n : ℕ) → IsTold state (staged_state state q draw after next n is_spent) → IsTold state (staged_state state p draw disk changes lookups is_spent)
   told_before next n told =
       let before = sym read.observable ∙ told.disk in
       record { disk = before; runs = told.runs; valid = (staged.counted before told.runs).valid }
 
-  told_later : (next : Changes) (n used_after : ℕ) → IsStaged d q (state after) later next used_after settled is_spent → IsTold state (staged_state state p draw disk changes lookups is_spent) → IsTold state (staged_state state q draw after next n is_spent)
+  told_later : (next : StagedPages) (n used_after : ℕ) → IsStaged d q (state after) later next used_after settled is_spent → IsTold state (staged_state state p draw disk changes lookups is_spent) → IsTold state (staged_state state q draw after next n is_spent)
   told_later next n used_after now told =
       let observable = read.observable ∙ told.disk in
       record { disk = observable; runs = told.runs; valid = (now.counted observable told.runs).valid }
@@ -87,9 +87,9 @@ module _ {D W : Type 0} (state : D → DiskState) (draw : W) (d : Draw) (p q : P
   same_map observable = ap (λ (m : PageMap). with_changes m changes) (same_table d p q (state disk) (state after) touched later changes used settled is_spent staged read observable)
 
   -- all is as it was
-  pub read_staged : (next : Changes) → next ≡ changes → IsStaged d q (state after) later next used settled is_spent
+  pub read_staged : (next : StagedPages) → next ≡ changes → IsStaged d q (state after) later next used settled is_spent
   read_staged next same =
-      subst (λ (es : Changes). IsStaged d q (state after) later es used settled is_spent) (sym same)
+      subst (λ (es : StagedPages). IsStaged d q (state after) later es used settled is_spent) (sym same)
       (staged_later d p q (state disk) (state after) touched later changes used settled is_spent staged read)
 
   -- a page was asked for, and is shown
@@ -114,11 +114,11 @@ module _ {D W : Type 0} (state : D → DiskState) (draw : W) (d : Draw) (p q : P
   )
 
   -- a change was not staged
-  pub stage_failed : (l : Label) (change : Option Page) (fault : Fault) (next : Changes) → next ≡ changes → (state after).faults ≡ disk_faults_after {T = Unit {0}} (state disk).faults (Err fault)
+  pub stage_failed : (l : Label) (change : Option Page) (fault : Fault) (next : StagedPages) → next ≡ changes → (state after).faults ≡ disk_faults_after {T = Unit {0}} (state disk).faults (Err fault)
       → Stages {T = Unit {0}} (pages_state state was) (pages_state state (staged_state state q draw after next lookups is_spent)) l change (Err fault)
   stage_failed l change fault next same faults =
       subst (λ (x : StagedState D W). Stages {T = Unit {0}} (pages_state state x) (pages_state state (staged_state state q draw after next lookups is_spent)) l change (Err fault)) view_is
-      (subst (λ (es : Changes). Stages {T = Unit {0}} (pages_state state (staged_state state p draw disk changes lookups is_spent)) (pages_state state (staged_state state q draw after es lookups is_spent)) l change (Err fault)) (sym same) (record {
+      (subst (λ (es : StagedPages). Stages {T = Unit {0}} (pages_state state (staged_state state p draw disk changes lookups is_spent)) (pages_state state (staged_state state q draw after es lookups is_spent)) l change (Err fault)) (sym same) (record {
         faults = faults;
         lookups = refl;
         hidden = told_before changes lookups;
@@ -126,7 +126,7 @@ module _ {D W : Type 0} (state : D → DiskState) (draw : W) (d : Draw) (p q : P
       }))
 
   -- a change was staged
-  module _ (l : Label) (change : Option Page) (is_there : Bool) (next : Changes) (used_now : ℕ) (found : Finds d (overlaid p.slots touched (state disk)) (overlaid q.slots later (state after)) changes l (Ok is_there)) (put : next ≡ insert_entry label_cmp changes l change)
+  module _ (l : Label) (change : Option Page) (is_there : Bool) (next : StagedPages) (used_now : ℕ) (found : LooksUp d (overlaid p.slots touched (state disk)) (overlaid q.slots later (state after)) changes l (Ok is_there)) (put : next ≡ insert_entry label_cmp changes l change)
       (keeps : (m : PageMap) → IsPageMap m → IsPageMap (with_change m l change)) (in_range : used ≤ most_pages)
       (few : IsSome change → IsTold state was → maps.len was.map < most_pages)
       (counted : used_now ≡ min most_pages (used_after used is_there (is_some change))) where

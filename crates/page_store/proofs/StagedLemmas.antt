@@ -13,20 +13,20 @@ use Rattle.gate_journal.specs.Places.{ReadsOnly}
 use Rattle.gate_journal.specs.ViewState.{KeepsView}
 use Rattle.table_memory.specs.Memos.{Remembered, IsMemoOf}
 use Rattle.table_memory.specs.OverlayState.{slot_over, overlaid}
-use Rattle.page_store.specs.PageImages.{table_slots, pages_in_table, IsLayoutOf, StandsAt}
-use Rattle.table_memory.specs.Staging.{Changes, with_change, with_changes}
-use Rattle.page_store.specs.Lookups.{Finds}
-use Rattle.page_store.specs.StagedState.{IsCounted, IsStaged}
+use Rattle.page_store.specs.PageImages.{table_slots, pages_in_table, IsLayoutOf, SlotStandsAt}
+use Rattle.table_memory.specs.Staging.{StagedPages, with_change, with_changes}
+use Rattle.page_store.specs.Lookups.{LooksUp}
+use Rattle.page_store.specs.StagedState.{CountsPages, IsStaged}
 use Rattle.table_memory.proofs.ChangeLemmas.{with_changes-insert}
 
 -- all changes are taken back
-pub discarded : (d : Draw) (p : Parameters) (disk : DiskState) (touched : List (ℕ × List ℕ)) (changes none : Changes) (used settled : ℕ) (is_spent : Bool) → IsStaged d p disk touched changes used settled is_spent → none ≡ []
+pub discarded : (d : Draw) (p : Parameters) (disk : DiskState) (touched : List (ℕ × List ℕ)) (changes none : StagedPages) (used settled : ℕ) (is_spent : Bool) → IsStaged d p disk touched changes used settled is_spent → none ≡ []
     → IsStaged d p disk touched none settled settled is_spent
 discarded d p disk touched changes none used settled is_spent staged empty = record {
   drawn = staged.drawn;
   counted = λ observable runs.
       let was = staged.counted observable runs in
-      subst (λ (es : Changes). IsCounted d p disk touched es settled settled) (sym empty) (record {
+      subst (λ (es : StagedPages). CountsPages d p disk touched es settled settled) (sym empty) (record {
         stands = was.stands;
         valid = was.stands.layout.holds.pages;
         used_is = was.settled_is;
@@ -36,13 +36,13 @@ discarded d p disk touched changes none used settled is_spent staged empty = rec
 }
 
 -- the pages in the table of a disk, and no change
-pub begun : (d : Draw) (p : Parameters) (disk : DiskState) (touched : List (ℕ × List ℕ)) (none : Changes) (pages : ℕ) → d.slots ≡ p.slots → (IsObservable disk → StandsAt d p (pages_in_table p.slots disk.bytes) disk)
+pub begun : (d : Draw) (p : Parameters) (disk : DiskState) (touched : List (ℕ × List ℕ)) (none : StagedPages) (pages : ℕ) → d.slots ≡ p.slots → (IsObservable disk → SlotStandsAt d p (pages_in_table p.slots disk.bytes) disk)
     → (IsObservable disk → pages ≡ maps.len (pages_in_table p.slots disk.bytes)) → touched ≡ [] → none ≡ [] → IsStaged d p disk touched none pages pages false
 begun d p disk touched none pages drawn stands count untouched empty = record {
   drawn = drawn;
   counted = λ observable runs.
       let at = stands observable in
-      subst (λ (es : Changes). IsCounted d p disk touched es pages pages) (sym empty) (subst (λ (t : List (ℕ × List ℕ)). IsCounted d p disk t [] pages pages) (sym untouched) (record {
+      subst (λ (es : StagedPages). CountsPages d p disk touched es pages pages) (sym empty) (subst (λ (t : List (ℕ × List ℕ)). CountsPages d p disk t [] pages pages) (sym untouched) (record {
         stands = at;
         valid = at.layout.holds.pages;
         used_is = count observable;
@@ -79,13 +79,13 @@ memo_later d p q old new touched later memo read of = record {
 }
 
 -- the slots over the disk hold the pages of the table
-pub held_over : (d : Draw) (p : Parameters) (disk : DiskState) (touched : List (ℕ × List ℕ)) (changes : Changes) (used settled : ℕ) (is_spent : Bool) → IsStaged d p disk touched changes used settled is_spent → IsObservable disk → is_spent ≡ false
+pub held_over : (d : Draw) (p : Parameters) (disk : DiskState) (touched : List (ℕ × List ℕ)) (changes : StagedPages) (used settled : ℕ) (is_spent : Bool) → IsStaged d p disk touched changes used settled is_spent → IsObservable disk → is_spent ≡ false
     → HoldsPages d (overlaid p.slots touched disk).slots (pages_in_table p.slots disk.bytes)
 held_over d p disk touched changes used settled is_spent staged observable runs =
     let was = staged.counted observable runs in
     subst (λ (slots : List (List ℕ)). HoldsPages d slots (pages_in_table p.slots disk.bytes)) (sym was.untouched) was.stands.layout.holds
 
-module _ (d : Draw) (p q : Parameters) (old new : DiskState) (touched later : List (ℕ × List ℕ)) (changes : Changes) (used settled : ℕ) (is_spent : Bool) (staged : IsStaged d p old touched changes used settled is_spent) (read : IsReadLater p q old new touched later) where
+module _ (d : Draw) (p q : Parameters) (old new : DiskState) (touched later : List (ℕ × List ℕ)) (changes : StagedPages) (used settled : ℕ) (is_spent : Bool) (staged : IsStaged d p old touched changes used settled is_spent) (read : IsReadLater p q old new touched later) where
   observable_before : IsObservable new → IsObservable old
   observable_before observable = sym read.observable ∙ observable
 
@@ -93,7 +93,7 @@ module _ (d : Draw) (p q : Parameters) (old new : DiskState) (touched later : Li
   pub same_table : IsObservable old → pages_in_table q.slots new.bytes ≡ pages_in_table p.slots old.bytes
   same_table observable = ap₂ (λ (r : Parameters) (bytes : List ℕ). pages_in_table r.slots bytes) read.params (read.reads observable).bytes
 
-  stands_later : IsObservable old → StandsAt d p (pages_in_table p.slots old.bytes) old → StandsAt d q (pages_in_table q.slots new.bytes) new
+  stands_later : IsObservable old → SlotStandsAt d p (pages_in_table p.slots old.bytes) old → SlotStandsAt d q (pages_in_table q.slots new.bytes) new
   stands_later observable stands = record {
     layout = subst (λ (r : Parameters). IsLayoutOf d r (pages_in_table r.slots new.bytes) new.bytes) (sym read.params) (subst (λ (bytes : List ℕ). IsLayoutOf d p (pages_in_table p.slots bytes) bytes) (sym (read.reads observable).bytes) stands.layout);
     durable = λ image left. stands.durable image (((read.reads observable).crash image).0 left) ∙ sym (read.reads observable).bytes;
@@ -117,7 +117,7 @@ module _ (d : Draw) (p q : Parameters) (old new : DiskState) (touched later : Li
   }
 
   -- a change is staged
-  module _ (l : Label) (v : Option Page) (is_there : Bool) (after : Changes) (used_after : ℕ) (found : Finds d (overlaid p.slots touched old) (overlaid q.slots later new) changes l (Ok is_there)) (put : after ≡ insert_entry label_cmp changes l v)
+  module _ (l : Label) (v : Option Page) (is_there : Bool) (after : StagedPages) (used_after : ℕ) (found : LooksUp d (overlaid p.slots touched old) (overlaid q.slots later new) changes l (Ok is_there)) (put : after ≡ insert_entry label_cmp changes l v)
       (keeps : (m : PageMap) → IsPageMap m → IsPageMap (with_change m l v))
       (counts : IsObservable old → is_spent ≡ false → used ≡ maps.len (with_changes (pages_in_table p.slots old.bytes) changes) → is_there ≡ maps.contains_key (with_changes (pages_in_table p.slots old.bytes) changes) (label_bytes l)
       → used_after ≡ maps.len (with_change (with_changes (pages_in_table p.slots old.bytes) changes) l v)) where

@@ -7,7 +7,7 @@ use Rattle.store_model.specs.Pages.{Page}
 use Rattle.store_model.specs.PageMaps.{PageMap, page_at, with_page, without_page, IsPageMap, HoldsPages}
 use Rattle.store_base.specs.declared.store_fault.Fault.{Fault}
 use Rattle.store_base.specs.SlotsState.{SlotsState, IsObservable, AreSlotCalls}
-use Rattle.table_memory.specs.Staging.{Changes, with_changes}
+use Rattle.table_memory.specs.Staging.{StagedPages, with_changes}
 
 -- the page under a label is taken away, if there is one
 pub record TakesPage {T : Type 0} (d : Draw) (old new : SlotsState) (l : Label) (result : Result T Fault) : Type 0 where
@@ -25,23 +25,23 @@ taken_one m l None = without_page m l
 taken_one m l (Some page) = m
 
 -- the map without the pages of the labels that the changes leave without one, change after change
-abbrev pub taken_by : PageMap → Changes → PageMap
+abbrev pub taken_by : PageMap → StagedPages → PageMap
 taken_by m [] = m
 taken_by m (change ∷ changes) = taken_by (taken_one m change.0 change.1) changes
 
 -- slots that hold a map from which the changes that are left lead to where all of them lead from the first one
-pub record LeadsOn (d : Draw) (slots : List (List ℕ)) (m : PageMap) (all rest : Changes) : Type 0 where
+pub record LeadsOn (d : Draw) (slots : List (List ℕ)) (m : PageMap) (all rest : StagedPages) : Type 0 where
   pub now : PageMap
   pub holds : HoldsPages d slots now
   pub leads : taken_by now rest ≡ taken_by m all
 
 -- the pages of labels that changes leave without one are taken away
-pub record TakesPages {T : Type 0} (d : Draw) (old new : SlotsState) (changes : Changes) (result : Result T Fault) : Type 0 where
+pub record TakesPages {T : Type 0} (d : Draw) (old new : SlotsState) (changes : StagedPages) (result : Result T Fault) : Type 0 where
   pub calls : AreSlotCalls old new result
   pub taken : (m : PageMap) → IsObservable old → HoldsPages d old.slots m → OnOk result (HoldsPages d new.slots (taken_by m changes))
 
 -- a loop that takes them away has come so far
-pub record TakingPages (d : Draw) (old now : SlotsState) (all rest : Changes) : Type 0 where
+pub record TakingPages (d : Draw) (old now : SlotsState) (all rest : StagedPages) : Type 0 where
   pub calls : AreSlotCalls {T = Unit {0}} old now (Ok tt)
   pub leads : (m : PageMap) → IsObservable old → HoldsPages d old.slots m → LeadsOn d now.slots m all rest
 
@@ -72,6 +72,6 @@ pub record LayingPages (d : Draw) (old now : SlotsState) (all rest : List (Optio
   pub leads : (m : PageMap) → IsObservable old → HoldsPages d old.slots m → maps.len (laid_by m all) ≤ d.slots → LeadsIn d now.slots m all rest
 
 -- changes are carried out on slots; with them the map has to have each page under its label, and no more pages than slots
-pub record CarriesOut {T : Type 0} (d : Draw) (old new : SlotsState) (changes : Changes) (result : Result T Fault) : Type 0 where
+pub record LaysChanges {T : Type 0} (d : Draw) (old new : SlotsState) (changes : StagedPages) (result : Result T Fault) : Type 0 where
   pub calls : AreSlotCalls old new result
   pub carried : (m : PageMap) → IsObservable old → HoldsPages d old.slots m → IsPageMap (with_changes m changes) → maps.len (with_changes m changes) ≤ d.slots → OnOk result (HoldsPages d new.slots (with_changes m changes))

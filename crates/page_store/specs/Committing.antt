@@ -4,7 +4,7 @@ use Rattle.disk_model.specs.DiskState.{DiskState, IsObservable}
 use Rattle.disk_model.specs.DiskCalls.{Rose}
 use Rattle.gate_journal.specs.Changes as journal
 use Rattle.gate_journal.specs.Places.{AreCalls, Makes}
-use Rattle.table_memory.specs.Caches.{Kept, IsCacheOf}
+use Rattle.table_memory.specs.Caches.{Kept, IsSlotCacheOf}
 
 -- The changed slots are committed, as the journal does it, and what is kept of the table are its slots then too.
 pub record CommitsSlots {D T E : Type 0} (state : D → DiskState) (slots : ℕ) (changes : journal.Changes) (old new : D) (cache : Kept) (result : Result T E) : Type 0 where
@@ -13,4 +13,4 @@ pub record CommitsSlots {D T E : Type 0} (state : D → DiskState) (slots : ℕ)
   pub none : changes.count ≡ 0 → new ≡ old
   pub makes : IsObservable (state old) → 0 < changes.count → Makes (5 * changes.count + 2) 5 (state old) (state new) result
   pub wrote : IsObservable (state old) → OnErr result (Rose (state old).writes (state new).writes)
-  pub cached : IsCacheOf slots (state new) cache
+  pub cached : IsSlotCacheOf slots (state new) cache

@@ -7,8 +7,8 @@ use Rattle.store_model.specs.Pages.{Page}
 use Rattle.store_model.specs.PageMaps.{PageMap, page_at, HoldsPages}
 use Rattle.store_base.specs.declared.store_fault.Fault.{Fault}
 use Rattle.store_base.specs.SlotsState.{SlotsState, IsObservable, AreSlotCalls}
-use Rattle.ordered_table.specs.Tables.{IsSlotOf}
-use Rattle.table_memory.specs.Staging.{Changes, with_changes}
+use Rattle.ordered_table.specs.Tables.{IsSlotWith}
+use Rattle.table_memory.specs.Staging.{StagedPages, with_changes}
 
 -- a call that only reads slots
 pub record Consults {T : Type 0} (old new : SlotsState) (result : Result T Fault) : Type 0 where
@@ -18,7 +18,7 @@ pub record Consults {T : Type 0} (old new : SlotsState) (result : Result T Fault
 -- the slot of a label, in slots that hold the pages of a map
 pub record IsLocated (old : SlotsState) (m : PageMap) (l : Label) (result : Result (Option ℕ) Fault) : Type 0 where
   pub absent : IfOk result (λ found. IsNone found ↔ (page_at m l ≡ None))
-  pub slot : IfOk result (λ found. IfSome found (IsSlotOf old.slots m l))
+  pub slot : IfOk result (λ found. IfSome found (IsSlotWith old.slots m l))
 
 -- a search for the slot of a label
 pub record Locates (d : Draw) (old new : SlotsState) (l : Label) (result : Result (Option ℕ) Fault) : Type 0 where
@@ -32,7 +32,7 @@ pub record LocatesAgain (d : Draw) (old new : SlotsState) (l : Label) (result : 
   pub calls : AreSlotCalls old new result
   pub reads : IsObservable old → new.slots ≡ old.slots
   pub within : IfOk result (λ found. IfSome found (λ at. at < old.count))
-  pub found : (m : PageMap) → IsObservable old → HoldsPages d old.slots m → IfOk result (λ found. IfSome found (IsSlotOf old.slots m l))
+  pub found : (m : PageMap) → IsObservable old → HoldsPages d old.slots m → IfOk result (λ found. IfSome found (IsSlotWith old.slots m l))
 
 -- a read of the page of a label
 pub record Reads (d : Draw) (old new : SlotsState) (l : Label) (result : Result (Option Page) Fault) : Type 0 where
@@ -41,13 +41,13 @@ pub record Reads (d : Draw) (old new : SlotsState) (l : Label) (result : Result 
   pub found : (m : PageMap) → IsObservable old → HoldsPages d old.slots m → IfOk result (λ page. page ≡ page_at m l)
 
 -- a read of the page of a label, with changes
-pub record ReadsChanged (d : Draw) (old new : SlotsState) (changes : Changes) (l : Label) (result : Result (Option Page) Fault) : Type 0 where
+pub record ReadsChanged (d : Draw) (old new : SlotsState) (changes : StagedPages) (l : Label) (result : Result (Option Page) Fault) : Type 0 where
   pub calls : AreSlotCalls old new result
   pub reads : IsObservable old → new.slots ≡ old.slots
   pub found : (m : PageMap) → IsObservable old → HoldsPages d old.slots m → IfOk result (λ page. page ≡ page_at (with_changes m changes) l)
 
 -- a search that tells whether there is a page under a label, with changes
-pub record Finds (d : Draw) (old new : SlotsState) (changes : Changes) (l : Label) (result : Result Bool Fault) : Type 0 where
+pub record LooksUp (d : Draw) (old new : SlotsState) (changes : StagedPages) (l : Label) (result : Result Bool Fault) : Type 0 where
   pub calls : AreSlotCalls old new result
   pub reads : IsObservable old → new.slots ≡ old.slots
   pub found : (m : PageMap) → IsObservable old → HoldsPages d old.slots m → IfOk result (λ is_there. is_there ≡ maps.contains_key (with_changes m changes) (label_bytes l))

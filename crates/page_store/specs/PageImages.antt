@@ -38,7 +38,7 @@ pub record IsLayoutOf (d : Draw) (p : Parameters) (m : PageMap) (image : List â„
   pub holds : HoldsPages d (table_slots p.slots image) m
 
 -- the disk reads as the layout of the pages, and a crash leaves exactly that
-pub record StandsAt (d : Draw) (p : Parameters) (m : PageMap) (disk : DiskState) : Type 0 where
+pub record SlotStandsAt (d : Draw) (p : Parameters) (m : PageMap) (disk : DiskState) : Type 0 where
   pub layout : IsLayoutOf d p m disk.bytes
   pub durable : IsDurable disk
 

@@ -13,11 +13,11 @@ use Rattle.table_memory.specs.declared.changed.ChangedSlots.{ChangedSlots}
 use Rattle.table_memory.specs.Differences.{AreDifferences}
 use Rattle.table_memory.specs.OverlayState.{overlaid}
 use Rattle.page_store.specs.PageImages.{table_slots, placed_slot}
-use Rattle.table_memory.specs.Staging.{Changes, with_changes}
+use Rattle.table_memory.specs.Staging.{StagedPages, with_changes}
 
--- Changes are carried out on the slots over a disk, and the slots are found that have other bytes in the placement of the pages
+-- StagedPages are carried out on the slots over a disk, and the slots are found that have other bytes in the placement of the pages
 -- then than in that of the pages before.
-pub record FindsSlots (d : Draw) (p : Parameters) (touched : List (ℕ × List ℕ)) (changes : Changes) (old new : DiskState) (result : Result ChangedSlots Fault) : Type 0 where
+pub record FindsSlots (d : Draw) (p : Parameters) (touched : List (ℕ × List ℕ)) (changes : StagedPages) (old new : DiskState) (result : Result ChangedSlots Fault) : Type 0 where
   pub faults : new.faults ≡ disk_faults_after old.faults result
   pub rise : IfOk result (λ found. AreChanges p.slots (changes_of found.slots.items))
   pub differ : (m : PageMap) → IsObservable old → HoldsPages d (table_slots p.slots old.bytes) m → (overlaid p.slots touched old).slots ≡ table_slots p.slots old.bytes → IsPageMap (with_changes m changes) → maps.len (with_changes m changes) ≤ d.slots

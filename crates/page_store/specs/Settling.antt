@@ -12,7 +12,7 @@ use Rattle.gate_journal.specs.Costs.{CountsCommit}
 use Rattle.page_store.specs.declared.fault.SettleFault.{SettleFault}
 use Rattle.page_store.specs.declared.fault.SettleFault.TheVariants as causes
 use Rattle.page_store.specs.Faults.{settle_faults_after}
-use Rattle.page_store.specs.PageImages.{StandsAt, RepresentsPages, slots_between}
+use Rattle.page_store.specs.PageImages.{SlotStandsAt, RepresentsPages, slots_between}
 use Rattle.page_store.specs.StagedState.{StagedState}
 
 -- more pages than slots, and how many of both
@@ -31,7 +31,7 @@ AnswersFull d m (Err causes.NoMemory) = d.slots < maps.len m → ⊥
 -- What a settle does to an observable disk that stands at the one map, where the pages are those of the other.
 pub record SettlesDisk {T : Type 0} (d : Draw) (p : Parameters) (table map : PageMap) (old new : DiskState) (is_spent : Bool) (result : Result T SettleFault) : Type 0 where
   pub full : AnswersFull d map result
-  pub stands : OnOk result (StandsAt d p map new)
+  pub stands : OnOk result (SlotStandsAt d p map new)
   -- a crash at any moment of the call leaves an image of the one map or of the other, and the disk reads one
   pub crash : LeavesOnly old new (λ image. RepresentsPages d p table image ⊎ RepresentsPages d p map image)
   pub reads : RepresentsPages d p table new.bytes ⊎ RepresentsPages d p map new.bytes

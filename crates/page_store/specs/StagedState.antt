@@ -9,8 +9,8 @@ use Rattle.disk_model.specs.DiskState.{DiskState, IsObservable, IsSound}
 use Rattle.gate_journal.specs.ViewState.{KeepsView, KeepsView-refl, KeepsView-trans}
 use Rattle.node_pages.specs.PagesState.{PagesState}
 use Rattle.table_memory.specs.OverlayState.{overlaid}
-use Rattle.page_store.specs.PageImages.{table_slots, pages_in_table, StandsAt}
-use Rattle.table_memory.specs.Staging.{Changes, with_changes}
+use Rattle.page_store.specs.PageImages.{table_slots, pages_in_table, SlotStandsAt}
+use Rattle.table_memory.specs.Staging.{StagedPages, with_changes}
 
 -- Staged pages at one moment: what the image is made with, its draw, the pages now, those in the table, the disk, whether the value is
 -- spent, and how many pages were asked for. Where the disk is not observable, and of a value that is spent, the maps mean
@@ -25,7 +25,7 @@ pub record StagedState (D W : Type 0) : Type 0 where
   pub lookups : ℕ
 
 -- the record of a value with these changes over its disk
-abbrev pub staged_state : {D W : Type 0} → (D → DiskState) → Parameters → W → D → Changes → ℕ → Bool → StagedState D W
+abbrev pub staged_state : {D W : Type 0} → (D → DiskState) → Parameters → W → D → StagedPages → ℕ → Bool → StagedState D W
 staged_state state p draw disk changes lookups is_spent = record {
   params = p;
   draw = draw;
@@ -37,8 +37,8 @@ staged_state state p draw disk changes lookups is_spent = record {
 }
 
 -- an observable disk stands at the pages in its table, with the changes they are pages under their labels, and both are counted
-pub record IsCounted (d : Draw) (p : Parameters) (disk : DiskState) (touched : List (ℕ × List ℕ)) (changes : Changes) (used settled : ℕ) : Type 0 where
-  pub stands : StandsAt d p (pages_in_table p.slots disk.bytes) disk
+pub record CountsPages (d : Draw) (p : Parameters) (disk : DiskState) (touched : List (ℕ × List ℕ)) (changes : StagedPages) (used settled : ℕ) : Type 0 where
+  pub stands : SlotStandsAt d p (pages_in_table p.slots disk.bytes) disk
   pub valid : IsPageMap (with_changes (pages_in_table p.slots disk.bytes) changes)
   pub used_is : used ≡ maps.len (with_changes (pages_in_table p.slots disk.bytes) changes)
   -- over the disk no slot has other bytes than in its table
@@ -46,9 +46,9 @@ pub record IsCounted (d : Draw) (p : Parameters) (disk : DiskState) (touched : L
   pub settled_is : settled ≡ maps.len (pages_in_table p.slots disk.bytes)
 
 -- what a value keeps
-pub record IsStaged (d : Draw) (p : Parameters) (disk : DiskState) (touched : List (ℕ × List ℕ)) (changes : Changes) (used settled : ℕ) (is_spent : Bool) : Type 0 where
+pub record IsStaged (d : Draw) (p : Parameters) (disk : DiskState) (touched : List (ℕ × List ℕ)) (changes : StagedPages) (used settled : ℕ) (is_spent : Bool) : Type 0 where
   pub drawn : d.slots ≡ p.slots
-  pub counted : IsObservable disk → is_spent ≡ false → IsCounted d p disk touched changes used settled
+  pub counted : IsObservable disk → is_spent ≡ false → CountsPages d p disk touched changes used settled
 
 -- the maps mean something
 pub record IsTold {D W : Type 0} (state : D → DiskState) (s : StagedState D W) : Type 0 where

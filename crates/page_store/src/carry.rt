@@ -3,7 +3,7 @@
 ghost use Rattle.std.specs.Prelude.{◌≡◌};
 ghost use Rattle.std.specs.BTreeMap.{IsOrdered, values};
 ghost use Rattle.store_model.specs.Labels.{label_cmp};
-ghost use Rattle.page_store.specs.Carrying.{TakesPage, LaysPage, TakesPages, LaysPages, CarriesOut};
+ghost use Rattle.page_store.specs.Carrying.{TakesPage, LaysPage, TakesPages, LaysPages, LaysChanges};
 ghost use Rattle.table_memory.specs.Starts.{AreStarts};
 
 use crate::search::locate;
@@ -109,7 +109,7 @@ fn lay_pages<S: Slots + OrderSlots, W: Draw>(
 /// Carries the changes out: takes away the pages that go, and then lays in those that come, so that the slots never hold
 /// more pages than before the call or after it. A fault of the slots ends the call; nothing is promised of the slots after
 /// it.
-pub fn carry_out<S: Slots + OrderSlots, W: Draw>(
+pub fn lay_changes<S: Slots + OrderSlots, W: Draw>(
     slots: &mut S,
     draw: &W,
     hints: &mut Hints,
@@ -117,7 +117,7 @@ pub fn carry_out<S: Slots + OrderSlots, W: Draw>(
 ) -> Result<(), Fault>
     requires count { (S.ReadSlots.state slots.old).count ≡ (W.drawn draw.now).slots }
     requires starts { AreStarts (W.drawn draw.now) hints.old }
-    ensures call { CarriesOut (W.drawn draw.now) (S.ReadSlots.state slots.old) (S.ReadSlots.state slots.new) changes.now.entries result }
+    ensures call { LaysChanges (W.drawn draw.now) (S.ReadSlots.state slots.old) (S.ReadSlots.state slots.new) changes.now.entries result }
     ensures follows { S.ReadSlots.follows slots.old slots.new }
     ensures starts { AreStarts (W.drawn draw.now) hints.new }
 {

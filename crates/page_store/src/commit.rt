@@ -5,7 +5,7 @@ ghost use Rattle.store_model.specs.Parameters.{image_len};
 ghost use Rattle.disk_model.specs.DiskState.{IsObservable, IsDurable};
 ghost use Rattle.gate_journal.specs.Changes.{AreChanges};
 ghost use Rattle.gate_journal.specs.Phases.{HasEmptyJournal};
-ghost use Rattle.table_memory.specs.Caches.{changes_of, IsCacheOf};
+ghost use Rattle.table_memory.specs.Caches.{changes_of, IsSlotCacheOf};
 ghost use Rattle.page_store.specs.Committing.{CommitsSlots};
 
 use disk_model::Disk;
@@ -27,7 +27,7 @@ pub fn commit_slots<D: Disk>(
     requires changes { AreChanges params.now.slots (changes_of changed.slots.items) }
     requires durable { IsObservable (D.state disk.old) → IsDurable (D.state disk.old) }
     requires empty { IsObservable (D.state disk.old) → HasEmptyJournal params.now.slots (D.state disk.old).bytes }
-    requires cached { IsCacheOf params.now.slots (D.state disk.old) cache.old }
+    requires cached { IsSlotCacheOf params.now.slots (D.state disk.old) cache.old }
     ensures call { CommitsSlots D.state params.now.slots (changes_of changed.slots.items) disk.old disk.new cache.new result }
 {
     match Journal::commit(disk, params, &changed) {

@@ -6,7 +6,7 @@ ghost use Rattle.page_store.specs.Overlays.{disk_of, params_of, touched_of};
 ghost use Rattle.page_store.specs.Preparing.{FindsSlots};
 ghost use Rattle.table_memory.specs.Starts.{AreStarts};
 
-use crate::carry::carry_out;
+use crate::carry::lay_changes;
 use crate::overlay::Overlay;
 use disk_model::Disk;
 use node_pages::Page;
@@ -29,7 +29,7 @@ pub fn find_slots<D: Disk, W: Draw>(
     ensures follows { KeepsView (params_of overlay.old) (params_of overlay.new) (D.state (disk_of overlay.old)) (D.state (disk_of overlay.new)) }
     ensures starts { AreStarts (W.drawn draw.now) hints.new }
 {
-    carry_out(overlay, draw, hints, changes)?;
+    lay_changes(overlay, draw, hints, changes)?;
     find_changes(
         overlay.alloc,
         &mut overlay.disk,

@@ -3,7 +3,7 @@
 ghost use Rattle.std.specs.Prelude.{◌≡◌, ◌<◌, ℕ, List, length, Some, []};
 ghost use Rattle.store_model.specs.Parameters.{image_len, block_len};
 ghost use Rattle.disk_model.specs.DiskState.{IsObservable};
-ghost use Rattle.table_memory.specs.Caches.{IsCacheOf};
+ghost use Rattle.table_memory.specs.Caches.{IsSlotCacheOf};
 ghost use Rattle.table_memory.specs.OverlayState.{touched_at, overlaid, overlaid_count, overlaid_whole};
 ghost use Rattle.gate_journal.specs.ViewState.{KeepsView, KeepsView-refl, KeepsView-trans};
 
@@ -36,7 +36,7 @@ pub struct Overlay<D: Disk> {
     pub ghost sized: { (D.state disk).size ≡ image_len params.slots },
     pub ghost within: { (i : ℕ) (slot : List ℕ) → touched_at touched.entries i ≡ Some slot → i < params.slots },
     pub ghost filled: { (i : ℕ) (slot : List ℕ) → touched_at touched.entries i ≡ Some slot → length slot ≡ block_len },
-    pub ghost cached: { IsCacheOf params.slots (D.state disk) cache },
+    pub ghost cached: { IsSlotCacheOf params.slots (D.state disk) cache },
 }
 
 impl<D: Disk> Overlay<D> {
@@ -46,7 +46,7 @@ impl<D: Disk> Overlay<D> {
     /// its table.
     pub fn new(alloc: Global, disk: D, params: &Params, cache: SlotCache) -> Overlay<D>
         requires size { (D.state disk).size ≡ image_len params.now.slots }
-        requires cached { IsCacheOf params.now.slots (D.state disk) cache }
+        requires cached { IsSlotCacheOf params.now.slots (D.state disk) cache }
         ensures disk { disk_of result ≡ disk }
         ensures params { params_of result ≡ params.now }
         ensures untouched { touched_of result ≡ [] }

@@ -2,8 +2,8 @@
 
 ghost use Rattle.std.specs.Prelude.{◌≡◌, ◌<◌, None, IfSome, IsNone};
 ghost use Rattle.store_model.specs.Labels.{label_bytes};
-ghost use Rattle.page_store.specs.Lookups.{Consults, Locates, LocatesAgain, Finds};
-ghost use Rattle.table_memory.specs.Memos.{place_of, IsKnown, IsMemoOf, staged_at};
+ghost use Rattle.page_store.specs.Lookups.{Consults, Locates, LocatesAgain, LooksUp};
+ghost use Rattle.table_memory.specs.Memos.{memo_place, IsRemembered, IsMemoOf, staged_at};
 ghost use Rattle.table_memory.specs.Starts.{AreStarts};
 
 use node_pages::{Page, decode_page};
@@ -14,7 +14,7 @@ use std::marker::Brand;
 use std::sync::ledger::{Blank, Ledger};
 use store_base::{Fault, Label};
 use store_model::BLOCK;
-use table_memory::{Boxed, Hints, PageMemo, place_of};
+use table_memory::{Boxed, Hints, PageMemo, memo_place};
 
 /// As `locate`, from the start of the label, with a ledger for the steps.
 fn locate_counted<S: OrderSlots, W: Draw, L: Ledger>(
@@ -110,8 +110,8 @@ pub fn known<'a>(
     place: usize,
     label: &Label,
 ) -> Option<&'a Option<Boxed<Page>>>
-    requires { place ≡ place_of (label_bytes label.now) }
-    ensures found { IfSome result (λ page. IsKnown changes.now.entries memo.now label.now page.now) }
+    requires { place ≡ memo_place (label_bytes label.now) }
+    ensures found { IfSome result (λ page. IsRemembered changes.now.entries memo.now label.now page.now) }
     ensures unstaged { IsNone result → staged_at changes.now.entries label.now ≡ None }
 {
     match changes.get(label) {
@@ -133,7 +133,7 @@ pub fn learn<S: OrderSlots, W: Draw>(
 ) -> Result<(), Fault>
     requires count { (S.state slots.old).count ≡ (W.drawn draw.now).slots }
     requires remembered { IsMemoOf (W.drawn draw.now) (S.state slots.old) memo.old }
-    requires place { place ≡ place_of (label_bytes label.now) }
+    requires place { place ≡ memo_place (label_bytes label.now) }
     requires starts { AreStarts (W.drawn draw.now) hints.old }
     ensures call { Consults (S.state slots.old) (S.state slots.new) result }
     ensures remembered { IsMemoOf (W.drawn draw.now) (S.state slots.new) memo.new }
@@ -163,12 +163,12 @@ pub fn has_page<S: OrderSlots, W: Draw>(
     requires count { (S.state slots.old).count ≡ (W.drawn draw.now).slots }
     requires remembered { IsMemoOf (W.drawn draw.now) (S.state slots.old) memo.now }
     requires starts { AreStarts (W.drawn draw.now) hints.old }
-    ensures call { Finds (W.drawn draw.now) (S.state slots.old) (S.state slots.new) changes.now.entries label.now result }
+    ensures call { LooksUp (W.drawn draw.now) (S.state slots.old) (S.state slots.new) changes.now.entries label.now result }
     ensures remembered { IsMemoOf (W.drawn draw.now) (S.state slots.new) memo.now }
     ensures follows { S.follows slots.old slots.new }
     ensures starts { AreStarts (W.drawn draw.now) hints.new }
 {
-    if let Some(page) = known(changes, memo, place_of(label), label) {
+    if let Some(page) = known(changes, memo, memo_place(label), label) {
         return Ok(page.is_some());
     }
     Ok(locate(slots, draw, hints, label)?.is_some())

@@ -13,10 +13,10 @@ ghost use Rattle.store_model.specs.Pages as model;
 ghost use Rattle.store_model.specs.PageMaps.{PageMap, IsPageMap, page_at};
 ghost use Rattle.node_pages.specs.Insertions.{TakesCell};
 ghost use Rattle.node_pages.specs.PagesState.{IsPageGet, IsPagePut, IsPageDrop, looked_at, most_pages};
-ghost use Rattle.table_memory.specs.Memos.{Remembered, place_of, staged_at, IsMemoOf};
+ghost use Rattle.table_memory.specs.Memos.{Remembered, memo_place, staged_at, IsMemoOf};
 ghost use Rattle.table_memory.specs.Starts.{AreStarts};
 ghost use Rattle.table_memory.specs.OverlayState.{overlaid};
-ghost use Rattle.page_store.specs.PageImages.{pages_in_table, StandsAt};
+ghost use Rattle.page_store.specs.PageImages.{pages_in_table, SlotStandsAt};
 ghost use Rattle.table_memory.specs.Staging.{with_change, used_after};
 ghost use Rattle.page_store.specs.Stagings.{InsertsCell, StagesCell};
 ghost use Rattle.page_store.specs.Settling.{Settles};
@@ -34,7 +34,7 @@ use std::alloc::Global;
 use std::collections::BTreeMap;
 use std::marker::Model;
 use store_base::{DiskFault, Fault, Label, NoMemory, Params};
-use table_memory::{Boxed, Hints, PageMemo, SlotCache, Spares, behind, empty, place_of};
+use table_memory::{Boxed, Hints, PageMemo, SlotCache, Spares, behind, empty, memo_place};
 
 /// The pages in the table of an image, with changes that are not settled yet. Contracts see it as one record: the map of
 /// the pages now, that of the pages in the table, the disk, and whether the value is spent.
@@ -144,7 +144,7 @@ fn insert_remembered(
     ensures ok { OnOk result (StagesCell changes.old.entries changes.new.entries memo.now label.now at cell.now) }
     ensures err { OnErr result (changes.new.entries ≡ changes.old.entries) }
 {
-    let Some(Some(page)) = memo.recall(place_of(label), label) else {
+    let Some(Some(page)) = memo.recall(memo_place(label), label) else {
         return Err(NoMemory);
     };
     let mut kept = spares.copy(page.get())?;
@@ -194,7 +194,7 @@ impl<D: Disk, W: Draw> Staged<D, W> {
     ) -> Staged<D, W>
         requires size { (D.state disk).size ≡ image_len params.now.slots }
         requires drawn { (W.drawn draw).slots ≡ params.now.slots }
-        requires stands { IsObservable (D.state disk) → StandsAt (W.drawn draw) params.now (pages_in_table params.now.slots (D.state disk).bytes) (D.state disk) }
+        requires stands { IsObservable (D.state disk) → SlotStandsAt (W.drawn draw) params.now (pages_in_table params.now.slots (D.state disk).bytes) (D.state disk) }
         requires count { IsObservable (D.state disk) → pages ≡ maps.len (pages_in_table params.now.slots (D.state disk).bytes) }
         requires empty { cache ≡ [] }
         ensures params { result.params ≡ params.now }
@@ -285,7 +285,7 @@ impl<D: Disk, W: Draw> Staged<D, W> {
     /// The page under the label, whose place in the memo this is, as far as it is known; what is not known was left out for
     /// want of memory. It takes no memory.
     fn shown(&self, place: usize, label: &Label) -> Result<Option<&Page>, Fault>
-        requires { place ≡ place_of (label_bytes label.now) }
+        requires { place ≡ memo_place (label_bytes label.now) }
         ensures found { IsTold D.state self.now → IfOk (looked_at result) (λ page. page ≡ page_at self.now.map label.now) }
         ensures faults { (count : ℕ) → disk_faults_after count (looked_at result) ≡ count }
     {
@@ -390,7 +390,7 @@ impl<D: Disk, W: Draw> Pages for Staged<D, W> {
 
     fn look(&mut self, label: &Label) -> Result<Option<&Page>, Fault> {
         self.lookups = self.lookups.saturating_add(1);
-        let place = place_of(label);
+        let place = memo_place(label);
         learn(
             &mut self.overlay,
             &self.draw,

@@ -15,7 +15,7 @@ use Rattle.node_pages.proofs.EntryLemmas.{all_drop, all_take}
 use Rattle.node_pages.proofs.PlaceLemmas.{reversed, same_key}
 use Rattle.skip_groups.specs.Floors.{last_of, lead_from}
 use Rattle.skip_groups.specs.GroupCells.{AreBetween, compares, side}
-use Rattle.skip_groups.specs.Insertions.{IsPlace}
+use Rattle.skip_groups.specs.Insertions.{IsInsertPlace}
 use Rattle.skip_groups.proofs.CellLists.{last_at}
 use Rattle.skip_groups.proofs.Halving.{cell_at}
 use Rattle.skip_groups.proofs.Sides.{merged_are, side_all}
@@ -92,7 +92,7 @@ module _ (level : ℕ) (key : List ℕ) (page : Page) (cell : Cell) (at : ℕ) (
       (less, all_weaker (λ (d : Cell). key_cmp cell.key d.key ≡ Less) (λ (d : Cell). key_cmp c.key d.key ≡ Less) (λ d further. nat_list_cmp_total.trans c.key cell.key d.key less further) high above)) low lows in
       rising_append cmp low (cell ∷ high) (rising_front cmp low high rising) (rising_cons cmp cell high above (rising_back cmp low high rising)) below
 
-  pub is_place : (own : List Cell) → own ≡ cell ∷ [] → IsPlace level key own page at
+  pub is_place : (own : List Cell) → own ≡ cell ∷ [] → IsInsertPlace level key own page at
   is_place own own_is = record {
     room = room;
     cell = cell;

@@ -19,8 +19,8 @@ use Rattle.skip_groups.specs.Groups.{label_of}
 use Rattle.skip_groups.specs.declared.new_cells.Step.TheVariants.{Done, Same}
 use Rattle.skip_groups.specs.Floors.{last_of, lead_from}
 use Rattle.skip_groups.specs.GroupCells.{AreCells, side, merged}
-use Rattle.skip_groups.specs.Insertions.{IsPlace, IsPlaceRead, with_place}
-use Rattle.skip_groups.specs.NewCells.{cells_in, ComeIn, IsSet, IsAlone, IsStep, IsEnd, IsMade, AreNew, IsNewCellsRead}
+use Rattle.skip_groups.specs.Insertions.{IsInsertPlace, IsPlaceRead, with_place}
+use Rattle.skip_groups.specs.NewCells.{cells_gathered, ComeIn, IsCellsSet, IsAlone, IsStep, IsEnd, IsMade, AreNew, IsNewCellsRead}
 use Rattle.skip_groups.proofs.CellLists.{front_cells, back_cells}
 use Rattle.skip_groups.proofs.GroupEnds.{last_page, within_room}
 use Rattle.skip_groups.proofs.GroupSteps.{WalksTo, begins, breaks, ends, goes_on, is_over, same_count}
@@ -40,7 +40,7 @@ module _ (level : ℕ) (lead : Lead) (key : List ℕ) (own cells : List Cell) wh
   abbrev group : List Page
   group = group_pages level lead cells
 
-  module _ (made : NewCells) (seen behind : List Page) (is : group ≡ seen ++ behind) (h : IsSet level lead key own seen made) where
+  module _ (made : NewCells) (seen behind : List Page) (is : group ≡ seen ++ behind) (h : IsCellsSet level lead key own seen made) where
     counted : made.kept + made.count ≡ length seen
     counted = omega (arith, h.kept_is, h.count_is, ap length h.parts, length-append h.stay h.gone)
 
@@ -49,9 +49,9 @@ module _ (level : ℕ) (lead : Lead) (key : List ℕ) (own cells : List Cell) wh
 
     are_few : length made.cells.cells ≤ length own + (length cells + length cells)
     are_few =
-        let all : cells ≡ (cells_in h.stay ++ cells_in h.gone) ++ cells_in behind =
-        sym (cells_of_group level lead cells) ∙ ap cells_in (is ∙ ap (λ ps. ps ++ behind) h.parts) ∙ cells_both (h.stay ++ h.gone) behind ∙ ap (λ xs. xs ++ cells_in behind) (cells_both h.stay h.gone) in
-        omega (arith, h.few, ap length all, length-append (cells_in h.stay ++ cells_in h.gone) (cells_in behind), length-append (cells_in h.stay) (cells_in h.gone))
+        let all : cells ≡ (cells_gathered h.stay ++ cells_gathered h.gone) ++ cells_gathered behind =
+        sym (cells_of_group level lead cells) ∙ ap cells_gathered (is ∙ ap (λ ps. ps ++ behind) h.parts) ∙ cells_both (h.stay ++ h.gone) behind ∙ ap (λ xs. xs ++ cells_gathered behind) (cells_both h.stay h.gone) in
+        omega (arith, h.few, ap length all, length-append (cells_gathered h.stay ++ cells_gathered h.gone) (cells_gathered behind), length-append (cells_gathered h.stay) (cells_gathered h.gone))
 
     parted : (first : Page) (rest : List Page) → h.gone ≡ first ∷ rest → group ≡ h.stay ++ first ∷ (rest ++ behind)
     parted first rest e = is ∙ ap (λ ps. ps ++ behind) (h.parts ∙ ap (λ ps. h.stay ++ ps) e) ∙ append_assoc h.stay (first ∷ rest) behind
@@ -87,7 +87,7 @@ module _ (level : ℕ) (lead : Lead) (key : List ℕ) (own cells : List Cell) wh
                   let lows = side Less key cells in
                   let same = side Equal key own in
                   let own_valid : AreCells level same = back_cells level lows same (front_cells level (lows ++ same) (side Greater key cells) valid) in
-                  made_behind level lead key own cells other h.stay all (e.kept ∙ h.kept_is) (e.count ∙ count_is) h.kept (ap leads.lead_of e.next ∙ come.0) (e.none count_is come.1 own_valid);
+                  made_behind level lead key own cells other h.stay all (e.kept ∙ h.kept_is) (e.count ∙ count_is) h.kept (ap leads.model_lead e.next ∙ come.0) (e.none count_is come.1 own_valid);
             }
         by_gone (first ∷ rest) gone =
             let some : 1 ≤ made.count = omega (arith, h.count_is, ap length gone) in
@@ -152,12 +152,12 @@ module _ (level : ℕ) (lead : Lead) (key : List ℕ) (own cells : List Cell) wh
 module _ (old : PagesState) (level : ℕ) (lead : Lead) (key : List ℕ) (own : List Cell) where
   -- so many pages of the group were read
   abbrev Sees : NewCells → ℕ → List Cell → Type 0
-  Sees made index cells = IsSet level lead key own (take index (group_pages level lead cells)) made
+  Sees made index cells = IsCellsSet level lead key own (take index (group_pages level lead cells)) made
 
   abbrev pub AreSeen : PagesState → ℕ → NewCells → Type 0
   AreSeen now index made = WalksTo old level lead now index (Sees made index)
 
-  pub seen_none : (made : NewCells) → IsSet level lead key own [] made → AreSeen old 0 made
+  pub seen_none : (made : NewCells) → IsCellsSet level lead key own [] made → AreSeen old 0 made
   seen_none made h = begins old level lead (Sees made 0) (λ cells. h)
 
   -- the pages that were read, and those behind them
@@ -182,9 +182,9 @@ module _ (old : PagesState) (level : ℕ) (lead : Lead) (key : List ℕ) (own : 
         new_behind level lead key own cells made (take index (group_pages level lead cells)) (drop index (group_pages level lead cells)) (first_pages index cells) seen other e (nothing_behind index (group_pages level lead cells) none))
 
     -- a page was taken in
-    module _ (page : Page) (other : NewCells) (set : (pages : List Page) → IsSet level lead key own pages made → IsSet level lead key own (pages ++ page ∷ []) other) (below : index < 4294967296) (get : IsPageGet now next (label_of level lead index) (Ok (Some page))) where
+    module _ (page : Page) (other : NewCells) (set : (pages : List Page) → IsCellsSet level lead key own pages made → IsCellsSet level lead key own (pages ++ page ∷ []) other) (below : index < 4294967296) (get : IsPageGet now next (label_of level lead index) (Ok (Some page))) where
       with_page : (cells : List Cell) → Sees made index cells → slice_get (group_pages level lead cells) index ≡ Some page → Sees other (index + 1) cells
-      with_page cells seen there = subst (λ ps. IsSet level lead key own ps other) (sym (take_next (group_pages level lead cells) index page there)) (set (take index (group_pages level lead cells)) seen)
+      with_page cells seen there = subst (λ ps. IsCellsSet level lead key own ps other) (sym (take_next (group_pages level lead cells) index page there)) (set (take index (group_pages level lead cells)) seen)
 
       pub seen_more : page_room level ≤ length page.cells → AreSeen next (index + 1) other
       seen_more full = goes_on old level lead now next index (Sees made index) w page (Sees other (index + 1)) full below get with_page
@@ -213,7 +213,7 @@ module _ (old : PagesState) (level : ℕ) (lead : Lead) (key : List ℕ) (own : 
           new_same level lead key own cells other (take (index + 1) group) (drop (index + 1) group) (first_pages (index + 1) cells) (with_page cells seen there) (take index group) page (take_next group index page there) step.0 step.1 none empty)
 
     -- a page takes the key's cell
-    pub seen_place : (page : Page) (at : ℕ) (ahead : declared.Lead) (place : IsPlace level key own page at) → made.count ≡ 0 → made.kept ≡ index → leads.lead_of ahead ≡ lead_from (last_of (take at page.cells)) (leads.lead_of made.next)
+    pub seen_place : (page : Page) (at : ℕ) (ahead : declared.Lead) (place : IsInsertPlace level key own page at) → made.count ≡ 0 → made.kept ≡ index → leads.model_lead ahead ≡ lead_from (last_of (take at page.cells)) (leads.model_lead made.next)
         → index < 4294967296 → IsPageGet now next (label_of level lead index) (Ok (Some page)) → IsPlaceRead {T = Option ℕ} old next level lead key own (record { next = ahead; kept = made.kept; count = made.count; cells = made.cells }) at (Ok (Some at))
     seen_place page at ahead place none kept_is led below get =
         let other = with_place (record { next = ahead; kept = made.kept; count = made.count; cells = made.cells }) page at place.cell in
@@ -225,7 +225,7 @@ module _ (old : PagesState) (level : ℕ) (lead : Lead) (key : List ℕ) (own : 
           found = λ o.
               let g = get.observed (w.observed (w.hidden (get.hidden o))).observable in
               ap (λ m. page_at m (label_of level lead made.kept)) g.unchanged ∙ ap (λ n. page_at now.pages (label_of level lead n)) kept_is ∙ sym g.found;
-          read = seen_done page other (λ pages h. set_begins level lead key own pages page made h none (inl place.room) ahead other.cells few (λ valid. record { next = led ∙ ap (λ xs. lead_from (last_of xs) (leads.lead_of made.next)) place.low; cells = place.made })) below get (Some at)
+          read = seen_done page other (λ pages h. set_begins level lead key own pages page made h none (inl place.room) ahead other.cells few (λ valid. record { next = led ∙ ap (λ xs. lead_from (last_of xs) (leads.model_lead made.next)) place.low; cells = place.made })) below get (Some at)
               (omega arith, inl place.room);
         }
 

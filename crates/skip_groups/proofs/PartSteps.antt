@@ -14,14 +14,14 @@ use Rattle.skip_groups.specs.declared.new_cells.NewCells.{NewCells}
 use Rattle.skip_groups.specs.Floors.{last_of}
 use Rattle.skip_groups.specs.GroupCells.{AreCells, IsKept, compares, side}
 use Rattle.skip_groups.specs.GroupParts.{IsParted}
-use Rattle.skip_groups.specs.NewCells.{cells_in}
+use Rattle.skip_groups.specs.NewCells.{cells_gathered}
 use Rattle.skip_groups.proofs.CellLists.{front_cells}
 use Rattle.skip_groups.proofs.KeptPages.{lead_of_pages}
 use Rattle.skip_groups.proofs.NewCellsSteps.{cells_push, page_at_end}
 
 module _ (level : ℕ) (lead : Lead) (key : List ℕ) (start : List Cell) where
   -- nothing is read
-  pub part_none : (next : declared.Lead) (cells : CellList) → leads.lead_of next ≡ lead → cells.cells ≡ [] → IsParted level lead key [] start (record { next = next; kept = 0; count = 0; cells = cells }) start
+  pub part_none : (next : declared.Lead) (cells : CellList) → leads.model_lead next ≡ lead → cells.cells ≡ [] → IsParted level lead key [] start (record { next = next; kept = 0; count = 0; cells = cells }) start
   unfolding last_of
   part_none next cells leads none = record {
     stay = [];
@@ -38,13 +38,13 @@ module _ (level : ℕ) (lead : Lead) (key : List ℕ) (start : List Cell) where
   }
 
   -- the cells of one page more on a side of the key
-  side_push : (order : Ordering) (before old new : List Cell) (gone : List Page) (page : Page) → (AreCells level (before ++ side order key (cells_in gone)) → old ≡ before ++ side order key (cells_in gone)) → (AreCells level (old ++ side order key page.cells) → new ≡ old ++ side order key page.cells)
-      → AreCells level (before ++ side order key (cells_in (gone ++ page ∷ []))) → new ≡ before ++ side order key (cells_in (gone ++ page ∷ []))
+  side_push : (order : Ordering) (before old new : List Cell) (gone : List Page) (page : Page) → (AreCells level (before ++ side order key (cells_gathered gone)) → old ≡ before ++ side order key (cells_gathered gone)) → (AreCells level (old ++ side order key page.cells) → new ≡ old ++ side order key page.cells)
+      → AreCells level (before ++ side order key (cells_gathered (gone ++ page ∷ []))) → new ≡ before ++ side order key (cells_gathered (gone ++ page ∷ []))
   side_push order before old new gone page made added valid =
-      let front = before ++ side order key (cells_in gone) in
+      let front = before ++ side order key (cells_gathered gone) in
       let more = side order key page.cells in
-      let parts : before ++ side order key (cells_in (gone ++ page ∷ [])) ≡ front ++ more =
-      ap (λ xs. before ++ side order key xs) (cells_push gone page) ∙ ap (λ xs. before ++ xs) (filter-append (compares order key) (cells_in gone) page.cells) ∙ sym (append_assoc before (side order key (cells_in gone)) more) in
+      let parts : before ++ side order key (cells_gathered (gone ++ page ∷ [])) ≡ front ++ more =
+      ap (λ xs. before ++ side order key xs) (cells_push gone page) ∙ ap (λ xs. before ++ xs) (filter-append (compares order key) (cells_gathered gone) page.cells) ∙ sym (append_assoc before (side order key (cells_gathered gone)) more) in
       let all = subst (AreCells level) parts valid in
       let is = made (front_cells level front more all) in
       added (subst (λ xs. AreCells level (xs ++ more)) (sym is) all) ∙ ap (λ xs. xs ++ more) is ∙ sym parts
@@ -59,7 +59,7 @@ module _ (level : ℕ) (lead : Lead) (key : List ℕ) (start : List Cell) where
         by_gone (p ∷ ps) e = absurd (omega (arith, none, h.count_is, ap length e))
 
     -- one page more that stays
-    pub part_stays : old.count ≡ 0 → IsKept level key page → (next : declared.Lead) (last : List ℕ) → leads.lead_of next ≡ Leader last → 1 ≤ length page.cells → IfSome (slice_get page.cells (length page.cells - 1)) (λ c. c.key ≡ last)
+    pub part_stays : old.count ≡ 0 → IsKept level key page → (next : declared.Lead) (last : List ℕ) → leads.model_lead next ≡ Leader last → 1 ≤ length page.cells → IfSome (slice_get page.cells (length page.cells - 1)) (λ c. c.key ≡ last)
         → IsParted level lead key (pages ++ page ∷ []) start (record { next = next; kept = old.kept + 1; count = old.count; cells = old.cells }) above
     part_stays none is next last leads some ends =
         let stay = h.stay ++ page ∷ [] in
@@ -93,6 +93,6 @@ module _ (level : ℕ) (lead : Lead) (key : List ℕ) (start : List Cell) where
           next = h.next;
           low = side_push Less [] old.cells.cells low.cells h.gone page h.low lows;
           high = side_push Greater start above high h.gone page h.high highs;
-          few_low = omega (arith, few_low, h.few_low, ap length (cells_push h.gone page), length-append (cells_in h.gone) page.cells);
-          few_high = omega (arith, few_high, h.few_high, ap length (cells_push h.gone page), length-append (cells_in h.gone) page.cells);
+          few_low = omega (arith, few_low, h.few_low, ap length (cells_push h.gone page), length-append (cells_gathered h.gone) page.cells);
+          few_high = omega (arith, few_high, h.few_high, ap length (cells_push h.gone page), length-append (cells_gathered h.gone) page.cells);
         }

@@ -47,7 +47,7 @@ merged key low own high = (side Less key low ++ side Equal key own) ++ side Grea
 
 -- what leads the next lower group of a search path, and the cells with those of the key
 pub record IsMerged (lead : Lead) (key : List ℕ) (low own high : List Cell) (made : declared.Lead × List Cell) : Type 0 where
-  pub next : leads.lead_of made.0 ≡ lead_from (last_of (side Less key low)) lead
+  pub next : leads.model_lead made.0 ≡ lead_from (last_of (side Less key low)) lead
   pub cells : made.1 ≡ merged key low own high
 
 -- the cells from one place up to another are those of a key, between the cells below it and those above it
@@ -70,5 +70,5 @@ pub record EndsAbove (key : List ℕ) (cells : List Cell) : Type 0 where
   pub above : key_cmp last.key key ≡ Less → ⊥
 
 -- a page that a change of the key does not leave as it is: it has room, or ends with a cell that is not below the key
-abbrev pub IsFirst : ℕ → List ℕ → Page → Type 0
-IsFirst level key page = (length page.cells < page_room level) ⊎ EndsAbove key page.cells
+abbrev pub IsFirstCell : ℕ → List ℕ → Page → Type 0
+IsFirstCell level key page = (length page.cells < page_room level) ⊎ EndsAbove key page.cells

@@ -31,7 +31,7 @@ abbrev pub changed_pages : ℕ → List Page → List Page → List Page
 changed_pages count olds news = take count news ++ drop count olds
 
 -- pages of a group of which so many, from the first one on, become those of a list of cells
-pub record IsRun (lead : Lead) (first count : ℕ) (list : CellList) (olds news : List Page) : Type 0 where
+pub record IsCellRun (lead : Lead) (first count : ℕ) (list : CellList) (olds news : List Page) : Type 0 where
   pub start : changed_pages first olds news ≡ olds
   pub put : (i : ℕ) (page : Page) → slice_get (pages_from list.level lead first list.cells) i ≡ Some page → slice_get news (first + i) ≡ Some page
   pub dropped : (i : ℕ) → length (pages_from list.level lead first list.cells) ≤ i → i < count → length news ≤ first + i
@@ -41,7 +41,7 @@ pub record IsRun (lead : Lead) (first count : ℕ) (list : CellList) (olds news 
 pub record ChangesRun {T : Type 0} (old new : PagesState) (lead : Lead) (first count : ℕ) (list : CellList) (past : ℕ) (result : Result T Fault) : Type 0 where
   pub observable : IsObservable new
   pub room : maps.len new.pages ≤ maps.len old.pages + past
-  pub changed : (olds news front back : List Page) → IsRun lead first count list olds news → IsChange list.level lead front back olds news → old.pages ≡ map_of_pages (front ++ (olds ++ back))
+  pub changed : (olds news front back : List Page) → IsCellRun lead first count list olds news → IsChange list.level lead front back olds news → old.pages ≡ map_of_pages (front ++ (olds ++ back))
       → OnOk result (new.pages ≡ map_of_pages (front ++ (changed_pages (first + past) olds news ++ back)))
 
 -- a change of the first so many of them, which asks for none

@@ -11,7 +11,7 @@ use Rattle.node_pages.specs.PagesState.{PagesState}
 use Rattle.skip_groups.specs.declared.new_cells.NewCells.{NewCells}
 use Rattle.skip_groups.specs.Floors.{last_of, lead_from}
 use Rattle.skip_groups.specs.GroupCells.{AreCells, IsKept, side}
-use Rattle.skip_groups.specs.NewCells.{cells_in}
+use Rattle.skip_groups.specs.NewCells.{cells_gathered}
 use Rattle.skip_groups.specs.Searches.{IsGroupWalk}
 
 -- So many first pages of a group in two parts: those that stay, and those that give way. The cells of these that are below the key come in
@@ -23,11 +23,11 @@ pub record IsParted (level : ℕ) (lead : Lead) (key : List ℕ) (pages : List P
   pub kept_is : made.kept ≡ length stay
   pub count_is : made.count ≡ length gone
   pub kept : AllByRecursion (IsKept level key) stay
-  pub next : leads.lead_of made.next ≡ lead_from (last_of (cells_in stay)) lead
-  pub low : AreCells level (side Less key (cells_in gone)) → made.cells.cells ≡ side Less key (cells_in gone)
-  pub high : AreCells level (start ++ side Greater key (cells_in gone)) → above ≡ start ++ side Greater key (cells_in gone)
-  pub few_low : length made.cells.cells ≤ length (cells_in gone)
-  pub few_high : length above ≤ length start + length (cells_in gone)
+  pub next : leads.model_lead made.next ≡ lead_from (last_of (cells_gathered stay)) lead
+  pub low : AreCells level (side Less key (cells_gathered gone)) → made.cells.cells ≡ side Less key (cells_gathered gone)
+  pub high : AreCells level (start ++ side Greater key (cells_gathered gone)) → above ≡ start ++ side Greater key (cells_gathered gone)
+  pub few_low : length made.cells.cells ≤ length (cells_gathered gone)
+  pub few_high : length above ≤ length start + length (cells_gathered gone)
 
 -- reading all pages of the group that the lead leads on the level, to part its cells by the key
 abbrev pub IsGroupParted : {T : Type 0} (old new : PagesState) (level : ℕ) (lead : Lead) (key : List ℕ) (start : List Cell) (made : NewCells) (above : List Cell) (result : Result T Fault) → Type 0

@@ -13,7 +13,7 @@ use Rattle.skip_groups.specs.Groups.{label_of}
 use Rattle.skip_groups.specs.NewCells.{IsNewCellsRead}
 
 -- a page with room takes the one cell of a key behind its cells below the key, and has then all that are to be there
-pub record IsPlace (level : ℕ) (key : List ℕ) (own : List Cell) (page : Page) (at : ℕ) : Type 0 where
+pub record IsInsertPlace (level : ℕ) (key : List ℕ) (own : List Cell) (page : Page) (at : ℕ) : Type 0 where
   pub room : length page.cells < page_room level
   pub cell : Cell
   pub own_is : own ≡ cell ∷ []
@@ -28,7 +28,7 @@ with_place made page at cell = record { next = made.next; kept = made.kept; coun
 -- a group read up to the page behind those that stay, which takes the key's cell
 pub record IsPlaceRead {T : Type 0} (old new : PagesState) (level : ℕ) (lead : Lead) (key : List ℕ) (own : List Cell) (made : NewCells) (at : ℕ) (result : Result T Fault) : Type 0 where
   pub page : Page
-  pub place : IsPlace level key own page at
+  pub place : IsInsertPlace level key own page at
   pub found : IsObservable new → page_at new.pages (label_of level lead made.kept) ≡ Some page
   pub read : IsNewCellsRead old new level lead key own (with_place made page at place.cell) result
 

@@ -12,21 +12,21 @@ use Rattle.skip_groups.specs.declared.new_cells.NewCells.{NewCells}
 use Rattle.skip_groups.specs.declared.new_cells.Step.{Step}
 use Rattle.skip_groups.specs.declared.new_cells.Step.TheVariants.{More, Done, Same}
 use Rattle.skip_groups.specs.Floors.{last_of, lead_from}
-use Rattle.skip_groups.specs.GroupCells.{AreCells, IsKept, IsFirst, IsMerged, side, merged}
+use Rattle.skip_groups.specs.GroupCells.{AreCells, IsKept, IsFirstCell, IsMerged, side, merged}
 use Rattle.skip_groups.specs.Searches.{IsGroupWalk}
 
 -- the cells of pages, one after the other
-abbrev pub cells_in : List Page → List Cell
-cells_in pages = flat_map (λ page. page.cells) pages
+abbrev pub cells_gathered : List Page → List Cell
+cells_gathered pages = flat_map (λ page. page.cells) pages
 
 -- the cells that come in the place of those of some pages of a group, behind pages that stay
 abbrev pub ComeIn : ℕ → Lead → List ℕ → List Cell → List Page → List Page → NewCells → Type 0
-ComeIn level lead key own stay [] made = (leads.lead_of made.next ≡ lead_from (last_of (cells_in stay)) lead) × (made.cells.cells ≡ [])
-ComeIn level lead key own stay (first ∷ pages) made = IsFirst level key first
-    × (AreCells level (merged key first.cells own (cells_in (first ∷ pages))) → IsMerged (lead_from (last_of (cells_in stay)) lead) key first.cells own (cells_in (first ∷ pages)) (made.next, made.cells.cells))
+ComeIn level lead key own stay [] made = (leads.model_lead made.next ≡ lead_from (last_of (cells_gathered stay)) lead) × (made.cells.cells ≡ [])
+ComeIn level lead key own stay (first ∷ pages) made = IsFirstCell level key first
+    × (AreCells level (merged key first.cells own (cells_gathered (first ∷ pages))) → IsMerged (lead_from (last_of (cells_gathered stay)) lead) key first.cells own (cells_gathered (first ∷ pages)) (made.next, made.cells.cells))
 
 -- what setting the cells of a key makes of so many first pages of a group
-pub record IsSet (level : ℕ) (lead : Lead) (key : List ℕ) (own : List Cell) (pages : List Page) (made : NewCells) : Type 0 where
+pub record IsCellsSet (level : ℕ) (lead : Lead) (key : List ℕ) (own : List Cell) (pages : List Page) (made : NewCells) : Type 0 where
   pub stay : List Page
   pub gone : List Page
   pub parts : pages ≡ stay ++ gone
@@ -34,7 +34,7 @@ pub record IsSet (level : ℕ) (lead : Lead) (key : List ℕ) (own : List Cell) 
   pub count_is : made.count ≡ length gone
   pub kept : AllByRecursion (IsKept level key) stay
   pub come : ComeIn level lead key own stay gone made
-  pub few : length made.cells.cells ≤ length own + (length (cells_in gone) + length (cells_in gone))
+  pub few : length made.cells.cells ≤ length own + (length (cells_gathered gone) + length (cells_gathered gone))
 
 -- the key's cells were set in one page alone, and it has as many cells as before
 pub record IsAlone (page : Page) (made : NewCells) : Type 0 where
@@ -64,7 +64,7 @@ pub record IsRenewed (level : ℕ) (lead : Lead) (cells news : List Cell) (made 
 
 -- the pages of a group with the cells of a key set anew
 pub record IsMade (level : ℕ) (lead : Lead) (key : List ℕ) (own cells : List Cell) (made : NewCells) : Type 0 where
-  pub next : leads.lead_of made.next ≡ lead_from (last_of (side Less key cells)) lead
+  pub next : leads.model_lead made.next ≡ lead_from (last_of (side Less key cells)) lead
   pub renewed : IsRenewed level lead cells (merged key cells own cells) made
 
 -- what comes into the group of these cells

@@ -3,10 +3,10 @@
 ghost use Rattle.std.specs.Prelude.{◌≡◌, ◌↔◌, ◌+◌, ◌-◌, ◌<◌, ◌≤◌, ◌++◌, [], ◌∷◌, length, take, drop, IsTrue, IfSome, IfOk, OnOk, true, false};
 ghost use Rattle.std.specs.declared.cmp.Ordering.TheVariants.{Less, Equal, Greater};
 ghost use Rattle.store_model.specs.Pages.{IsCell};
-ghost use Rattle.store_base.specs.Leads.{lead_of};
+ghost use Rattle.store_base.specs.Leads.{model_lead};
 ghost use Rattle.skip_groups.specs.Floors.{last_of, lead_from};
-ghost use Rattle.skip_groups.specs.GroupCells.{AreCells, IsRisingList, AreBetween, IsKept, IsFirst, IsMerged, last_key_of, is_behind, side, merged};
-ghost use Rattle.skip_groups.specs.Insertions.{IsPlace};
+ghost use Rattle.skip_groups.specs.GroupCells.{AreCells, IsRisingList, AreBetween, IsKept, IsFirstCell, IsMerged, last_key_of, is_behind, side, merged};
+ghost use Rattle.skip_groups.specs.Insertions.{IsInsertPlace};
 
 use crate::group::is_last;
 use crate::search::count_not_above;
@@ -42,7 +42,7 @@ fn is_above(key: &Key, last: Option<Key>) -> bool
 
 /// What leads the next lower group of a search path: the last of the cells below the key, or else what leads this one.
 pub fn lead_behind(cells: &Cells, lead: &Lead) -> Lead
-    ensures { lead_of result ≡ lead_from (last_of cells.now.cells) (lead_of lead.now) }
+    ensures { model_lead result ≡ lead_from (last_of cells.now.cells) (model_lead lead.now) }
 {
     match last_key(cells) {
         Some(key) => Lead::Key(key),
@@ -117,7 +117,7 @@ fn places_of(page: &Page, key: &Key) -> (u32, u32)
 
 /// Where the cell of the key, if it has just one and that is one of the level, comes into a page with room that lacks the key.
 pub fn place_of_own(level: u8, page: &Page, key: &Key, own: &[Cell]) -> Option<u32>
-    ensures { IfSome result (λ at. IsPlace level key.now own.now page.now at) }
+    ensures { IfSome result (λ at. IsInsertPlace level key.now own.now page.now at) }
 {
     if !is_last(level, page) || page.level() != level || own.len() != 1 {
         return None;
@@ -138,7 +138,7 @@ pub fn place_of_own(level: u8, page: &Page, key: &Key, own: &[Cell]) -> Option<u
 /// of them, or else what leads this one.
 pub fn lead_before(page: &Page, at: u32, lead: &Lead) -> Lead
     requires { at ≤ length page.now.cells }
-    ensures { lead_of result ≡ lead_from (last_of (take at page.now.cells)) (lead_of lead.now) }
+    ensures { model_lead result ≡ lead_from (last_of (take at page.now.cells)) (model_lead lead.now) }
 {
     if at == 0 {
         return *lead;
@@ -180,7 +180,7 @@ pub fn part_page(low: &mut Cells, high: &mut Cells, page: &Page, key: &Key) -> R
 /// Whether a change of the key leaves a page of the level as it is: it is full, and its cells are below the key.
 pub fn stays(level: u8, page: &Page, key: &Key) -> bool
     ensures stays { result ≡ true → IsKept level key.now page.now }
-    ensures goes { result ≡ false → IsFirst level key.now page.now }
+    ensures goes { result ≡ false → IsFirstCell level key.now page.now }
 {
     if is_last(level, page) {
         return false;
@@ -200,7 +200,7 @@ pub fn merge_page(
     requires { cells.old.cells ≡ [] }
     ensures valid { IsRisingList cells.old.level cells.new }
     ensures merged { AreCells cells.old.level (merged key.now page.now.cells own.now page.now.cells)
-        → IfOk result (λ next. IsMerged (lead_of lead.now) key.now page.now.cells own.now page.now.cells (next, cells.new.cells)) }
+        → IfOk result (λ next. IsMerged (model_lead lead.now) key.now page.now.cells own.now page.now.cells (next, cells.new.cells)) }
     ensures few { length cells.new.cells ≤ length page.now.cells + (length own.now + length page.now.cells) }
 {
     let (at, past) = places_of(page, key);

@@ -1,7 +1,7 @@
 //! The labels of the pages of one group, and which of these is its last.
 
 ghost use Rattle.std.specs.Prelude.{◌≡◌, ◌<◌, ◌↔◌, length, IsTrue};
-ghost use Rattle.store_base.specs.Leads.{lead_of};
+ghost use Rattle.store_base.specs.Leads.{model_lead};
 ghost use Rattle.store_model.specs.Pages.{page_room};
 ghost use Rattle.skip_groups.specs.Groups.{label_of};
 
@@ -10,7 +10,7 @@ use store_base::{Label, Lead};
 
 /// The label of page `index` of the group that `lead` leads on the level, the first being 0.
 pub fn label_in_group(level: u8, lead: &Lead, index: u32) -> Label
-    ensures { result ≡ label_of level (lead_of lead.now) index }
+    ensures { result ≡ label_of level (model_lead lead.now) index }
 {
     let _ = lead.key_bytes();
     Label {

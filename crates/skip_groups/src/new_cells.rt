@@ -1,10 +1,10 @@
 //! What setting the cells of a key, or parting all cells by it, makes of the pages of its group.
 
 ghost use Rattle.std.specs.Prelude.{◌≡◌, ◌+◌, ◌<◌, ◌≤◌, [], ◌∷◌, ◌++◌, List, length, IfSome, IfOk, OnOk, ℕ};
-ghost use Rattle.store_base.specs.Leads.{lead_of};
+ghost use Rattle.store_base.specs.Leads.{model_lead};
 ghost use Rattle.store_model.specs.Labels as labels;
 ghost use Rattle.store_model.specs.Pages as model;
-ghost use Rattle.skip_groups.specs.GroupCells.{IsFirst, IsRisingList, AreCells};
+ghost use Rattle.skip_groups.specs.GroupCells.{IsFirstCell, IsRisingList, AreCells};
 
 use crate::cells::{append_above, append_own, merge_page, part_page, place_of_own, stays};
 use crate::group::is_last;
@@ -39,8 +39,8 @@ pub enum Step {
 
 impl NewCells {
     ghost use Rattle.skip_groups.specs.GroupParts.{IsParted};
-    ghost use Rattle.skip_groups.specs.NewCells.{IsSet, IsStep, IsStepBehind, IsEnd};
-    ghost use Rattle.skip_groups.specs.Insertions.{IsPlace};
+    ghost use Rattle.skip_groups.specs.NewCells.{IsCellsSet, IsStep, IsStepBehind, IsEnd};
+    ghost use Rattle.skip_groups.specs.Insertions.{IsInsertPlace};
 
     /// What is known behind a page that others may follow.
     fn step_behind(level: u8, page: &Page) -> Step
@@ -67,8 +67,8 @@ impl NewCells {
     pub fn restart(&mut self, level: u8, lead: &Lead)
         ensures valid { IsRisingList level self.new.cells }
         ensures empty { self.new.cells.cells ≡ [] }
-        ensures set { (key : List ℕ) (own : List model.Cell) → IsSet level (lead_of lead.now) key own [] self.new }
-        ensures parted { (key : List ℕ) (start : List model.Cell) → IsParted level (lead_of lead.now) key [] start self.new start }
+        ensures set { (key : List ℕ) (own : List model.Cell) → IsCellsSet level (model_lead lead.now) key own [] self.new }
+        ensures parted { (key : List ℕ) (start : List model.Cell) → IsParted level (model_lead lead.now) key [] start self.new start }
     {
         self.next = *lead;
         self.kept = 0;
@@ -84,7 +84,7 @@ impl NewCells {
         ensures valid { OnOk result (IsRisingList self.old.cells.level self.new.cells) }
         ensures some { OnOk result (0 < self.new.count) }
         ensures counted { OnOk result (self.new.kept + self.new.count ≡ self.old.kept + self.old.count + 1) }
-        ensures set { (lead : labels.Lead) (own : List model.Cell) (pages : List model.Page) → IsSet self.old.cells.level lead key.now own pages self.old → OnOk result (IsSet self.old.cells.level lead key.now own (pages ++ page.now ∷ []) self.new) }
+        ensures set { (lead : labels.Lead) (own : List model.Cell) (pages : List model.Page) → IsCellsSet self.old.cells.level lead key.now own pages self.old → OnOk result (IsCellsSet self.old.cells.level lead key.now own (pages ++ page.now ∷ []) self.new) }
         ensures step { (lead : labels.Lead) → IfOk result (λ step. IsStep self.old.cells.level lead page.now self.new step) }
     {
         let level = self.cells.level();
@@ -97,13 +97,13 @@ impl NewCells {
     fn begin(&mut self, lead: &Lead, page: &Page, key: &Key, own: &[Cell]) -> Result<Step, NoMemory>
         requires none { self.old.count ≡ 0 }
         requires empty { self.old.cells.cells ≡ [] }
-        requires first { IsFirst self.old.cells.level key.now page.now }
+        requires first { IsFirstCell self.old.cells.level key.now page.now }
         requires number { self.old.kept < 4294967295 }
         ensures valid { OnOk result (IsRisingList self.old.cells.level self.new.cells) }
         ensures some { OnOk result (0 < self.new.count) }
         ensures counted { OnOk result (self.new.kept + self.new.count ≡ self.old.kept + self.old.count + 1) }
-        ensures set { (pages : List model.Page) → IsSet self.old.cells.level (lead_of lead.now) key.now own.now pages self.old → OnOk result (IsSet self.old.cells.level (lead_of lead.now) key.now own.now (pages ++ page.now ∷ []) self.new) }
-        ensures step { IfOk result (λ step. IsStep self.old.cells.level (lead_of lead.now) page.now self.new step) }
+        ensures set { (pages : List model.Page) → IsCellsSet self.old.cells.level (model_lead lead.now) key.now own.now pages self.old → OnOk result (IsCellsSet self.old.cells.level (model_lead lead.now) key.now own.now (pages ++ page.now ∷ []) self.new) }
+        ensures step { IfOk result (λ step. IsStep self.old.cells.level (model_lead lead.now) page.now self.new step) }
     {
         let level = self.cells.level();
         self.next = merge_page(&mut self.cells, &self.next, page, key, own)?;
@@ -121,7 +121,7 @@ impl NewCells {
     /// Where the cell of the key comes into a page behind those that stay, and changes no other page.
     pub(crate) fn place(&self, page: &Page, key: &Key, own: &[Cell]) -> Option<u32>
         ensures none { IfSome result (λ at. self.now.count ≡ 0) }
-        ensures place { IfSome result (λ at. IsPlace self.now.cells.level key.now own.now page.now at) }
+        ensures place { IfSome result (λ at. IsInsertPlace self.now.cells.level key.now own.now page.now at) }
     {
         if self.count > 0 {
             return None;
@@ -143,8 +143,8 @@ impl NewCells {
         ensures valid { OnOk result (IsRisingList self.old.cells.level self.new.cells) }
         ensures empty { OnOk result (self.new.count ≡ 0 → self.new.cells.cells ≡ []) }
         ensures counted { OnOk result (self.new.kept + self.new.count ≡ self.old.kept + self.old.count + 1) }
-        ensures set { (pages : List model.Page) → IsSet self.old.cells.level (lead_of lead.now) key.now own.now pages self.old → OnOk result (IsSet self.old.cells.level (lead_of lead.now) key.now own.now (pages ++ page.now ∷ []) self.new) }
-        ensures step { IfOk result (λ step. IsStep self.old.cells.level (lead_of lead.now) page.now self.new step) }
+        ensures set { (pages : List model.Page) → IsCellsSet self.old.cells.level (model_lead lead.now) key.now own.now pages self.old → OnOk result (IsCellsSet self.old.cells.level (model_lead lead.now) key.now own.now (pages ++ page.now ∷ []) self.new) }
+        ensures step { IfOk result (λ step. IsStep self.old.cells.level (model_lead lead.now) page.now self.new step) }
     {
         if self.count > 0 {
             return self.append(page, key);

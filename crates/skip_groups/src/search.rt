@@ -2,7 +2,7 @@
 
 ghost use Rattle.std.specs.Prelude.{◌≡◌, ◌-◌, ◌*◌, ◌<◌, ◌≤◌, List, length, slice_get};
 ghost use Rattle.std.specs.List.{prefix_len};
-ghost use Rattle.store_base.specs.Leads.{lead_of};
+ghost use Rattle.store_base.specs.Leads.{model_lead};
 ghost use Rattle.store_model.specs.Pages.{Cell, page_room};
 ghost use Rattle.node_pages.specs.PagesState.{IsObservable};
 ghost use Rattle.skip_groups.specs.Floors.{is_not_above};
@@ -80,8 +80,8 @@ fn search_behind<P: Pages, T: Wanted>(
     key: &Key,
     found: &mut T,
 ) -> Result<u32, Fault>
-    requires { IsObservable (P.state pages.old) → (cells : List Cell) → HoldsGroup (P.state pages.old).pages level (lead_of lead.now) cells → page_room level * first ≤ length cells }
-    ensures call { IsSearchBehind (T.floor key.now) (T.after key.now) (P.state pages.old) (P.state pages.new) level (lead_of lead.now) key.now first found.old found.new result }
+    requires { IsObservable (P.state pages.old) → (cells : List Cell) → HoldsGroup (P.state pages.old).pages level (model_lead lead.now) cells → page_room level * first ≤ length cells }
+    ensures call { IsSearchBehind (T.floor key.now) (T.after key.now) (P.state pages.old) (P.state pages.new) level (model_lead lead.now) key.now first found.old found.new result }
     ensures follows { P.follows pages.old pages.new }
 {
     for index in first..u32::MAX {
@@ -109,7 +109,7 @@ pub fn search_group<P: Pages, T: Wanted>(
     key: &Key,
     found: &mut T,
 ) -> Result<(), Fault>
-    ensures call { IsGroupSearch (T.floor key.now) (T.after key.now) (P.state pages.old) (P.state pages.new) level (lead_of lead.now) key.now found.old found.new result }
+    ensures call { IsGroupSearch (T.floor key.now) (T.after key.now) (P.state pages.old) (P.state pages.new) level (model_lead lead.now) key.now found.old found.new result }
     ensures follows { P.follows pages.old pages.new }
 {
     search_behind(pages, level, lead, 0, key, found)?;
@@ -127,7 +127,7 @@ pub fn search_group_from<P: Pages, T: Wanted>(
     key: &Key,
     found: &mut T,
 ) -> Result<u32, Fault>
-    ensures call { IsGroupSearchFrom (T.floor key.now) (T.after key.now) (P.state pages.old) (P.state pages.new) level (lead_of lead.now) key.now found.old found.new result }
+    ensures call { IsGroupSearchFrom (T.floor key.now) (T.after key.now) (P.state pages.old) (P.state pages.new) level (model_lead lead.now) key.now found.old found.new result }
     ensures follows { P.follows pages.old pages.new }
 {
     if first == 0 || first == u32::MAX {

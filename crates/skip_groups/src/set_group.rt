@@ -6,13 +6,13 @@ ghost use Rattle.std.specs.FinMap as maps;
 ghost use Rattle.store_model.specs.Lists.{runs};
 ghost use Rattle.store_model.specs.Paths.{key_cmp};
 ghost use Rattle.store_model.specs.Pages.{page_room};
-ghost use Rattle.store_base.specs.Leads.{lead_of};
+ghost use Rattle.store_base.specs.Leads.{model_lead};
 ghost use Rattle.node_pages.specs.PagesState.{IsObservable, most_pages};
 ghost use Rattle.skip_groups.specs.GroupCells.{AreCells, IsRisingList};
 ghost use Rattle.skip_groups.specs.GroupChanges.{IsRunChange};
 ghost use Rattle.skip_groups.specs.GroupParts.{IsParted, IsGroupParted};
 ghost use Rattle.skip_groups.specs.Insertions.{IsSetRead};
-ghost use Rattle.skip_groups.specs.NewCells.{IsSet};
+ghost use Rattle.skip_groups.specs.NewCells.{IsCellsSet};
 
 use crate::cells::lead_before;
 use crate::group::{is_last, label_in_group};
@@ -32,8 +32,8 @@ pub fn read_new_cells<P: Pages>(
 ) -> Result<Option<u32>, Fault>
     requires valid { AreCells made.old.cells.level made.old.cells.cells }
     requires empty { made.old.cells.cells ≡ [] }
-    requires none { IsSet made.old.cells.level (lead_of lead.now) key.now own.now [] made.old }
-    ensures call { IsSetRead (P.state pages.old) (P.state pages.new) made.old.cells.level (lead_of lead.now) key.now own.now made.new result }
+    requires none { IsCellsSet made.old.cells.level (model_lead lead.now) key.now own.now [] made.old }
+    ensures call { IsSetRead (P.state pages.old) (P.state pages.new) made.old.cells.level (model_lead lead.now) key.now own.now made.new result }
     ensures valid { OnOk result (IsRisingList made.old.cells.level made.new.cells) }
     ensures follows { P.follows pages.old pages.new }
 {
@@ -73,8 +73,8 @@ pub fn part_group<P: Pages>(
 ) -> Result<(), Fault>
     requires valid { AreCells made.old.cells.level made.old.cells.cells }
     requires above { IsRisingList made.old.cells.level above.old }
-    requires none { IsParted made.old.cells.level (lead_of lead.now) key.now [] above.old.cells made.old above.old.cells }
-    ensures call { IsGroupParted (P.state pages.old) (P.state pages.new) made.old.cells.level (lead_of lead.now) key.now above.old.cells made.new above.new.cells result }
+    requires none { IsParted made.old.cells.level (model_lead lead.now) key.now [] above.old.cells made.old above.old.cells }
+    ensures call { IsGroupParted (P.state pages.old) (P.state pages.new) made.old.cells.level (model_lead lead.now) key.now above.old.cells made.new above.new.cells result }
     ensures valid { OnOk result (IsRisingList made.old.cells.level made.new.cells) }
     ensures above { OnOk result (IsRisingList made.old.cells.level above.new) }
     ensures number { OnOk result (made.new.kept + made.new.count < 4294967296) }
@@ -106,7 +106,7 @@ pub fn change_run<P: Pages>(
 ) -> Result<(), Fault>
     requires rising { IsStrictlySortedBy key_cmp (map (λ c. c.key) cells.now.cells) }
     requires room { IsObservable (P.state pages.old) → maps.len (P.state pages.old).pages + (count + length cells.now.cells) < most_pages }
-    ensures call { IsRunChange (P.state pages.old) (P.state pages.new) (lead_of lead.now) first count cells.now (max count (length (runs (page_room cells.now.level) cells.now.cells))) result }
+    ensures call { IsRunChange (P.state pages.old) (P.state pages.new) (model_lead lead.now) first count cells.now (max count (length (runs (page_room cells.now.level) cells.now.cells))) result }
     ensures follows { P.follows pages.old pages.new }
 {
     let level = cells.level();

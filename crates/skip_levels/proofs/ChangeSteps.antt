@@ -5,7 +5,7 @@ use Rattle.store_base.specs.declared.store_fault.Fault.{Fault}
 use Rattle.store_base.specs.declared.store_fault.Fault.TheVariants.{NoMemory}
 use Rattle.store_base.specs.declared.label.Lead as declared
 use Rattle.store_base.specs.Keys.{IsKey}
-use Rattle.store_base.specs.Leads.{lead_of}
+use Rattle.store_base.specs.Leads.{model_lead}
 use Rattle.store_model.specs.Paths.{key_cmp}
 use Rattle.store_model.specs.Labels.{Lead}
 use Rattle.store_model.specs.Labels.Lead.{Leader}
@@ -14,7 +14,7 @@ use Rattle.store_model.specs.Pairs.{Pair, IsValue}
 use Rattle.store_model.specs.Pages.{Cell, cell_on}
 use Rattle.store_model.specs.PageMaps.{map_of_pages}
 use Rattle.node_pages.specs.PagesState.{PagesState, IsObservable}
-use Rattle.skip_levels.specs.CellChanges.{IsPagesCall, HasRoom, SetsCells, SplitsGroup, JoinsGroups}
+use Rattle.skip_levels.specs.CellChanges.{IsPagesCall, PagesHaveRoom, SetsCells, SplitsGroup, JoinsGroups}
 use Rattle.skip_levels.specs.Descent.{HoldsPairs}
 use Rattle.skip_groups.specs.Groups.{HoldsGroup, group_cost}
 use Rattle.skip_levels.specs.PairChanges.{IsPutting, IsTaking, PutsPairFrom, TakesPairFrom}
@@ -45,7 +45,7 @@ module _ (old : PagesState) (top : ℕ) (first : Lead) (key value : List ℕ) wh
   -- the map is that of the new list from a level on, and this leads the group of the next lower level
   pub record IsDown (now : PagesState) (level : ℕ) (lead : declared.Lead) (d : Draw) (s : List Pair) : Type 0 where
     pub pages_are : now.pages ≡ map_of_pages (pages_between d s (put key_cmp key value s) level)
-    pub leads : (lower : ℕ) → level ≡ suc lower → lead_of lead ≡ leader_behind d lower (below key s)
+    pub leads : (lower : ℕ) → level ≡ suc lower → model_lead lead ≡ leader_behind d lower (below key s)
     pub lookups : now.lookups ≤ old.lookups + levels_cost d s key level (suc top - level)
 
   pub record PutDown (now : PagesState) (level : ℕ) (lead : declared.Lead) : Type 0 where
@@ -72,7 +72,7 @@ module _ (old : PagesState) (top : ℕ) (first : Lead) (key value : List ℕ) wh
         subst (λ l. SetsAt old.pages d top l s (put key_cmp key value s) key (cell_on top (key, value) ∷ []) (below key s)) (sym h.leads)
         (put_first d s old.pages top first key value h is_key is_value old.pages (h.holds.map_is ∙ ap map_of_pages (sym (put_begins d s old.pages top first key value h is_key is_value))))
 
-    pub room_for_first : (IsObservable old → (d : Draw) × (s : List Pair) × IsPutting d s old.pages top first key) → IsObservable old → HasRoom old.pages top first
+    pub room_for_first : (IsObservable old → (d : Draw) × (s : List Pair) × IsPutting d s old.pages top first key) → IsObservable old → PagesHaveRoom old.pages top first
     room_for_first place o = let p = place o in (first_to_put p.0 p.1 p.2).room
 
     module _ (new : PagesState) (own : List Cell) where
@@ -101,17 +101,17 @@ module _ (old : PagesState) (top : ℕ) (first : Lead) (key value : List ℕ) wh
       }
 
   module _ (now : PagesState) (level : ℕ) (lead : declared.Lead) (w : PutDown now (suc level) lead) (lower : level < top) (is_key : IsKey key) (is_value : IsValue value) where
-    pub next_to_put : (o : IsObservable old) (d : Draw) (s : List Pair) (h : IsPutting d s old.pages top first key) → SplitsAt now.pages d level (lead_of lead) s (put key_cmp key value s) key (cell_on level (key, value) ∷ []) (below key s) (above key s)
+    pub next_to_put : (o : IsObservable old) (d : Draw) (s : List Pair) (h : IsPutting d s old.pages top first key) → SplitsAt now.pages d level (model_lead lead) s (put key_cmp key value s) key (cell_on level (key, value) ∷ []) (below key s) (above key s)
     next_to_put o d s h =
         let n = w.down o d s h in
         let next : suc level ≡ level + 1 = omega arith in
         subst (λ l. SplitsAt now.pages d level l s (put key_cmp key value s) key (cell_on level (key, value) ∷ []) (below key s) (above key s)) (sym (n.leads level refl))
         (put_below d s old.pages top first key value h is_key is_value now.pages level lower (n.pages_are ∙ ap (λ k. map_of_pages (pages_between d s (put key_cmp key value s) k)) next))
 
-    pub room_for_next : (IsObservable old → (d : Draw) × (s : List Pair) × IsPutting d s old.pages top first key) → IsObservable now → HasRoom now.pages level (lead_of lead)
+    pub room_for_next : (IsObservable old → (d : Draw) × (s : List Pair) × IsPutting d s old.pages top first key) → IsObservable now → PagesHaveRoom now.pages level (model_lead lead)
     room_for_next place o = let p = place (w.call.hidden o) in (next_to_put (w.call.hidden o) p.0 p.1 p.2).room
 
-    pub cost_down : (new : PagesState) (o : IsObservable old) (d : Draw) (s : List Pair) (h : IsPutting d s old.pages top first key) → ((cells : List Cell) → HoldsGroup now.pages level (lead_of lead) cells → new.lookups ≤ now.lookups + group_cost level cells)
+    pub cost_down : (new : PagesState) (o : IsObservable old) (d : Draw) (s : List Pair) (h : IsPutting d s old.pages top first key) → ((cells : List Cell) → HoldsGroup now.pages level (model_lead lead) cells → new.lookups ≤ now.lookups + group_cost level cells)
         → new.lookups ≤ old.lookups + levels_cost d s key level (suc top - level)
     cost_down new o d s h more =
         let at = next_to_put o d s h in
@@ -119,7 +119,7 @@ module _ (old : PagesState) (top : ℕ) (first : Lead) (key value : List ℕ) wh
         let same : group_cost level at.cells ≡ group_cost level (group_of_place d level (not_above key s) (above key s)) = ap (group_cost level) (at.cells_are ∙ ap (λ low. group_of_place d level low (above key s)) (sym floor)) in
         omega (arith, more at.cells at.splitting.holds, same, (w.down o d s h).lookups, cost_of_level d s key level (suc top) h.holds.pairs (omega arith))
 
-    pub put_not_split : (new : PagesState) (own : List Cell) (fault : Fault) → SplitsGroup now new level (lead_of lead) key own (Err fault) → PutsPairFrom {T = Unit {0}} old new top first key value (Err fault)
+    pub put_not_split : (new : PagesState) (own : List Cell) (fault : Fault) → SplitsGroup now new level (model_lead lead) key own (Err fault) → PutsPairFrom {T = Unit {0}} old new top first key value (Err fault)
     put_not_split new own fault split = record {
       call = fails_behind old now new (tt {0}) fault w.call split.call;
       put = λ o d s h. tt;
@@ -127,13 +127,13 @@ module _ (old : PagesState) (top : ℕ) (first : Lead) (key value : List ℕ) wh
           omega (arith, cost_down new o d s h (λ cells holds. split.lookups (w.call.observable o) cells holds), levels_within d s key level top (omega arith));
     }
 
-    pub put_goes_on : (new : PagesState) (own : List Cell) (next : declared.Lead) → own ≡ cell_on level (key, value) ∷ [] → SplitsGroup now new level (lead_of lead) key own (Ok next) → PutDown new level next
+    pub put_goes_on : (new : PagesState) (own : List Cell) (next : declared.Lead) → own ≡ cell_on level (key, value) ∷ [] → SplitsGroup now new level (model_lead lead) key own (Ok next) → PutDown new level next
     put_goes_on new own next own_is split = record {
       call = record { faults = split.call.faults ∙ w.call.faults; lookups_kept = omega (arith, split.call.lookups_kept, w.call.lookups_kept); hidden = λ o. w.call.hidden (split.call.hidden o); observable = λ o. split.call.observable (w.call.observable o) };
       down = λ o d s h.
           let at = next_to_put o d s h in
           let seen = w.call.observable o in
-          let done = (subst (λ cells. SplitsGroup now new level (lead_of lead) key cells (Ok next)) own_is split).split seen at.cells at.front at.back at.splitting in
+          let done = (subst (λ cells. SplitsGroup now new level (model_lead lead) key cells (Ok next)) own_is split).split seen at.cells at.front at.back at.splitting in
           record {
             pages_are = done.pages_are ∙ ap map_of_pages at.after;
             leads = λ lower is. done.next_is ∙ sym (at.next lower is);
@@ -167,7 +167,7 @@ module _ (old : PagesState) (top : ℕ) (first : Lead) (key : List ℕ) where
 
   pub record IsTakenDown (now : PagesState) (level : ℕ) (lead : declared.Lead) (d : Draw) (s : List Pair) : Type 0 where
     pub pages_are : now.pages ≡ map_of_pages (pages_between d s (without key s) level)
-    pub leads : (lower : ℕ) → level ≡ suc lower → lead_of lead ≡ leader_behind d lower (below key s)
+    pub leads : (lower : ℕ) → level ≡ suc lower → model_lead lead ≡ leader_behind d lower (below key s)
     pub lookups : now.lookups ≤ old.lookups + cost_of_both d s level
 
   pub record TakenDown (now : PagesState) (level : ℕ) (lead : declared.Lead) : Type 0 where
@@ -179,7 +179,7 @@ module _ (old : PagesState) (top : ℕ) (first : Lead) (key : List ℕ) where
       subst (λ l. SetsAt old.pages d top l s (without key s) key [] (below key s)) (sym h.leads)
       (take_first d s old.pages top first key h old.pages (h.holds.map_is ∙ ap map_of_pages (sym (take_begins d s old.pages top first key h))))
 
-  pub room_to_take : (IsObservable old → (d : Draw) × (s : List Pair) × IsTaking d s old.pages top first key) → IsObservable old → HasRoom old.pages top first
+  pub room_to_take : (IsObservable old → (d : Draw) × (s : List Pair) × IsTaking d s old.pages top first key) → IsObservable old → PagesHaveRoom old.pages top first
   room_to_take place o = let p = place o in (first_to_take p.0 p.1 p.2).room
 
   module _ (new : PagesState) (own : List Cell) where
@@ -206,7 +206,7 @@ module _ (old : PagesState) (top : ℕ) (first : Lead) (key : List ℕ) where
     }
 
   module _ (now : PagesState) (level : ℕ) (lead : declared.Lead) (w : TakenDown now (suc level) lead) (lower : level < top) where
-    pub next_to_take : (o : IsObservable old) (d : Draw) (s : List Pair) (h : IsTaking d s old.pages top first key) → JoinsAt now.pages d level (lead_of lead) s (without key s) key (below key s) (above key s) (key, h.value)
+    pub next_to_take : (o : IsObservable old) (d : Draw) (s : List Pair) (h : IsTaking d s old.pages top first key) → JoinsAt now.pages d level (model_lead lead) s (without key s) key (below key s) (above key s) (key, h.value)
     next_to_take o d s h =
         let n = w.down o d s h in
         let next : suc level ≡ level + 1 = omega arith in
@@ -214,15 +214,15 @@ module _ (old : PagesState) (top : ℕ) (first : Lead) (key : List ℕ) where
         (take_below d s old.pages top first key h now.pages level lower (n.pages_are ∙ ap (λ k. map_of_pages (pages_between d s (without key s) k)) next))
 
     module _ (place : IsObservable old → (d : Draw) × (s : List Pair) × IsTaking d s old.pages top first key) where
-      pub room_to_join_low : IsObservable now → HasRoom now.pages level (lead_of lead)
+      pub room_to_join_low : IsObservable now → PagesHaveRoom now.pages level (model_lead lead)
       room_to_join_low o = let p = place (w.call.hidden o) in (next_to_take (w.call.hidden o) p.0 p.1 p.2).room
 
-      pub room_to_join_own : IsObservable now → HasRoom now.pages level (Leader key)
+      pub room_to_join_own : IsObservable now → PagesHaveRoom now.pages level (Leader key)
       room_to_join_own o = let p = place (w.call.hidden o) in (next_to_take (w.call.hidden o) p.0 p.1 p.2).own_room
 
     -- what reading both groups costs with the levels above
     with_both : (new : PagesState) (o : IsObservable old) (d : Draw) (s : List Pair) (h : IsTaking d s old.pages top first key)
-        → ((low high : List Cell) → HoldsGroup now.pages level (lead_of lead) low → HoldsGroup now.pages level (Leader key) high → new.lookups ≤ now.lookups + (group_cost level low + group_cost level high))
+        → ((low high : List Cell) → HoldsGroup now.pages level (model_lead lead) low → HoldsGroup now.pages level (Leader key) high → new.lookups ≤ now.lookups + (group_cost level low + group_cost level high))
         → new.lookups ≤ old.lookups + cost_of_both d s level
     with_both new o d s h more =
         let at = next_to_take o d s h in
@@ -240,7 +240,7 @@ module _ (old : PagesState) (top : ℕ) (first : Lead) (key : List ℕ) where
           costs_down (cost_below d s key) level d.height (omega (arith, take_within d s old.pages top first key h)),
         )
 
-    pub take_not_joined : (new : PagesState) (fault : Fault) → JoinsGroups now new level (lead_of lead) key (Err fault) → TakesPairFrom {T = Unit {0}} old new top first key (Err fault)
+    pub take_not_joined : (new : PagesState) (fault : Fault) → JoinsGroups now new level (model_lead lead) key (Err fault) → TakesPairFrom {T = Unit {0}} old new top first key (Err fault)
     take_not_joined new fault join = record {
       call = fails_behind old now new (tt {0}) fault w.call join.call;
       taken = λ o d s h. tt;
@@ -248,7 +248,7 @@ module _ (old : PagesState) (top : ℕ) (first : Lead) (key : List ℕ) where
           omega (arith, with_both new o d s h (λ low high a b. join.lookups (w.call.observable o) low high a b), both_within d s level (omega arith) (take_within d s old.pages top first key h));
     }
 
-    pub take_goes_on : (new : PagesState) (next : declared.Lead) → JoinsGroups now new level (lead_of lead) key (Ok next) → TakenDown new level next
+    pub take_goes_on : (new : PagesState) (next : declared.Lead) → JoinsGroups now new level (model_lead lead) key (Ok next) → TakenDown new level next
     take_goes_on new next join = record {
       call = record { faults = join.call.faults ∙ w.call.faults; lookups_kept = omega (arith, join.call.lookups_kept, w.call.lookups_kept); hidden = λ o. w.call.hidden (join.call.hidden o); observable = λ o. join.call.observable (w.call.observable o) };
       down = λ o d s h.

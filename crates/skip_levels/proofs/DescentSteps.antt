@@ -3,7 +3,7 @@ use Rattle.std.proofs.Common.{◌≡◌, ℕ, suc, ◌+◌, ◌-◌, ◌<◌, �
 use Rattle.store_base.specs.declared.store_fault.Fault.{Fault}
 use Rattle.store_base.specs.declared.label.Lead.{Lead}
 use Rattle.store_base.specs.Faults.{disk_faults_after}
-use Rattle.store_base.specs.Leads.{lead_of}
+use Rattle.store_base.specs.Leads.{model_lead}
 use Rattle.store_model.specs.Labels.Lead.{Start}
 use Rattle.store_model.specs.Draws.{Draw}
 use Rattle.store_model.specs.Pairs.{Pair}
@@ -24,7 +24,7 @@ use Rattle.skip_levels.proofs.PathCosts.{cost_within, cost_of_level, levels_join
 use Rattle.skip_groups.proofs.GroupSteps.{same_count}
 
 -- what the cells next to a key make of a place on its search path
-lead_seen : (floor after : Option Cell) (end : PathEnd) → lead_of (seen followed_by after (seen led_by floor end)).lead ≡ lead_from floor (lead_of end.lead)
+lead_seen : (floor after : Option Cell) (end : PathEnd) → model_lead (seen followed_by after (seen led_by floor end)).lead ≡ lead_from floor (model_lead end.lead)
 lead_seen None None end = refl
 lead_seen None (Some cell) end = refl
 lead_seen (Some cell) None end = refl
@@ -61,19 +61,19 @@ module _ (old : PagesState) (top : ℕ) (from : PathEnd) (key : List ℕ) where
 
   module _ (now next : PagesState) (level : ℕ) (end : PathEnd) (w : Descends now level end) (within : level ≤ top) where
     -- the level's group
-    holds_group : Nears now level end → (d : Draw) (s : List Pair) → IsWayFrom d s old.pages top key from → HoldsGroup now.pages level (lead_of end.lead) (group_of_place d level (not_above key s) (above key s))
+    holds_group : Nears now level end → (d : Draw) (s : List Pair) → IsWayFrom d s old.pages top key from → HoldsGroup now.pages level (model_lead end.lead) (group_of_place d level (not_above key s) (above key s))
     holds_group n d s f =
         let group = group_of_place d level (not_above key s) (above key s) in
-        subst (λ m. HoldsGroup m level (lead_of end.lead) group) (sym n.unchanged)
+        subst (λ m. HoldsGroup m level (model_lead end.lead) group) (sym n.unchanged)
         (subst (λ l. HoldsGroup old.pages level l group) (sym (n.place d s f).lead) (holds_path d s old level key f.holds (omega (arith, f.within))))
 
     -- what the levels from this one on cost
-    level_cost : {IsFound : List Cell → Type 0} (n : Nears now level end) → ReadsGroup now next level (lead_of end.lead) IsFound
+    level_cost : {IsFound : List Cell → Type 0} (n : Nears now level end) → ReadsGroup now next level (model_lead end.lead) IsFound
         → (d : Draw) (s : List Pair) → IsWayFrom d s old.pages top key from → next.lookups ≤ old.lookups + levels_cost d s key level (suc top - level)
     level_cost n g d s f =
         omega (arith, g.lookups (group_of_place d level (not_above key s) (above key s)) (holds_group n d s f), n.lookups d s f, cost_of_level d s key level (suc top) f.holds.pairs (omega arith))
 
-    pub way_fails : {S : Type 0} (below : PathEnd) (fault : Fault) (bottom : ℕ) → suc bottom ≤ level → IsGroupSearch {S = S} led_by followed_by now next level (lead_of end.lead) key end below (Err fault) → IsWayDown old next top from bottom key (Err fault)
+    pub way_fails : {S : Type 0} (below : PathEnd) (fault : Fault) (bottom : ℕ) → suc bottom ≤ level → IsGroupSearch {S = S} led_by followed_by now next level (model_lead end.lead) key end below (Err fault) → IsWayDown old next top from bottom key (Err fault)
     way_fails {S} below fault bottom low search = record {
       faults = search.faults ∙ ap (λ n. disk_faults_after {T = S} n (Err fault)) w.faults ∙ same_count S PathEnd old.faults fault;
       lookups_kept = omega (arith, search.lookups_kept, w.lookups_kept);
@@ -91,7 +91,7 @@ module _ (old : PagesState) (top : ℕ) (from : PathEnd) (key : List ℕ) where
         levels_between : (b : ℕ) → suc top - suc b ≡ top - b
         levels_between b = omega arith
 
-    pub way_goes_on : {S : Type 0} (done : S) (below : PathEnd) (lower : ℕ) → level ≡ suc lower → IsGroupSearch led_by followed_by now next level (lead_of end.lead) key end below (Ok done) → Descends next lower below
+    pub way_goes_on : {S : Type 0} (done : S) (below : PathEnd) (lower : ℕ) → level ≡ suc lower → IsGroupSearch led_by followed_by now next level (model_lead end.lead) key end below (Ok done) → Descends next lower below
     way_goes_on done below lower is search = record {
       faults = search.faults ∙ w.faults;
       lookups_kept = omega (arith, search.lookups_kept, w.lookups_kept);
@@ -106,7 +106,7 @@ module _ (old : PagesState) (top : ℕ) (from : PathEnd) (key : List ℕ) where
             let group = group_of_place d level low high in
             let is_seen : below ≡ seen followed_by (after_of key group) (seen led_by (floor_of key group) end) = g.found group (holds_group n d s f) (few_on_path d s old level key f.holds) in
             record {
-              lead = ap (λ (e : PathEnd). lead_of e.lead) is_seen ∙ lead_seen (floor_of key group) (after_of key group) end ∙ ap (lead_from (floor_of key group)) at.lead
+              lead = ap (λ (e : PathEnd). model_lead e.lead) is_seen ∙ lead_seen (floor_of key group) (after_of key group) end ∙ ap (lead_from (floor_of key group)) at.lead
                   ∙ subst (λ k. lead_from (floor_of key (group_of_place d k low high)) (leader_behind d k low) ≡ leader_behind d lower low) (sym is)
                   (sym (next_lead d lower key low high (side_passes d (suc lower) key s) (side_fails d (suc lower) key s)));
               next = ap (λ (e : PathEnd). e.next) is_seen ∙ next_seen (floor_of key group) (after_of key group) end ∙ ap (key_ahead (after_of key group)) at.next
@@ -135,7 +135,7 @@ module _ (old : PagesState) (top : ℕ) (from : PathEnd) (key : List ℕ) where
 -- ---- a search from the highest level
 
 -- nothing is known at the highest level: the start leads its one group
-highest_place : (d : Draw) (s : List Pair) (m : PageMap) (height highest : ℕ) (key : List ℕ) (start : PathEnd) → lead_of start.lead ≡ Start → start.next ≡ None → height ≡ suc highest → HoldsPairs d s m → height ≡ d.height → IsWayFrom d s m highest key start
+highest_place : (d : Draw) (s : List Pair) (m : PageMap) (height highest : ℕ) (key : List ℕ) (start : PathEnd) → model_lead start.lead ≡ Start → start.next ≡ None → height ≡ suc highest → HoldsPairs d s m → height ≡ d.height → IsWayFrom d s m highest key start
 highest_place d s m height highest key start lead next is h high = record {
   holds = h;
   within = omega arith;
@@ -145,7 +145,7 @@ highest_place d s m height highest key start lead next is h high = record {
   };
 }
 
-module _ (old mid : PagesState) (height highest : ℕ) (known : Option PathEnd) (top : ℕ) (key : List ℕ) (start : PathEnd) (is_start : lead_of start.lead ≡ Start) (none_ahead : start.next ≡ None) (high : height ≡ suc highest) (within : top < height) where
+module _ (old mid : PagesState) (height highest : ℕ) (known : Option PathEnd) (top : ℕ) (key : List ℕ) (start : PathEnd) (is_start : model_lead start.lead ≡ Start) (none_ahead : start.next ≡ None) (high : height ≡ suc highest) (within : top < height) where
   from_highest : (d : Draw) (s : List Pair) → IsSearched d s old.pages height known → IsWayFrom d s old.pages highest key start
   from_highest d s h = highest_place d s old.pages height highest key start is_start none_ahead high h.holds h.high
 
@@ -244,7 +244,7 @@ lead_is_known old height top (Some place) key lowest lies = record {
   observed = λ o. record {
     observable = o;
     unchanged = refl;
-    lead = λ d s h. subst (λ k. lead_of place.lead ≡ leader_behind d k (not_above key s)) (sym lowest) (h.right key lies).lead;
+    lead = λ d s h. subst (λ k. model_lead place.lead ≡ leader_behind d k (not_above key s)) (sym lowest) (h.right key lies).lead;
     place = λ d s h. h.right key lies;
     right = λ d s h. h.right;
     lookups = λ d s h. omega arith;

@@ -18,7 +18,7 @@ use Rattle.store_model.proofs.ListsLemmas.{rising_from_is_sorted}
 use Rattle.node_pages.proofs.PlaceLemmas.{same_key, reversed}
 use Rattle.skip_levels.specs.declared.search.PathEnd.{PathEnd}
 use Rattle.skip_levels.specs.declared.put_place.PutPlace.{PutPlace}
-use Rattle.skip_levels.specs.Descent.{IsPlace, IsKnown, IsAt}
+use Rattle.skip_levels.specs.Descent.{IsPlace, IsKnownGroup, IsAt}
 use Rattle.ordered_pairs.specs.PairsState.{without}
 use Rattle.skip_levels.specs.PutPlaces.{IsPutPlace, behind, leads_own}
 use Rattle.skip_levels.specs.SearchPath.{last_lead, leader_behind, leader_ahead, not_above, below, above}
@@ -132,7 +132,7 @@ module _ (d : Draw) (s : List Pair) (key value : List ℕ) (valid : IsPairs s) (
       | inr there ↦ let none = there.lowest in absurd (omega arith)
     ]
 
-    low_behind : (b : Bool) → (place.top == 0) ≡ b → IsKnown d made (cond b (Some low) (leads_own key (Some low)))
+    low_behind : (b : Bool) → (place.top == 0) ≡ b → IsKnownGroup d made (cond b (Some low) (leads_own key (Some low)))
     low_behind true e = known_at d made key low valid_behind (record { lead = here.lead ∙ sym (leader_stays (zero_from_test place.top e)); next = here.next ∙ ap (leader_ahead d 0) (sym higher_side) })
       where
         zero_from_test : (n : ℕ) → (n == 0) ≡ true → n ≡ 0
@@ -145,7 +145,7 @@ module _ (d : Draw) (s : List Pair) (key value : List ℕ) (valid : IsPairs s) (
         some_from_test n f = grind (arith, nat_tests)
 
   -- so the place of the key is known
-  pub known_by_put : (place : PutPlace) → IsPutPlace d s key place → (known : Option PathEnd) → IsAt d s key known → IsKnown d made (behind place.top key known)
+  pub known_by_put : (place : PutPlace) → IsPutPlace d s key place → (known : Option PathEnd) → IsAt d s key known → IsKnownGroup d made (behind place.top key known)
   known_by_put place at None here = absurd here
   known_by_put place at (Some low) here = low_behind place at low here (place.top == 0) refl
 
@@ -153,7 +153,7 @@ module _ (d : Draw) (s : List Pair) (key value : List ℕ) (valid : IsPairs s) (
 
 module _ (d : Draw) (s : List Pair) (key value : List ℕ) (valid : IsPairs s) (valid_behind : IsPairs (without key s)) (has : find key_cmp key s ≡ Some value) where
   -- a key of level 0 leaves the group of its place
-  pub known_by_take : (known : Option PathEnd) → d.level key ≡ 0 → IsAt d s key known → IsKnown d (without key s) known
+  pub known_by_take : (known : Option PathEnd) → d.level key ≡ 0 → IsAt d s key known → IsKnownGroup d (without key s) known
   known_by_take None lowest at = absurd at
   known_by_take (Some low) lowest at =
       let sides = has_pair key value s (rising_from_is_sorted key_cmp s valid.sorted) has in

@@ -7,7 +7,7 @@ use Rattle.std.specs.List.Sorted.{IsStrictlySortedBy}
 use Rattle.std.specs.Cmp.{tied_itself, both_ways}
 use Rattle.std.specs.Cmp.Lexicographic.{nat_list_cmp_total}
 use Rattle.std.specs.BTreeMap.Comparable.{le_lt_trans}
-use Rattle.store_base.specs.Leads.{lead_of}
+use Rattle.store_base.specs.Leads.{model_lead}
 use Rattle.store_model.specs.Paths.{key_cmp}
 use Rattle.store_model.specs.Draws.{Draw}
 use Rattle.store_model.specs.Labels.{Lead}
@@ -17,7 +17,7 @@ use Rattle.store_model.proofs.ListsLemmas.{all_filter, all_weaker, rising_head, 
 use Rattle.node_pages.proofs.PlaceLemmas.{same_key}
 use Rattle.skip_levels.specs.declared.search.PathEnd.{PathEnd}
 use Rattle.skip_levels.specs.SearchPath.{last_lead, not_above, above}
-use Rattle.skip_levels.specs.Descent.{IsPlace, LiesIn, IsKnown, is_from, is_before}
+use Rattle.skip_levels.specs.Descent.{IsPlace, LiesIn, IsKnownGroup, is_from, is_before}
 
 -- ---- keys in order
 
@@ -122,10 +122,10 @@ module _ (d : Draw) (s : List Pair) (known : List ℕ) (end : PathEnd) (rising :
   abbrev lies : List ℕ → Pair → Bool
   lies key pair = is_le (key_cmp pair.0 key)
 
-  led : AllByRecursion (λ pair. lies known pair ≡ true → stands pair ≡ true → IsLedBy (lead_of end.lead) pair.0) s
+  led : AllByRecursion (λ pair. lies known pair ≡ true → stands pair ≡ true → IsLedBy (model_lead end.lead) pair.0) s
   led =
-      all_unkept (λ pair. stands pair ≡ true → IsLedBy (lead_of end.lead) pair.0) (lies known) s
-      (all_unkept (λ pair. IsLedBy (lead_of end.lead) pair.0) stands (not_above known s)
+      all_unkept (λ pair. stands pair ≡ true → IsLedBy (model_lead end.lead) pair.0) (lies known) s
+      (all_unkept (λ pair. IsLedBy (model_lead end.lead) pair.0) stands (not_above known s)
       (subst (λ l. AllByRecursion (λ pair. IsLedBy l pair.0) (filter stands (not_above known s))) (sym at.lead) (led_by_last (filter stands (not_above known s)) (rises_kept stands (not_above known s) (rises_kept (lies known) s (rises s rising))))))
 
   behind : AllByRecursion (λ pair. not (lies known pair) ≡ true → stands pair ≡ true → IsAtOrBehind end.next pair.0) s
@@ -154,8 +154,8 @@ module _ (d : Draw) (s : List Pair) (known : List ℕ) (end : PathEnd) (rising :
 
     same_side : AllByRecursion (λ pair. stands pair ≡ true → lies known pair ≡ lies key pair) s
     same_side =
-        all_with (λ pair. lies known pair ≡ true → stands pair ≡ true → IsLedBy (lead_of end.lead) pair.0) (λ pair. not (lies known pair) ≡ true → stands pair ≡ true → IsAtOrBehind end.next pair.0) (λ pair. stands pair ≡ true → lies known pair ≡ lies key pair)
-        (λ pair low high on. both_ways (lies known pair) (lies key pair) (λ t. below_key pair (lead_of end.lead) (low t on) here.from) (λ t. by_test (lies known pair) refl (λ fails. not_behind pair end.next (high fails on) here.before t))) s led behind
+        all_with (λ pair. lies known pair ≡ true → stands pair ≡ true → IsLedBy (model_lead end.lead) pair.0) (λ pair. not (lies known pair) ≡ true → stands pair ≡ true → IsAtOrBehind end.next pair.0) (λ pair. stands pair ≡ true → lies known pair ≡ lies key pair)
+        (λ pair low high on. both_ways (lies known pair) (lies key pair) (λ t. below_key pair (model_lead end.lead) (low t on) here.from) (λ t. by_test (lies known pair) refl (λ fails. not_behind pair end.next (high fails on) here.before t))) s led behind
       where
         by_test : (b : Bool) → b ≡ b → (not b ≡ true → ⊥) → b ≡ true
         by_test true e h = refl
@@ -171,5 +171,5 @@ module _ (d : Draw) (s : List Pair) (known : List ℕ) (end : PathEnd) (rising :
     }
 
 -- the place of one key is known from then on
-pub known_at : (d : Draw) (s : List Pair) (key : List ℕ) (place : PathEnd) → IsPairs s → IsPlace d s 0 key place → IsKnown d s (Some place)
+pub known_at : (d : Draw) (s : List Pair) (key : List ℕ) (place : PathEnd) → IsPairs s → IsPlace d s 0 key place → IsKnownGroup d s (Some place)
 known_at d s key place valid at other here = place_of_all d s key place (rising_from_is_sorted key_cmp s valid.sorted) at other here

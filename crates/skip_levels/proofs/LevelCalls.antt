@@ -22,10 +22,10 @@ use Rattle.skip_groups.specs.declared.new_cells.NewCells.{NewCells}
 use Rattle.skip_groups.specs.Floors.{last_of, lead_from}
 use Rattle.skip_groups.specs.Groups.{HoldsGroup}
 use Rattle.skip_groups.specs.GroupCells.{AreCells, compares, side, merged}
-use Rattle.skip_groups.specs.GroupChanges.{changed_pages, IsChange, IsRun, IsRunChange}
+use Rattle.skip_groups.specs.GroupChanges.{changed_pages, IsChange, IsCellRun, IsRunChange}
 use Rattle.skip_groups.specs.GroupParts.{IsParted, IsGroupParted, run_past}
-use Rattle.skip_levels.specs.CellChanges.{IsPagesCall, HasRoom, SplitsGroup, JoinsGroups}
-use Rattle.skip_groups.specs.NewCells.{cells_in, IsRenewed}
+use Rattle.skip_levels.specs.CellChanges.{IsPagesCall, PagesHaveRoom, SplitsGroup, JoinsGroups}
+use Rattle.skip_groups.specs.NewCells.{cells_gathered, IsRenewed}
 use Rattle.skip_groups.specs.Searches.{IsGroupWalk}
 use Rattle.skip_levels.proofs.CallsBehind.{failed_call, walk_call}
 use Rattle.skip_groups.proofs.CellLists.{front_cells, back_cells}
@@ -38,7 +38,7 @@ use Rattle.skip_levels.proofs.SetCalls.{is_run, all_changed}
 -- ---- pages put where there were none, and all pages dropped
 
 module _ (level : ℕ) (lead : Lead) (list : CellList) where
-  pub is_put : list.level ≡ level → IsRun lead 0 0 list [] (group_pages level lead list.cells)
+  pub is_put : list.level ≡ level → IsCellRun lead 0 0 list [] (group_pages level lead list.cells)
   is_put same = record {
     start = refl;
     put = λ i page there.
@@ -55,7 +55,7 @@ module _ (level : ℕ) (lead : Lead) (list : CellList) where
       ap₂ (λ ps qs. ps ++ qs) (take_all (0 + past) news long) (drop_all (0 + past) [] (omega arith)) ∙ append-nil news
 
   module _ (olds : List Page) (count : ℕ) (none : list.cells ≡ []) (all : count ≡ length olds) where
-    pub is_drop : IsRun lead 0 count list olds []
+    pub is_drop : IsCellRun lead 0 count list olds []
     is_drop = record {
       start = refl;
       put = λ i page there. absurd (let gone = ap (λ ps. slice_get ps i) (no_page list.level lead 0 list.cells none) in cc);
@@ -75,16 +75,16 @@ past_few false made = omega arith
 
 module _ (level : ℕ) (lead : Lead) (key : List ℕ) (cells start : List Cell) (made : NewCells) (above : List Cell) (h : IsParted level lead key (group_pages level lead cells) start made above) where
   abbrev gone : List Cell
-  gone = cells_in h.gone
+  gone = cells_gathered h.gone
 
   pub whole : made.kept + made.count ≡ length (group_pages level lead cells)
   whole = omega (arith, h.kept_is, h.count_is, ap length h.parts, length-append h.stay h.gone)
 
-  all_cells : cells ≡ cells_in h.stay ++ gone
-  all_cells = sym (cells_of_group level lead cells) ∙ ap cells_in h.parts ∙ cells_both h.stay h.gone
+  all_cells : cells ≡ cells_gathered h.stay ++ gone
+  all_cells = sym (cells_of_group level lead cells) ∙ ap cells_gathered h.parts ∙ cells_both h.stay h.gone
 
   few_gone : length gone ≤ length cells
-  few_gone = omega (arith, ap length all_cells, length-append (cells_in h.stay) gone)
+  few_gone = omega (arith, ap length all_cells, length-append (cells_gathered h.stay) gone)
 
   pub few_lows : length made.cells.cells ≤ length cells
   few_lows = omega (arith, h.few_low, few_gone)
@@ -92,27 +92,27 @@ module _ (level : ℕ) (lead : Lead) (key : List ℕ) (cells start : List Cell) 
   pub few_above : length above ≤ length start + length cells
   few_above = omega (arith, h.few_high, few_gone)
 
-  pub lows_are : side Less key cells ≡ cells_in h.stay ++ side Less key gone
-  lows_are = ap (side Less key) all_cells ∙ low_behind key (cells_in h.stay) (kept_below level key h.stay h.kept) gone
+  pub lows_are : side Less key cells ≡ cells_gathered h.stay ++ side Less key gone
+  lows_are = ap (side Less key) all_cells ∙ low_behind key (cells_gathered h.stay) (kept_below level key h.stay h.kept) gone
 
   pub low_is : AreCells level (side Less key cells) → made.cells.cells ≡ side Less key gone
-  low_is valid = h.low (back_cells level (cells_in h.stay) (side Less key gone) (subst (AreCells level) lows_are valid))
+  low_is valid = h.low (back_cells level (cells_gathered h.stay) (side Less key gone) (subst (AreCells level) lows_are valid))
 
   pub above_is : AreCells level (start ++ side Greater key cells) → above ≡ start ++ side Greater key cells
   above_is = subst (λ xs. AreCells level (start ++ xs) → above ≡ start ++ xs) (sym highs_are) h.high
     where
       highs_are : side Greater key cells ≡ side Greater key gone
-      highs_are = ap (side Greater key) all_cells ∙ filter-append (compares Greater key) (cells_in h.stay) gone ∙ ap (λ xs. xs ++ side Greater key gone) (side_no Greater Less key (cells_in h.stay) refl (kept_below level key h.stay h.kept))
+      highs_are = ap (side Greater key) all_cells ∙ filter-append (compares Greater key) (cells_gathered h.stay) gone ∙ ap (λ xs. xs ++ side Greater key gone) (side_no Greater Less key (cells_gathered h.stay) refl (kept_below level key h.stay h.kept))
 
   -- what leads on from the cells below the key
-  pub next_is : AreCells level (side Less key cells) → lead_from (last_of made.cells.cells) (leads.lead_of made.next) ≡ lead_from (last_of (side Less key cells)) lead
-  next_is valid = ap₂ (λ xs l. lead_from (last_of xs) l) (low_is valid) h.next ∙ lead_on (cells_in h.stay) (side Less key gone) lead ∙ ap (λ xs. lead_from (last_of xs) lead) (sym lows_are)
+  pub next_is : AreCells level (side Less key cells) → lead_from (last_of made.cells.cells) (leads.model_lead made.next) ≡ lead_from (last_of (side Less key cells)) lead
+  next_is valid = ap₂ (λ xs l. lead_from (last_of xs) l) (low_is valid) h.next ∙ lead_on (cells_gathered h.stay) (side Less key gone) lead ∙ ap (λ xs. lead_from (last_of xs) lead) (sym lows_are)
 
   -- other cells behind them
   pub goes_with : (more news : List Cell) (others : NewCells) → AreCells level (side Less key cells) → news ≡ side Less key cells ++ more → others.kept ≡ made.kept → others.count ≡ made.count → others.cells.cells ≡ made.cells.cells ++ more → IsRenewed level lead cells news others
   goes_with more news others valid news_are kept count are =
       renewed_to_end level lead cells h.stay h.gone news others h.parts (are_full level lead key [] cells h.stay h.kept) (kept ∙ h.kept_is) (count ∙ h.count_is)
-      (news_are ∙ ap (λ xs. xs ++ more) lows_are ∙ append_assoc (cells_in h.stay) (side Less key gone) more ∙ ap (λ xs. cells_in h.stay ++ (xs ++ more)) (sym (low_is valid)) ∙ ap (λ xs. cells_in h.stay ++ xs) (sym are))
+      (news_are ∙ ap (λ xs. xs ++ more) lows_are ∙ append_assoc (cells_gathered h.stay) (side Less key gone) more ∙ ap (λ xs. cells_gathered h.stay ++ (xs ++ more)) (sym (low_is valid)) ∙ ap (λ xs. cells_gathered h.stay ++ xs) (sym are))
 
   -- they are changed, unless all cells are where they were
   pub goes_to : (news : List Cell) (others : NewCells) (moved : Bool) → others.cells.level ≡ level → others.kept + others.count ≤ length (group_pages level lead cells) → IsRenewed level lead cells news others → (moved ≡ false → cells ≡ news)
@@ -133,14 +133,14 @@ none_behind xs (y ∷ ys) zs is few = absurd (omega (arith, ap length is, length
 
 module _ (old mid : PagesState) (level : ℕ) (lead : Lead) (key : List ℕ) (own start : List Cell) (made : NewCells) (above : CellList) (same : made.cells.level ≡ level) (read : IsGroupParted {T = Unit {0}} old mid level lead key start made above.cells (Ok (tt {0})))
     (few : length start ≤ length own) where
-  pub room_to_split : (IsObservable old → HasRoom old.pages level lead) → IsObservable mid → maps.len mid.pages + (made.count + length made.cells.cells) < most_pages
+  pub room_to_split : (IsObservable old → PagesHaveRoom old.pages level lead) → IsObservable mid → maps.len mid.pages + (made.count + length made.cells.cells) < most_pages
   room_to_split room o =
       let h = room (read.hidden o) in
       let r = read.observed (read.hidden o) in
       let p = r.found h.cells h.holds (omega (arith, h.few)) in
       omega (arith, whole level lead key h.cells start made above.cells p, few_lows level lead key h.cells start made above.cells p, h.few, few_group_pages level lead h.cells, ap maps.len r.unchanged, h.room)
 
-  pub room_behind : {T : Type 0} (between : PagesState) (unit : T) (moved : Bool) → length own ≤ 1 → (IsObservable old → HasRoom old.pages level lead) → IsRunChange mid between lead made.kept made.count made.cells (cond moved (run_past made) 0) (Ok unit)
+  pub room_behind : {T : Type 0} (between : PagesState) (unit : T) (moved : Bool) → length own ≤ 1 → (IsObservable old → PagesHaveRoom old.pages level lead) → IsRunChange mid between lead made.kept made.count made.cells (cond moved (run_past made) 0) (Ok unit)
       → IsObservable between → maps.len between.pages + (0 + length above.cells) < most_pages
   room_behind between unit moved one room write o =
       let seen = write.hidden o in
@@ -163,7 +163,7 @@ module _ (old mid : PagesState) (level : ℕ) (lead : Lead) (key : List ℕ) (ow
       )
 
   pub group_split : {T S : Type 0} (between new : PagesState) (unit : T) (unit' : S) (moved : Bool) (past : ℕ) (next : declared.Lead) → above.level ≡ level → (AreCells level (side Equal key own) → start ≡ side Equal key own) → (moved ≡ false → length above.cells ≤ length start)
-      → past ≡ max 0 (length (runs (page_room above.level) above.cells)) → leads.lead_of next ≡ lead_from (last_of made.cells.cells) (leads.lead_of made.next)
+      → past ≡ max 0 (length (runs (page_room above.level) above.cells)) → leads.model_lead next ≡ lead_from (last_of made.cells.cells) (leads.model_lead made.next)
       → IsRunChange mid between lead made.kept made.count made.cells (cond moved (run_past made) 0) (Ok unit) → IsRunChange between new (Leader key) 0 0 above past (Ok unit') → SplitsGroup old new level lead key own (Ok next)
   group_split between new unit unit' moved past next same' added still past_is next_leads write write' = record {
     call = record {
@@ -231,7 +231,7 @@ module _ (old mid read_all : PagesState) (level : ℕ) (lead : Lead) (key : List
   abbrev joined : NewCells
   joined = record { next = lows.next; kept = lows.kept; count = lows.count; cells = above }
 
-  pub room_to_drop : (count : ℕ) (empty : List Cell) → count ≡ highs.kept + highs.count → empty ≡ [] → (IsObservable old → HasRoom old.pages level (Leader key)) → IsObservable read_all → maps.len read_all.pages + (count + length empty) < most_pages
+  pub room_to_drop : (count : ℕ) (empty : List Cell) → count ≡ highs.kept + highs.count → empty ≡ [] → (IsObservable old → PagesHaveRoom old.pages level (Leader key)) → IsObservable read_all → maps.len read_all.pages + (count + length empty) < most_pages
   room_to_drop count empty count_is empty_is room o =
       let seen = read'.hidden o in
       let h = room (read.hidden seen) in
@@ -241,7 +241,7 @@ module _ (old mid read_all : PagesState) (level : ℕ) (lead : Lead) (key : List
       omega (arith, count_is, ap length empty_is, whole level (Leader key) key h.cells lows.cells.cells highs above.cells p, h.few, few_group_pages level (Leader key) h.cells, ap maps.len r.unchanged, ap maps.len r'.unchanged, h.room)
 
   module _ {T : Type 0} (between : PagesState) (unit : T) (count past : ℕ) (empty : CellList) (count_is : count ≡ highs.kept + highs.count) (empty_is : empty.cells ≡ []) (past_is : past ≡ max count (length (runs (page_room empty.level) empty.cells))) (write : IsRunChange read_all between (Leader key) 0 count empty past (Ok unit)) where
-    pub room_to_join : (IsObservable old → HasRoom old.pages level lead) → (IsObservable old → HasRoom old.pages level (Leader key)) → IsObservable between → maps.len between.pages + (lows.count + length above.cells) < most_pages
+    pub room_to_join : (IsObservable old → PagesHaveRoom old.pages level lead) → (IsObservable old → PagesHaveRoom old.pages level (Leader key)) → IsObservable between → maps.len between.pages + (lows.count + length above.cells) < most_pages
     room_to_join room own_room o =
         let seen' = write.hidden o in
         let seen = read'.hidden seen' in
@@ -271,7 +271,7 @@ module _ (old mid read_all : PagesState) (level : ℕ) (lead : Lead) (key : List
           h.room,
         )
 
-    pub groups_joined : {S : Type 0} (new : PagesState) (unit' : S) (moved : Bool) (next : declared.Lead) → empty.level ≡ level → (moved ≡ false → length above.cells ≤ length lows.cells.cells) → leads.lead_of next ≡ lead_from (last_of lows.cells.cells) (leads.lead_of lows.next)
+    pub groups_joined : {S : Type 0} (new : PagesState) (unit' : S) (moved : Bool) (next : declared.Lead) → empty.level ≡ level → (moved ≡ false → length above.cells ≤ length lows.cells.cells) → leads.model_lead next ≡ lead_from (last_of lows.cells.cells) (leads.model_lead lows.next)
         → IsRunChange between new lead lows.kept lows.count above (cond moved (run_past joined) 0) (Ok unit') → JoinsGroups old new level lead key (Ok next)
     groups_joined new unit' moved next same'' still next_leads write' = record {
       call = record {
@@ -295,8 +295,8 @@ module _ (old mid read_all : PagesState) (level : ℕ) (lead : Lead) (key : List
           let news_is : news ≡ below ++ more = ap (λ xs. xs ++ more) (append-nil below) in
           let all : AreCells level (below ++ more) = subst (AreCells level) news_is h.valid in
           let valid = front_cells level below more all in
-          let stay = cells_in p.stay in
-          let gone = side Less key (cells_in p.gone) in
+          let stay = cells_gathered p.stay in
+          let gone = side Less key (cells_gathered p.gone) in
           let rest = back_cells level stay (gone ++ more) (subst (AreCells level) (ap (λ xs. xs ++ more) (lows_are level lead key low none lows passed p) ∙ append_assoc stay gone more) all) in
           let above_are = above_is level (Leader key) key high lows.cells.cells highs above.cells p' (subst (λ xs. AreCells level (xs ++ more)) (sym (low_is level lead key low none lows passed p valid)) rest) in
           let within : lows.kept + lows.count ≤ length low_pages = omega (arith, whole level lead key low none lows passed p) in

@@ -10,7 +10,7 @@ use Rattle.store_model.specs.Pairs.{Pair, IsValue}
 use Rattle.store_model.proofs.ListsLemmasCuts.{length-filter-le}
 use Rattle.node_pages.specs.PagesState.{PagesState, IsObservable}
 use Rattle.skip_levels.specs.declared.search.PathEnd.{PathEnd}
-use Rattle.skip_levels.specs.Descent.{HoldsPairs, IsKnown}
+use Rattle.skip_levels.specs.Descent.{HoldsPairs, IsKnownGroup}
 use Rattle.skip_levels.specs.PagePairs.{pairs_of_map, list_over, IsHeld}
 use Rattle.ordered_pairs.specs.PairsState.{most_pairs, without, IsPairPut, IsPairTake}
 use Rattle.skip_levels.specs.PairChanges.{PutsPairIn, TakesPairIn}
@@ -47,8 +47,8 @@ module _ (d : Draw) (old new : PagesState) (key : List ℕ) (is_whole : Bool) (w
     pub whole_behind_put : IsObservable new → HoldsPairs d (pairs_of_map new.pages) new.pages
     whole_behind_put o = holds_its_pairs d (put key_cmp key value s) new.pages (put_holds (call.call.hidden o))
 
-    pub known_behind_put : IsObservable new → IsKnown d (pairs_of_map new.pages) known
-    known_behind_put n = let o = call.call.hidden n in subst (λ pairs. IsKnown d pairs known) (sym (holds_own d (put key_cmp key value s) new.pages (put_holds o))) (call.known o)
+    pub known_behind_put : IsObservable new → IsKnownGroup d (pairs_of_map new.pages) known
+    known_behind_put n = let o = call.call.hidden n in subst (λ pairs. IsKnownGroup d pairs known) (sym (holds_own d (put key_cmp key value s) new.pages (put_holds o))) (call.known o)
 
     pub list_put : IsPairPut (list_over d is_whole old) (list_over d true new) key value (Ok unit)
     list_put = record {
@@ -75,8 +75,8 @@ module _ (d : Draw) (old new : PagesState) (key : List ℕ) (is_whole : Bool) (w
     pub whole_behind_take : IsObservable new → HoldsPairs d (pairs_of_map new.pages) new.pages
     whole_behind_take o = holds_its_pairs d (without key s) new.pages (take_holds (call.call.hidden o))
 
-    pub known_behind_take : IsObservable new → IsKnown d (pairs_of_map new.pages) known
-    known_behind_take n = let o = call.call.hidden n in subst (λ pairs. IsKnown d pairs known) (sym (holds_own d (without key s) new.pages (take_holds o))) (call.known o)
+    pub known_behind_take : IsObservable new → IsKnownGroup d (pairs_of_map new.pages) known
+    known_behind_take n = let o = call.call.hidden n in subst (λ pairs. IsKnownGroup d pairs known) (sym (holds_own d (without key s) new.pages (take_holds o))) (call.known o)
 
     pub list_taken : IsPairTake (list_over d is_whole old) (list_over d true new) key (Ok value)
     list_taken = record {
@@ -93,5 +93,5 @@ module _ (d : Draw) (old new : PagesState) (same : new.pages ≡ old.pages) (hel
   pub whole_still : HoldsPairs d (pairs_of_map new.pages) new.pages
   whole_still = subst (λ m. HoldsPairs d (pairs_of_map m) m) (sym same) held
 
-  pub known_still : (known : Option PathEnd) → IsKnown d (pairs_of_map old.pages) known → IsKnown d (pairs_of_map new.pages) known
-  known_still known right = subst (λ m. IsKnown d (pairs_of_map m) known) (sym same) right
+  pub known_still : (known : Option PathEnd) → IsKnownGroup d (pairs_of_map old.pages) known → IsKnownGroup d (pairs_of_map new.pages) known
+  known_still known right = subst (λ m. IsKnownGroup d (pairs_of_map m) known) (sym same) right

@@ -5,7 +5,7 @@ use Rattle.std.specs.Option.{option_or}
 use Rattle.store_base.specs.declared.store_fault.Fault.{Fault}
 use Rattle.store_base.specs.Faults.{disk_faults_after}
 use Rattle.store_base.specs.declared.label.Lead as declared
-use Rattle.store_base.specs.Leads.{lead_of}
+use Rattle.store_base.specs.Leads.{model_lead}
 use Rattle.store_model.specs.Paths.{key_cmp}
 use Rattle.store_model.specs.Draws.{Draw}
 use Rattle.store_model.specs.Labels.{Lead}
@@ -96,7 +96,7 @@ module _ (old mid : PagesState) (height : ℕ) (known : Option PathEnd) (key : L
     lookups = λ d s held. omega (arith, n.lookups d s held, path_within d s key 1 height held.high some);
   })
 
-  module _ (new : PagesState) (lead : declared.Lead) (h : IsPlaceSearch old mid height known 0 key behind (Ok lead)) (at : Lead) (is_lead : at ≡ lead_of lead) (here : Option Pair) where
+  module _ (new : PagesState) (lead : declared.Lead) (h : IsPlaceSearch old mid height known 0 key behind (Ok lead)) (at : Lead) (is_lead : at ≡ model_lead lead) (here : Option Pair) where
     leads : FindsLead old mid height known 0 key behind (Ok lead) → (d : Draw) (s : List Pair) → IsSearched d s old.pages height known → at ≡ leader_behind d 0 (not_above key s)
     leads n d s held = is_lead ∙ n.lead d s held
 

@@ -14,7 +14,7 @@ use Rattle.skip_groups.specs.Floors.{last_of, lead_from}
 use Rattle.skip_groups.specs.Groups.{HoldsGroup}
 use Rattle.skip_groups.specs.GroupCells.{AreCells, side, merged}
 use Rattle.skip_groups.specs.GroupChanges.{IsChange}
-use Rattle.skip_levels.specs.CellChanges.{HasRoom, IsSetting, IsSplitting, IsJoining}
+use Rattle.skip_levels.specs.CellChanges.{PagesHaveRoom, IsSetting, IsSplitting, IsJoining}
 use Rattle.skip_levels.specs.SearchPath.{leader_behind}
 use Rattle.skip_levels.proofs.Around.{last_part}
 use Rattle.skip_levels.proofs.Descents.{lead_of_last_part}
@@ -50,7 +50,7 @@ pub record SetsAt (m : PageMap) (d : Draw) (level : ℕ) (lead : Lead) (s t : Li
   pub setting : IsSetting m level lead cells (merged key cells own cells) front back
   pub after : front ++ (group_pages level lead (merged key cells own cells) ++ back) ≡ pages_between d s t level
   pub next : (lower : ℕ) → level ≡ suc lower → leader_behind d lower low ≡ lead_from (last_of (side Less key cells)) lead
-  pub room : HasRoom m level lead
+  pub room : PagesHaveRoom m level lead
 
 -- a level below it, cut in two
 pub record SplitsAt (m : PageMap) (d : Draw) (level : ℕ) (lead : Lead) (s t : List Pair) (key : List ℕ) (own : List Cell) (low high : List Pair) : Type 0 where
@@ -61,7 +61,7 @@ pub record SplitsAt (m : PageMap) (d : Draw) (level : ℕ) (lead : Lead) (s t : 
   pub splitting : IsSplitting m level lead key own cells front back
   pub after : front ++ (group_pages level lead (merged key cells [] []) ++ (group_pages level (Leader key) (merged key [] own cells) ++ back)) ≡ pages_between d s t level
   pub next : (lower : ℕ) → level ≡ suc lower → leader_behind d lower low ≡ lead_from (last_of (side Less key cells)) lead
-  pub room : HasRoom m level lead
+  pub room : PagesHaveRoom m level lead
 
 -- a level below it, joined
 pub record JoinsAt (m : PageMap) (d : Draw) (level : ℕ) (lead : Lead) (s t : List Pair) (key : List ℕ) (low high : List Pair) (y : Pair) : Type 0 where
@@ -74,8 +74,8 @@ pub record JoinsAt (m : PageMap) (d : Draw) (level : ℕ) (lead : Lead) (s t : L
   pub joining : IsJoining m level lead key lows highs front back
   pub after : front ++ (group_pages level lead (merged key lows [] highs) ++ back) ≡ pages_between d s t level
   pub next : (lower : ℕ) → level ≡ suc lower → leader_behind d lower low ≡ lead_from (last_of (side Less key lows)) lead
-  pub room : HasRoom m level lead
-  pub own_room : HasRoom m level (Leader key)
+  pub room : PagesHaveRoom m level lead
+  pub own_room : PagesHaveRoom m level (Leader key)
 
 -- what leads the group of the next lower level
 pub next_of_part : (d : Draw) (level : ℕ) (low high : List Pair) (y : Pair) (cells : List Cell) → cells ≡ part d level low high y → (lower : ℕ) → level ≡ suc lower → leader_behind d lower low ≡ lead_from (last_of cells) (leader_behind d level low)

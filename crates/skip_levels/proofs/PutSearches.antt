@@ -7,7 +7,7 @@ use Rattle.std.specs.Cmp.{tied_itself}
 use Rattle.std.specs.Cmp.Lexicographic.{nat_list_cmp_total}
 use Rattle.store_base.specs.declared.store_fault.Fault.{Fault}
 use Rattle.store_base.specs.declared.label.Lead as declared
-use Rattle.store_base.specs.Leads.{lead_of}
+use Rattle.store_base.specs.Leads.{model_lead}
 use Rattle.store_base.specs.declared.label.Lead.TheVariants as leads
 use Rattle.store_model.specs.Paths.{key_cmp}
 use Rattle.store_model.specs.Draws.{Draw}
@@ -20,7 +20,7 @@ use Rattle.node_pages.specs.PagesState.{PagesState}
 use Rattle.skip_levels.specs.declared.search.PathEnd.{PathEnd}
 use Rattle.skip_levels.specs.declared.put_place.PutPlace.{PutPlace}
 use Rattle.skip_levels.specs.SearchPath.{last_lead, leader_behind, not_above, below, path_cost}
-use Rattle.skip_levels.specs.Descent.{HoldsPairs, IsKnown, IsSearched, FindsLead, IsPlaceSearch, lead_known}
+use Rattle.skip_levels.specs.Descent.{HoldsPairs, IsKnownGroup, IsSearched, FindsLead, IsPlaceSearch, lead_known}
 use Rattle.skip_levels.specs.PairChanges.{IsNew, IsThere}
 use Rattle.skip_levels.specs.PutPlaces.{IsPutPlace, IsPutSearch, is_leader}
 use Rattle.skip_levels.proofs.NextPairs.{pair_leads}
@@ -98,10 +98,10 @@ leader_is key (Leader k) e = ap Leader (sym (same_key k key (equal (key_cmp k ke
     equal Greater h = absurd (cc)
 
 module _ (d : Draw) (old new : PagesState) (known : Option PathEnd) (key : List ℕ) (behind : Option PathEnd) (height : ℕ) (high : height ≡ d.height) (some : 1 ≤ height) where
-  held : (s : List Pair) → HoldsPairs d s old.pages → IsKnown d s known → IsSearched d s old.pages height known
+  held : (s : List Pair) → HoldsPairs d s old.pages → IsKnownGroup d s known → IsSearched d s old.pages height known
   held s holds right = record { holds = holds; high = high; right = right }
 
-  within_path : {top : ℕ} {result : Result declared.Lead Fault} → FindsLead old new height known top key behind result → (s : List Pair) → HoldsPairs d s old.pages → IsKnown d s known → new.lookups ≤ old.lookups + path_cost d s key
+  within_path : {top : ℕ} {result : Result declared.Lead Fault} → FindsLead old new height known top key behind result → (s : List Pair) → HoldsPairs d s old.pages → IsKnownGroup d s known → new.lookups ≤ old.lookups + path_cost d s key
   within_path n s holds right = omega (arith, n.lookups d s (held s holds right), path_within d s key 1 height high some)
 
   pub no_put_place : (top : ℕ) (fault : Fault) → IsPlaceSearch old new height known top key behind (Err fault) → IsPutSearch d old new known key behind (Err fault)
@@ -132,9 +132,9 @@ module _ (d : Draw) (old new : PagesState) (known : Option PathEnd) (key : List 
     }
 
     -- on level 0 a key that is there and one that is new are put alike
-    pub place_of_lowest : (first : declared.Lead) → top ≡ 0 → lead_of first ≡ lead_of lead → IsPutSearch d old new known key behind (Ok (record { top = 0; lead = first }))
+    pub place_of_lowest : (first : declared.Lead) → top ≡ 0 → model_lead first ≡ model_lead lead → IsPutSearch d old new known key behind (Ok (record { top = 0; lead = first }))
     place_of_lowest first lowest is = put_place (record { top = 0; lead = first }) (λ n s h.
-        record { lead = is ∙ subst (λ k. lead_of lead ≡ leader_behind d k (not_above key s)) lowest (n.lead d s h); own = by_value s (find key_cmp key s) refl })
+        record { lead = is ∙ subst (λ k. model_lead lead ≡ leader_behind d k (not_above key s)) lowest (n.lead d s h); own = by_value s (find key_cmp key s) refl })
       where
         by_value : (s : List Pair) (o : Option (List ℕ)) → find key_cmp key s ≡ o → IsNew d s key 0 ⊎ IsThere s key 0
         by_value s None none = inl (record { lacks = none; own = sym lowest ∙ own })

@@ -18,8 +18,8 @@ use Rattle.skip_groups.specs.declared.new_cells.NewCells.{NewCells}
 use Rattle.skip_groups.specs.GroupCells.{merged}
 use Rattle.skip_groups.specs.Groups.{label_of}
 use Rattle.skip_groups.specs.Insertions.{IsPlaceRead, with_place}
-use Rattle.skip_groups.specs.GroupChanges.{changed_pages, IsChange, IsRun, IsRunChange}
-use Rattle.skip_levels.specs.CellChanges.{HasRoom, SetsCells}
+use Rattle.skip_groups.specs.GroupChanges.{changed_pages, IsChange, IsCellRun, IsRunChange}
+use Rattle.skip_levels.specs.CellChanges.{PagesHaveRoom, SetsCells}
 use Rattle.skip_groups.specs.NewCells.{IsRenewed, IsNewCellsRead}
 use Rattle.skip_groups.proofs.GroupEnds.{few_group_pages}
 use Rattle.skip_groups.proofs.NewCellsSteps.{below_or_not}
@@ -60,7 +60,7 @@ module _ (level : ℕ) (lead : Lead) (cells others : List Cell) (made : NewCells
   taken : take made.kept news ≡ take made.kept olds
   taken = ap (take made.kept) m.pages ∙ subst (λ n. take n (take made.kept olds ++ (fresh ++ rest)) ≡ take made.kept olds) stay_long (take-append_seam (take made.kept olds) (fresh ++ rest))
 
-  pub is_run : IsRun lead made.kept made.count made.cells olds news
+  pub is_run : IsCellRun lead made.kept made.count made.cells olds news
   is_run = record {
     start = ap (λ ps. ps ++ drop made.kept olds) taken ∙ take-append-drop made.kept olds;
     put = λ i page there.
@@ -97,7 +97,7 @@ module _ (level : ℕ) (lead : Lead) (cells others : List Cell) (made : NewCells
 -- ---- the calls
 
 module _ (old mid : PagesState) (level : ℕ) (lead : Lead) (key : List ℕ) (own : List Cell) (made : NewCells) {S : Type 0} (answer : S) (same : made.cells.level ≡ level) (read : IsNewCellsRead {T = S} old mid level lead key own made (Ok answer)) where
-  pub room_to_change : length own ≤ 1 → (IsObservable old → HasRoom old.pages level lead) → IsObservable mid → maps.len mid.pages + (made.count + length made.cells.cells) < most_pages
+  pub room_to_change : length own ≤ 1 → (IsObservable old → PagesHaveRoom old.pages level lead) → IsObservable mid → maps.len mid.pages + (made.count + length made.cells.cells) < most_pages
   room_to_change one room o =
       let h = room (read.hidden o) in
       let r = read.observed (read.hidden o) in

@@ -5,7 +5,7 @@ use Rattle.store_base.specs.declared.store_fault.Fault.{Fault}
 use Rattle.std.specs.declared.cmp.Ordering.TheVariants.{Less, Greater}
 use Rattle.store_base.specs.declared.label.Lead as declared
 use Rattle.store_base.specs.Faults.{disk_faults_after}
-use Rattle.store_base.specs.Leads.{lead_of}
+use Rattle.store_base.specs.Leads.{model_lead}
 use Rattle.store_model.specs.Labels.{Lead}
 use Rattle.store_model.specs.Labels.Lead.{Leader}
 use Rattle.store_model.specs.Pages.{Cell, Page, group_pages}
@@ -29,7 +29,7 @@ abbrev pub most_list_pages : ℕ
 most_list_pages = 2147483648
 
 -- a group that the map holds can be changed: there are so few pages that its new ones have room
-pub record HasRoom (m : PageMap) (level : ℕ) (lead : Lead) : Type 0 where
+pub record PagesHaveRoom (m : PageMap) (level : ℕ) (lead : Lead) : Type 0 where
   pub cells : List Cell
   pub holds : HoldsGroup m level lead cells
   pub few : length cells ≤ most_pairs
@@ -38,7 +38,7 @@ pub record HasRoom (m : PageMap) (level : ℕ) (lead : Lead) : Type 0 where
 -- what a change of a level leaves: these pages, and what leads the group of the next lower level
 pub record IsLeft (m : PageMap) (pages : List Page) (low : List Cell) (lead : Lead) (next : declared.Lead) : Type 0 where
   pub pages_are : m ≡ map_of_pages pages
-  pub next_is : lead_of next ≡ lead_from (last_of low) lead
+  pub next_is : model_lead next ≡ lead_from (last_of low) lead
 
 -- cells of a group that the map holds between other pages, and those that they are to become
 pub record IsSetting (m : PageMap) (level : ℕ) (lead : Lead) (cells news : List Cell) (front back : List Page) : Type 0 where

@@ -6,7 +6,7 @@ use Rattle.store_base.specs.declared.label.Lead as declared
 use Rattle.store_base.specs.declared.label.Lead.TheVariants as leads
 use Rattle.skip_levels.specs.declared.search.PathEnd.{PathEnd}
 use Rattle.skip_levels.specs.declared.search.KeyPlace.{KeyPlace}
-use Rattle.store_base.specs.Leads.{lead_of}
+use Rattle.store_base.specs.Leads.{model_lead}
 use Rattle.std.specs.Ordering.{is_le, is_lt}
 use Rattle.store_model.specs.Paths.{key_cmp}
 use Rattle.store_model.specs.Labels.{Lead}
@@ -30,7 +30,7 @@ pub record HoldsPairs (d : Draw) (s : List Pair) (m : PageMap) : Type 0 where
 
 -- what is known at a level on the search path of a key: what leads the group of the level, and the next one of that level
 pub record IsPlace (d : Draw) (s : List Pair) (level : ℕ) (key : List ℕ) (place : PathEnd) : Type 0 where
-  pub lead : lead_of place.lead ≡ leader_behind d level (not_above key s)
+  pub lead : model_lead place.lead ≡ leader_behind d level (not_above key s)
   pub next : place.next ≡ leader_ahead d level (above key s)
 
 -- whether a key is at or above what leads a group, and below the next leader
@@ -44,7 +44,7 @@ is_before (Some leader) key = is_lt (key_cmp key leader)
 
 -- a key lies in a group of level 0, or would lie there
 pub record LiesIn (place : PathEnd) (key : List ℕ) : Type 0 where
-  pub from : is_from (lead_of place.lead) key ≡ true
+  pub from : is_from (model_lead place.lead) key ≡ true
   pub before : is_before place.next key ≡ true
 
 -- a key lies in the group of level 0 that is known
@@ -53,15 +53,15 @@ LiesInKnown None key = ⊥
 LiesInKnown (Some place) key = LiesIn place key
 
 -- what is known of a group of level 0, if anything is: that it is the place of each key that lies in it
-abbrev pub IsKnown : Draw → List Pair → Option PathEnd → Type 0
-IsKnown d s None = Unit {0}
-IsKnown d s (Some place) = (key : List ℕ) → LiesIn place key → IsPlace d s 0 key place
+abbrev pub IsKnownGroup : Draw → List Pair → Option PathEnd → Type 0
+IsKnownGroup d s None = Unit {0}
+IsKnownGroup d s (Some place) = (key : List ℕ) → LiesIn place key → IsPlace d s 0 key place
 
 -- the map is that of the pages of a list under a draw of this height, and what is known is right of that list
 pub record IsSearched (d : Draw) (s : List Pair) (m : PageMap) (height : ℕ) (known : Option PathEnd) : Type 0 where
   pub holds : HoldsPairs d s m
   pub high : height ≡ d.height
-  pub right : IsKnown d s known
+  pub right : IsKnownGroup d s known
 
 -- what leads the group of level 0 that is known, and what leads the next one
 abbrev pub lead_in : Option PathEnd → declared.Lead
@@ -69,7 +69,7 @@ lead_in None = leads.Start
 lead_in (Some place) = place.lead
 
 abbrev pub lead_known : Option PathEnd → Lead
-lead_known known = lead_of (lead_in known)
+lead_known known = model_lead (lead_in known)
 
 abbrev pub next_known : Option PathEnd → Option (List ℕ)
 next_known None = None
@@ -122,9 +122,9 @@ placed behind (Err fault) = Err fault
 pub record FindsLead (old new : PagesState) (height : ℕ) (known : Option PathEnd) (top : ℕ) (key : List ℕ) (behind : Option PathEnd) (result : Result declared.Lead Fault) : Type 0 where
   pub observable : IsObservable new
   pub unchanged : new.pages ≡ old.pages
-  pub lead : (d : Draw) (s : List Pair) → IsSearched d s old.pages height known → IfOk result (λ lead. lead_of lead ≡ leader_behind d top (not_above key s))
+  pub lead : (d : Draw) (s : List Pair) → IsSearched d s old.pages height known → IfOk result (λ lead. model_lead lead ≡ leader_behind d top (not_above key s))
   pub place : (d : Draw) (s : List Pair) → IsSearched d s old.pages height known → IfOk result (λ lead. IsAt d s key behind)
-  pub right : (d : Draw) (s : List Pair) → IsSearched d s old.pages height known → IsKnown d s behind
+  pub right : (d : Draw) (s : List Pair) → IsSearched d s old.pages height known → IsKnownGroup d s behind
   pub lookups : (d : Draw) (s : List Pair) → IsSearched d s old.pages height known → new.lookups ≤ old.lookups + levels_cost d s key 1 (height - 1)
 
 -- a search for what leads the group of a level, and for the place on level 0, on the search path of the key; at level 0 the answer leads the group that is then known
@@ -133,7 +133,7 @@ IsPlaceSearch old new height known top key behind result = IsPagesRead old new (
 
 -- the group of a level on the search path of a key, and its value
 pub record IsKeyPlace (d : Draw) (s : List Pair) (top : ℕ) (key : List ℕ) (place : KeyPlace) : Type 0 where
-  pub lead : lead_of place.lead ≡ leader_behind d top (not_above key s)
+  pub lead : model_lead place.lead ≡ leader_behind d top (not_above key s)
   pub value : place.value ≡ find key_cmp key s
 
 -- what a search for the place of a key leaves of observable pages, and what is then known
@@ -142,7 +142,7 @@ pub record FindsKeyPlace (old new : PagesState) (height : ℕ) (known : Option P
   pub unchanged : new.pages ≡ old.pages
   pub found : (d : Draw) (s : List Pair) → IsSearched d s old.pages height known → IfOk result (IsKeyPlace d s top key)
   pub place : (d : Draw) (s : List Pair) → IsSearched d s old.pages height known → IfOk result (λ found. IsAt d s key behind)
-  pub right : (d : Draw) (s : List Pair) → IsSearched d s old.pages height known → IsKnown d s behind
+  pub right : (d : Draw) (s : List Pair) → IsSearched d s old.pages height known → IsKnownGroup d s behind
   pub lookups : (d : Draw) (s : List Pair) → IsSearched d s old.pages height known → new.lookups ≤ old.lookups + path_cost d s key
 
 -- a search for the place of a key, in pages of lists of this height

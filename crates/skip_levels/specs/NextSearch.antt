@@ -11,7 +11,7 @@ use Rattle.skip_groups.specs.Groups.{HoldsGroup}
 use Rattle.ordered_pairs.specs.PairsState.{next_pair}
 use Rattle.skip_levels.specs.SearchPath.{path_cost}
 use Rattle.skip_groups.specs.Searches.{IsPagesRead}
-use Rattle.skip_levels.specs.Descent.{IsKnown, IsSearched}
+use Rattle.skip_levels.specs.Descent.{IsKnownGroup, IsSearched}
 use Rattle.skip_levels.specs.declared.search.PathEnd.{PathEnd}
 use Rattle.skip_groups.specs.Floors.{pair_in}
 
@@ -34,7 +34,7 @@ pub record FindsNext (old new : PagesState) (height : ℕ) (known : Option PathE
   pub observable : IsObservable new
   pub unchanged : new.pages ≡ old.pages
   pub found : (d : Draw) (s : List Pair) → IsSearched d s old.pages height known → IfOk result (λ pair. pair ≡ next_pair key s)
-  pub right : (d : Draw) (s : List Pair) → IsSearched d s old.pages height known → IsKnown d s behind
+  pub right : (d : Draw) (s : List Pair) → IsSearched d s old.pages height known → IsKnownGroup d s behind
   pub lookups : (d : Draw) (s : List Pair) → IsSearched d s old.pages height known → new.lookups ≤ old.lookups + path_cost d s key + 1
 
 -- a search for the first pair whose key is not below the given one, in pages of lists of this height

@@ -7,7 +7,7 @@ use Rattle.store_model.specs.Pages.{Cell, Page}
 use Rattle.store_model.specs.PageMaps.{PageMap, pages_of_map}
 use Rattle.node_pages.specs.PagesState.{PagesState, IsObservable}
 use Rattle.ordered_pairs.specs.PairsState.{PairsState}
-use Rattle.skip_levels.specs.Descent.{HoldsPairs, IsKnown}
+use Rattle.skip_levels.specs.Descent.{HoldsPairs, IsKnownGroup}
 use Rattle.skip_levels.specs.declared.search.PathEnd.{PathEnd}
 
 -- the pair of a cell, if it has a value
@@ -38,4 +38,4 @@ list_over d is_whole pages = record { is_observable = IsHeld d is_whole pages; p
 -- What a list over pages keeps: where it is whole and they mean something, they hold its pairs, and what is known is right of these.
 pub record KeepsList (d : Draw) (is_whole : Bool) (pages : PagesState) (known : Option PathEnd) : Type 0 where
   pub whole : IsTrue is_whole → IsObservable pages → HoldsPairs d (pairs_of_map pages.pages) pages.pages
-  pub place : IsTrue is_whole → IsObservable pages → IsKnown d (pairs_of_map pages.pages) known
+  pub place : IsTrue is_whole → IsObservable pages → IsKnownGroup d (pairs_of_map pages.pages) known

@@ -10,7 +10,7 @@ use Rattle.store_model.specs.Pages.{pages_of_pairs}
 use Rattle.store_model.specs.PageMaps.{PageMap, map_of_pages}
 use Rattle.node_pages.specs.PagesState.{PagesState, IsObservable}
 use Rattle.skip_levels.specs.CellChanges.{IsPagesCall}
-use Rattle.skip_levels.specs.Descent.{HoldsPairs, IsKnown}
+use Rattle.skip_levels.specs.Descent.{HoldsPairs, IsKnownGroup}
 use Rattle.skip_levels.specs.declared.search.PathEnd.{PathEnd}
 use Rattle.skip_levels.specs.PagePairs.{pairs_of_map}
 use Rattle.ordered_pairs.specs.PairsState.{most_pairs, without}
@@ -57,7 +57,7 @@ pub record TakesPairFrom {T : Type 0} (old new : PagesState) (top : ℕ) (lead :
 -- a value put under a key of the list that the pages hold, and what is then known
 pub record PutsPairIn {T : Type 0} (d : Draw) (old new : PagesState) (key value : List ℕ) (behind : Option PathEnd) (result : Result T Fault) : Type 0 where
   pub call : IsPagesCall old new result
-  pub known : IsObservable old → OnOk result (IsKnown d (put key_cmp key value (pairs_of_map old.pages)) behind)
+  pub known : IsObservable old → OnOk result (IsKnownGroup d (put key_cmp key value (pairs_of_map old.pages)) behind)
   pub put : IsObservable old → OnOk result (new.pages ≡ map_of_pages (pages_of_pairs d (put key_cmp key value (pairs_of_map old.pages))))
   pub lookups : IsObservable old → new.lookups ≤ old.lookups + (path_cost d (pairs_of_map old.pages) key + low_cost d (pairs_of_map old.pages) key)
 
@@ -66,5 +66,5 @@ pub record TakesPairIn (d : Draw) (old new : PagesState) (key : List ℕ) (behin
   pub call : IsPagesCall old new result
   pub found : IsObservable old → IfOk result (λ value. value ≡ find key_cmp key (pairs_of_map old.pages))
   pub taken : IsObservable old → OnOk result (new.pages ≡ map_of_pages (pages_of_pairs d (without key (pairs_of_map old.pages))))
-  pub known : IsObservable old → OnOk result (IsKnown d (without key (pairs_of_map old.pages)) behind)
+  pub known : IsObservable old → OnOk result (IsKnownGroup d (without key (pairs_of_map old.pages)) behind)
   pub lookups : IsObservable old → new.lookups ≤ old.lookups + (path_cost d (pairs_of_map old.pages) key + (low_cost d (pairs_of_map old.pages) key + path_cost_below d (pairs_of_map old.pages) key))

@@ -1,13 +1,13 @@
 //! A change of one pair in the pages of a list, level after level from the highest one that changes.
 
 ghost use Rattle.std.specs.Prelude.{◌≡◌, ◌<◌, List, length, IfOk};
-ghost use Rattle.store_base.specs.Leads.{lead_of};
+ghost use Rattle.store_base.specs.Leads.{model_lead};
 ghost use Rattle.store_model.specs.Draws as draws;
 ghost use Rattle.store_model.specs.Pairs.{Pair};
 ghost use Rattle.store_model.specs.Pages as model;
 ghost use Rattle.node_pages.specs.PagesState.{IsObservable};
 ghost use Rattle.ordered_pairs.specs.PairsState.{most_pairs};
-ghost use Rattle.skip_levels.specs.Descent.{HoldsPairs, IsKnown};
+ghost use Rattle.skip_levels.specs.Descent.{HoldsPairs, IsKnownGroup};
 ghost use Rattle.skip_levels.specs.PagePairs.{pairs_of_map};
 ghost use Rattle.skip_levels.specs.PairChanges.{IsPutting, IsTaking, PutsPairFrom, TakesPairFrom, PutsPairIn, TakesPairIn};
 
@@ -39,8 +39,8 @@ fn put_lowest<P: Pages>(
     key: &Key,
     value: Value,
 ) -> Result<(), Fault>
-    requires { IsObservable (P.state pages.old) → (d : draws.Draw) × (s : List Pair) × IsPutting d s (P.state pages.old).pages 0 (lead_of lead.now) key.now }
-    ensures call { PutsPairFrom (P.state pages.old) (P.state pages.new) 0 (lead_of lead.now) key.now value result }
+    requires { IsObservable (P.state pages.old) → (d : draws.Draw) × (s : List Pair) × IsPutting d s (P.state pages.old).pages 0 (model_lead lead.now) key.now }
+    ensures call { PutsPairFrom (P.state pages.old) (P.state pages.new) 0 (model_lead lead.now) key.now value result }
     ensures follows { P.follows pages.old pages.new }
 {
     let _ = key.as_bytes();
@@ -62,8 +62,8 @@ pub fn put_from<P: Pages>(
     key: &Key,
     value: &Value,
 ) -> Result<(), Fault>
-    requires { IsObservable (P.state pages.old) → (d : draws.Draw) × (s : List Pair) × IsPutting d s (P.state pages.old).pages top (lead_of lead.now) key.now }
-    ensures call { PutsPairFrom (P.state pages.old) (P.state pages.new) top (lead_of lead.now) key.now value.now result }
+    requires { IsObservable (P.state pages.old) → (d : draws.Draw) × (s : List Pair) × IsPutting d s (P.state pages.old).pages top (model_lead lead.now) key.now }
+    ensures call { PutsPairFrom (P.state pages.old) (P.state pages.new) top (model_lead lead.now) key.now value.now result }
     ensures follows { P.follows pages.old pages.new }
 {
     let _ = key.as_bytes();
@@ -89,8 +89,8 @@ pub fn take_from<P: Pages>(
     lead: &Lead,
     key: &Key,
 ) -> Result<(), Fault>
-    requires { IsObservable (P.state pages.old) → (d : draws.Draw) × (s : List Pair) × IsTaking d s (P.state pages.old).pages top (lead_of lead.now) key.now }
-    ensures call { TakesPairFrom (P.state pages.old) (P.state pages.new) top (lead_of lead.now) key.now result }
+    requires { IsObservable (P.state pages.old) → (d : draws.Draw) × (s : List Pair) × IsTaking d s (P.state pages.old).pages top (model_lead lead.now) key.now }
+    ensures call { TakesPairFrom (P.state pages.old) (P.state pages.new) top (model_lead lead.now) key.now result }
     ensures follows { P.follows pages.old pages.new }
 {
     let mut next = set_cells(pages, fresh, top, lead, key, &[])?;
@@ -114,7 +114,7 @@ pub fn put_pair<P: Pages, W: Draw>(
     key: &Key,
     value: Value,
 ) -> Result<(), Fault>
-    requires known { IsObservable (P.state pages.old) → IsKnown (W.drawn draw.now) (pairs_of_map (P.state pages.old).pages) known.old }
+    requires known { IsObservable (P.state pages.old) → IsKnownGroup (W.drawn draw.now) (pairs_of_map (P.state pages.old).pages) known.old }
     requires whole { IsObservable (P.state pages.old) → HoldsPairs (W.drawn draw.now) (pairs_of_map (P.state pages.old).pages) (P.state pages.old).pages }
     requires room { IsObservable (P.state pages.old) → length (pairs_of_map (P.state pages.old).pages) < most_pairs }
     ensures call { PutsPairIn (W.drawn draw.now) (P.state pages.old) (P.state pages.new) key.now value known.new result }
@@ -144,7 +144,7 @@ pub fn take_pair<P: Pages, W: Draw>(
     known: &mut Option<PathEnd>,
     key: &Key,
 ) -> Result<Option<Value>, Fault>
-    requires known { IsObservable (P.state pages.old) → IsKnown (W.drawn draw.now) (pairs_of_map (P.state pages.old).pages) known.old }
+    requires known { IsObservable (P.state pages.old) → IsKnownGroup (W.drawn draw.now) (pairs_of_map (P.state pages.old).pages) known.old }
     requires whole { IsObservable (P.state pages.old) → HoldsPairs (W.drawn draw.now) (pairs_of_map (P.state pages.old).pages) (P.state pages.old).pages }
     ensures call { TakesPairIn (W.drawn draw.now) (P.state pages.old) (P.state pages.new) key.now known.new result }
     ensures follows { P.follows pages.old pages.new }

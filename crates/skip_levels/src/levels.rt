@@ -3,11 +3,11 @@
 ghost use Rattle.std.specs.Prelude.{◌≡◌, ◌+◌, ◌<◌, ◌≤◌, [], ◌∷◌, length, map, cond};
 ghost use Rattle.std.specs.List.Sorted.{IsStrictlySortedBy};
 ghost use Rattle.std.specs.FinMap as maps;
-ghost use Rattle.store_base.specs.Leads.{lead_of};
+ghost use Rattle.store_base.specs.Leads.{model_lead};
 ghost use Rattle.store_model.specs.Labels.Lead.{Leader};
 ghost use Rattle.store_model.specs.Paths.{key_cmp};
 ghost use Rattle.node_pages.specs.PagesState.{IsObservable, most_pages};
-ghost use Rattle.skip_levels.specs.CellChanges.{HasRoom, SetsCells, SplitsGroup, JoinsGroups};
+ghost use Rattle.skip_levels.specs.CellChanges.{PagesHaveRoom, SetsCells, SplitsGroup, JoinsGroups};
 ghost use Rattle.skip_groups.specs.GroupChanges.{IsRunChange};
 ghost use Rattle.skip_groups.specs.GroupParts.{run_past};
 
@@ -30,8 +30,8 @@ pub fn set_cells<P: Pages>(
     own: &[Cell],
 ) -> Result<Lead, Fault>
     requires own { length own.now ≤ 1 }
-    requires room { IsObservable (P.state pages.old) → HasRoom (P.state pages.old).pages level (lead_of lead.now) }
-    ensures call { SetsCells (P.state pages.old) (P.state pages.new) level (lead_of lead.now) key.now own.now result }
+    requires room { IsObservable (P.state pages.old) → PagesHaveRoom (P.state pages.old).pages level (model_lead lead.now) }
+    ensures call { SetsCells (P.state pages.old) (P.state pages.new) level (model_lead lead.now) key.now own.now result }
     ensures follows { P.follows pages.old pages.new }
 {
     fresh.restart(level, lead);
@@ -52,7 +52,7 @@ fn change_moved<P: Pages>(
 ) -> Result<(), Fault>
     requires rising { IsStrictlySortedBy key_cmp (map (λ c. c.key) made.now.cells.cells) }
     requires room { IsObservable (P.state pages.old) → maps.len (P.state pages.old).pages + (made.now.count + length made.now.cells.cells) < most_pages }
-    ensures call { IsRunChange (P.state pages.old) (P.state pages.new) (lead_of lead.now) made.now.kept made.now.count made.now.cells (cond moved (run_past made.now) 0) result }
+    ensures call { IsRunChange (P.state pages.old) (P.state pages.new) (model_lead lead.now) made.now.kept made.now.count made.now.cells (cond moved (run_past made.now) 0) result }
     ensures follows { P.follows pages.old pages.new }
 {
     if !moved {
@@ -73,8 +73,8 @@ pub fn split_group<P: Pages>(
     key: &Key,
     own: Cell,
 ) -> Result<Lead, Fault>
-    requires room { IsObservable (P.state pages.old) → HasRoom (P.state pages.old).pages level (lead_of lead.now) }
-    ensures call { SplitsGroup (P.state pages.old) (P.state pages.new) level (lead_of lead.now) key.now (own ∷ []) result }
+    requires room { IsObservable (P.state pages.old) → PagesHaveRoom (P.state pages.old).pages level (model_lead lead.now) }
+    ensures call { SplitsGroup (P.state pages.old) (P.state pages.new) level (model_lead lead.now) key.now (own ∷ []) result }
     ensures follows { P.follows pages.old pages.new }
 {
     let mut high = Cells::with_room(alloc, level, u32::from(room(level)) + 1)?;
@@ -97,9 +97,9 @@ pub fn join_groups<P: Pages>(
     lead: &Lead,
     key: &Key,
 ) -> Result<Lead, Fault>
-    requires room { IsObservable (P.state pages.old) → HasRoom (P.state pages.old).pages level (lead_of lead.now) }
-    requires own_room { IsObservable (P.state pages.old) → HasRoom (P.state pages.old).pages level (Leader key.now) }
-    ensures call { JoinsGroups (P.state pages.old) (P.state pages.new) level (lead_of lead.now) key.now result }
+    requires room { IsObservable (P.state pages.old) → PagesHaveRoom (P.state pages.old).pages level (model_lead lead.now) }
+    requires own_room { IsObservable (P.state pages.old) → PagesHaveRoom (P.state pages.old).pages level (Leader key.now) }
+    ensures call { JoinsGroups (P.state pages.old) (P.state pages.new) level (model_lead lead.now) key.now result }
     ensures follows { P.follows pages.old pages.new }
 {
     let leader = Lead::Key(*key);

@@ -1,7 +1,7 @@
 //! The place at which a pair is put into a list.
 
 ghost use Rattle.std.specs.Prelude.{◌≡◌, IfOk};
-ghost use Rattle.store_base.specs.Leads.{lead_of};
+ghost use Rattle.store_base.specs.Leads.{model_lead};
 ghost use Rattle.skip_levels.specs.Descent.{lead_known};
 ghost use Rattle.skip_levels.specs.PutPlaces.{IsPutSearch, is_leader, behind};
 

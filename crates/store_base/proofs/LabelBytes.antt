@@ -14,11 +14,11 @@ use Rattle.store_model.specs.Lists.{IsBytes, zeros}
 use Rattle.std.specs.Int.{w32, to_be_bytes, from_be_bytes}
 use Rattle.std.specs.Ordering.{nat_cmp, ordering_then}
 use Rattle.std.specs.Cmp.Lexicographic.{slice_cmp, pointwise, bytes_decides}
-use Rattle.store_base.specs.Leads.{lead_of}
+use Rattle.store_base.specs.Leads.{model_lead}
 use Rattle.store_model.proofs.ImagesLemmas.{length-lead_bytes}
 
 -- a lead that is no key is the start
-pub lead_of-no_key : (lead : DeclaredLead) → ((key : Key) → lead ≡ declared.Key key → ⊥) → lead_of lead ≡ Start
+pub lead_of-no_key : (lead : DeclaredLead) → ((key : Key) → lead ≡ declared.Key key → ⊥) → model_lead lead ≡ Start
 lead_of-no_key declared.Start no_key = refl
 lead_of-no_key (declared.Key key) no_key = absurd (no_key key refl)
 

@@ -7,7 +7,7 @@ ghost use Rattle.std.specs.Cmp.Lexicographic.{pointwise, nat_list_eq_equiv, nat_
 ghost use Rattle.std.specs.Ordering.{nat_cmp};
 ghost use Rattle.store_model.specs.Labels as model;
 ghost use Rattle.store_model.specs.Labels.{IsLead, IsLabel, lead_bytes, label_bytes, label_cmp};
-ghost use Rattle.store_base.specs.Leads.{lead_of};
+ghost use Rattle.store_base.specs.Leads.{model_lead};
 
 use crate::key::Key;
 use byteorder::{BigEndian, ByteOrder};
@@ -42,11 +42,11 @@ impl Model for Label {
 
     ghost Value = { model.Label };
 
-    ghost use Rattle.store_base.specs.Leads.{lead_of, declared_lead};
+    ghost use Rattle.store_base.specs.Leads.{model_lead, declared_lead};
 
-    ghost view = { λ l. record { level = l.level; lead = lead_of l.lead; index = l.index } };
+    ghost view = { λ l. record { level = l.level; lead = model_lead l.lead; index = l.index } };
 
-    ghost invariant = { λ l. IsLabel (record { level = l.level; lead = lead_of l.lead; index = l.index }) };
+    ghost invariant = { λ l. IsLabel (record { level = l.level; lead = model_lead l.lead; index = l.index }) };
 
     ghost inverse = { λ l. record { level = l.level; lead = declared_lead l.lead; index = l.index } };
 }
@@ -54,9 +54,9 @@ impl Model for Label {
 impl Lead {
     /// The 124 bytes of the key that leads; `None` for the start.
     pub fn key_bytes(&self) -> Option<&[u8; 124]>
-        ensures start { IsNone result ↔ (lead_of self.now ≡ model.Start) }
-        ensures key { IfSome result (λ bytes. lead_of self.now ≡ model.Leader bytes.now) }
-        ensures valid { IsLead (lead_of self.now) }
+        ensures start { IsNone result ↔ (model_lead self.now ≡ model.Start) }
+        ensures key { IfSome result (λ bytes. model_lead self.now ≡ model.Leader bytes.now) }
+        ensures valid { IsLead (model_lead self.now) }
     {
         match self {
             Lead::Start => None,
@@ -67,7 +67,7 @@ impl Lead {
     /// The lead with these 125 bytes of a label; `None` exactly where they are no lead's.
     fn from_bytes(bytes: &[u8]) -> Option<Lead>
         requires { length bytes.now ≡ 125 }
-        ensures found { IfSome result (λ lead. IsLead (lead_of lead) × (lead_bytes (lead_of lead) ≡ bytes.now)) }
+        ensures found { IfSome result (λ lead. IsLead (model_lead lead) × (lead_bytes (model_lead lead) ≡ bytes.now)) }
         ensures only { (lead : model.Lead) → IsLead lead → lead_bytes lead ≡ bytes.now → IsSome result }
     {
         match bytes[0] {
@@ -118,13 +118,13 @@ impl Label {
 }
 
 impl PartialEq for Lead {
-    ghost eq = { λ a b. pointwise nat_eq (lead_bytes (lead_of a)) (lead_bytes (lead_of b)) };
+    ghost eq = { λ a b. pointwise nat_eq (lead_bytes (model_lead a)) (lead_bytes (model_lead b)) };
 
-    ghost laws = { on_per (λ a. lead_bytes (lead_of a)) (partial_equiv_from_equiv nat_list_eq_equiv) };
+    ghost laws = { on_per (λ a. lead_bytes (model_lead a)) (partial_equiv_from_equiv nat_list_eq_equiv) };
 
     fn eq(&self, other: &Self) -> bool
-        ensures value { result ≡ pointwise nat_eq (lead_bytes (lead_of self.now)) (lead_bytes (lead_of other.now)) }
-        ensures same { IsTrue result ↔ (lead_of self.now ≡ lead_of other.now) }
+        ensures value { result ≡ pointwise nat_eq (lead_bytes (model_lead self.now)) (lead_bytes (model_lead other.now)) }
+        ensures same { IsTrue result ↔ (model_lead self.now ≡ model_lead other.now) }
     {
         match (self, other) {
             (Lead::Start, Lead::Start) => true,
@@ -135,13 +135,13 @@ impl PartialEq for Lead {
 }
 
 impl Eq for Lead {
-    ghost laws = { on_equiv (λ a. lead_bytes (lead_of a)) nat_list_eq_equiv };
+    ghost laws = { on_equiv (λ a. lead_bytes (model_lead a)) nat_list_eq_equiv };
 }
 
 impl PartialOrd for Lead {
-    ghost partial_cmp = { λ a b. Some (slice_cmp nat_cmp (lead_bytes (lead_of a)) (lead_bytes (lead_of b))) };
+    ghost partial_cmp = { λ a b. Some (slice_cmp nat_cmp (lead_bytes (model_lead a)) (lead_bytes (model_lead b))) };
 
-    ghost laws = { on_po (λ a. lead_bytes (lead_of a)) texts_po };
+    ghost laws = { on_po (λ a. lead_bytes (model_lead a)) texts_po };
 
     fn partial_cmp(&self, other: &Self) -> Option<Ordering> {
         Some(self.cmp(other))
@@ -149,16 +149,16 @@ impl PartialOrd for Lead {
 }
 
 impl Ord for Lead {
-    ghost cmp = { λ a b. slice_cmp nat_cmp (lead_bytes (lead_of a)) (lead_bytes (lead_of b)) };
+    ghost cmp = { λ a b. slice_cmp nat_cmp (lead_bytes (model_lead a)) (lead_bytes (model_lead b)) };
 
-    ghost total = { on_total (λ a. lead_bytes (lead_of a)) nat_list_cmp_total };
+    ghost total = { on_total (λ a. lead_bytes (model_lead a)) nat_list_cmp_total };
 
     ghost matches_partial_cmp = { λ a b. refl };
 
-    ghost matches_eq = { λ a b. texts_ties (lead_bytes (lead_of a)) (lead_bytes (lead_of b)) };
+    ghost matches_eq = { λ a b. texts_ties (lead_bytes (model_lead a)) (lead_bytes (model_lead b)) };
 
     fn cmp(&self, other: &Self) -> Ordering
-        ensures value { result ≡ slice_cmp nat_cmp (lead_bytes (lead_of self.now)) (lead_bytes (lead_of other.now)) }
+        ensures value { result ≡ slice_cmp nat_cmp (lead_bytes (model_lead self.now)) (lead_bytes (model_lead other.now)) }
     {
         match (self, other) {
             (Lead::Start, Lead::Start) => Ordering::Equal,

@@ -16,7 +16,7 @@ use Rattle.seeded_draw.specs.AnyDrawn.{any_draw}
 use Rattle.script_lines.specs.declared.reply.Reply.{Reply}
 use Rattle.script_lines.specs.Replies.{reply_of}
 use Rattle.skip_levels.specs.declared.search.PathEnd.{PathEnd}
-use Rattle.skip_levels.specs.Descent.{HoldsPairs, IsKnown}
+use Rattle.skip_levels.specs.Descent.{HoldsPairs, IsKnownGroup}
 use Rattle.skip_levels.specs.PagePairs.{pairs_of_map, list_over, IsHeld, KeepsList}
 use Rattle.ordered_pairs.specs.PairsState.{PairsState}
 use Rattle.skip_levels.proofs.PagePairsLemmas.{holds_own, holds_its_pairs}
@@ -42,7 +42,7 @@ Stay state old new = IsTold state new → IsTold state old × (new.map ≡ old.m
 pub keeps_stays : {D : Type 0} (state : D → DiskState) (d : Draw) (is_whole : Bool) (known : Option PathEnd) (old new : StagedState D AnyDraw) → Stay state old new → KeepsList d is_whole (pages_state state old) known → KeepsList d is_whole (pages_state state new) known
 keeps_stays state d is_whole known old new stay keeps = record {
   whole = λ w told. let back = stay told in subst (λ (m : PageMap). HoldsPairs d (pairs_of_map m) m) (sym back.1) (keeps.whole w back.0);
-  place = λ w told. let back = stay told in subst (λ (m : PageMap). IsKnown d (pairs_of_map m) known) (sym back.1) (keeps.place w back.0);
+  place = λ w told. let back = stay told in subst (λ (m : PageMap). IsKnownGroup d (pairs_of_map m) known) (sym back.1) (keeps.place w back.0);
 }
 
 -- they do where they are read alone

@@ -166,7 +166,7 @@ module _ {D : Type 0} (state : D → DiskState) (t next : Tree) (p : Parameters)
     counts : CountsCommit (slots_between p t next) (state old.disk) (state new.disk) r
     counts = subst (λ (n : ℕ). CountsCommit n (state old.disk) (state new.disk) r) (slots_as t next p staged.fitting to) disk.counts
 
-    image : {U : Type 0} (result : Result U ApplyFault) → OnOk result (images.StandsAt (draw_of p) p (map_of_pages (pages next p)) (state new.disk)) → (result ≡ Err apply.Disk → r ≡ Err causes.Disk) → (r ≡ Err causes.Disk → result ≡ Err apply.Disk) → (result ≡ Err apply.NoMemory → r ≡ Err causes.NoMemory)
+    image : {U : Type 0} (result : Result U ApplyFault) → OnOk result (images.SlotStandsAt (draw_of p) p (map_of_pages (pages next p)) (state new.disk)) → (result ≡ Err apply.Disk → r ≡ Err causes.Disk) → (r ≡ Err causes.Disk → result ≡ Err apply.Disk) → (result ≡ Err apply.NoMemory → r ≡ Err causes.NoMemory)
         → CountsCommit (slots_between p t next) (state old.disk) (state new.disk) result → ChangesImage t next p (state old.disk) (state new.disk) new.is_spent result
     image {U} result stands from_disk to_disk from_memory count = record {
       stands = stood result stands;
@@ -179,7 +179,7 @@ module _ {D : Type 0} (state : D → DiskState) (t next : Tree) (p : Parameters)
       goes_on = λ e f. disk.goes_on e (from_disk f);
     }
       where
-        stood : (s : Result U ApplyFault) → OnOk s (images.StandsAt (draw_of p) p (map_of_pages (pages next p)) (state new.disk)) → OnOk s (Stands (state new.disk) next p)
+        stood : (s : Result U ApplyFault) → OnOk s (images.SlotStandsAt (draw_of p) p (map_of_pages (pages next p)) (state new.disk)) → OnOk s (Stands (state new.disk) next p)
         stood (Ok value) at = stands_tree next p (state new.disk) to long at
         stood (Err fault) at = tt
 

@@ -16,7 +16,7 @@ use Rattle.image_check.specs.declared.fault.ApplyFault.{ApplyFault}
 use Rattle.image_check.specs.declared.fault.ApplyFault.TheVariants as apply
 use Rattle.store_core.specs.Known.{KnownState, SettlesKnown}
 use Rattle.image_check.specs.Standing.{IsFitting, Stands}
-use Rattle.store_core.specs.StagedTree.{TreeList, HoldsPages, IsListAt, GoesOn}
+use Rattle.store_core.specs.StagedTree.{TreeList, StagesTreePages, IsListAt, GoesOn}
 use Rattle.store_core.specs.Steps.{StepsPages, EndsStep}
 use Rattle.store_core.specs.StoreCalls.{Applies}
 use Rattle.store_core.specs.StoreFields.{HoldsKnown}
@@ -58,7 +58,7 @@ module _ {D : Type 0} (state : D → DiskState) (known : KnownState D) (old new 
     steps : IsObservable (state new.pages.disk) → StepsPages state known.tree (step known.tree c known.params) known.params old.pages new.pages result
     steps observable = ends.step.observed (before observable)
 
-    in_image : (t : Tree) → IsFitting t known.params → (IsObservable (state new.pages.disk) → new.pages.is_spent ≡ false → HoldsPages state t known.params new.pages) → IsListAt state t known.params new
+    in_image : (t : Tree) → IsFitting t known.params → (IsObservable (state new.pages.disk) → new.pages.is_spent ≡ false → StagesTreePages state t known.params new.pages) → IsListAt state t known.params new
     in_image t fit held =
         let pages = served.at.pages in
         record {
@@ -101,7 +101,7 @@ module _ {D : Type 0} (state : D → DiskState) (known : KnownState D) (old new 
       answered_served = ⊎_elim
           (λ observable.
           let tree = tree_seen observable in
-          let held : IsObservable (state new.pages.disk) → new.pages.is_spent ≡ false → HoldsPages state (step known.tree c known.params).tree known.params new.pages = λ seen still.
+          let held : IsObservable (state new.pages.disk) → new.pages.is_spent ≡ false → StagesTreePages state (step known.tree c known.params).tree known.params new.pages = λ seen still.
           let table_is = (steps (Ok reply) ends seen).goes in
           record { stands = (steps (Ok reply) ends seen).image.stands; table_is = table_is; map_is = ends.none_staged seen still ∙ table_is } in
           at_tree (step known.tree c known.params).tree tree (in_image (Ok reply) ends (step known.tree c known.params).tree fitting_to held))

@@ -73,10 +73,10 @@ unfolding pages
 pages_again t p fitting = let few = few_pairs t p fitting in pages_of_pairs_map (draw_of p) (pairs t p) (pairs_are_pairs t p fitting.tree) (omega (arith, few))
 
 -- a disk that stands at a tree stands at its pages, and the other way round
-pub stands_pages : (t : Tree) (p : Parameters) (disk : DiskState) → IsFitting t p → Stands disk t p → images.StandsAt (draw_of p) p (map_of_pages (pages t p)) disk
+pub stands_pages : (t : Tree) (p : Parameters) (disk : DiskState) → IsFitting t p → Stands disk t p → images.SlotStandsAt (draw_of p) p (map_of_pages (pages t p)) disk
 stands_pages t p disk fitting stands = record { layout = layout_of_tree t p fitting.in_range fitting.tree fitting.fits disk.bytes stands.layout_is; durable = stands.durable }
 
-pub stands_tree : (t : Tree) (p : Parameters) (disk : DiskState) → IsFitting t p → length disk.bytes ≡ image_len p.slots → images.StandsAt (draw_of p) p (map_of_pages (pages t p)) disk → Stands disk t p
+pub stands_tree : (t : Tree) (p : Parameters) (disk : DiskState) → IsFitting t p → length disk.bytes ≡ image_len p.slots → images.SlotStandsAt (draw_of p) p (map_of_pages (pages t p)) disk → Stands disk t p
 stands_tree t p disk fitting long stands = record { layout_is = tree_layout t p fitting.in_range fitting.tree fitting.fits disk.bytes long stands.layout; durable = stands.durable }
 
 -- the pages in the table of its layout

@@ -21,14 +21,14 @@ pub record KnownState (D : Type 0) : Type 0 where
 
 -- The tree fits. An observable disk reads its layout; where the disk is another the tree has the pairs that were found when
 -- the store was opened.
-pub record IsKnown (disk : DiskState) (p : Parameters) (opened : List Pair) (t : Tree) : Type 0 where
+pub record IsKnownTree (disk : DiskState) (p : Parameters) (opened : List Pair) (t : Tree) : Type 0 where
   pub fitting : IsFitting t p
   pub seen : IsObservable disk → disk.bytes ≡ layout t p
   pub unseen : (IsObservable disk → ⊥) → opened ≡ pairs t p
 
 -- there is such a tree
 abbrev pub TellsTree : DiskState → Parameters → List Pair → Type 0
-TellsTree disk p opened = (t : Tree) × IsKnown disk p opened t
+TellsTree disk p opened = (t : Tree) × IsKnownTree disk p opened t
 
 -- What a known tree is after its disk was settled again: the one at which an observable disk stands, and else the same.
 pub record SettlesKnown {D : Type 0} (state : D → DiskState) (disk : D) (old new : KnownState D) : Type 0 where
@@ -46,10 +46,10 @@ IsNode-prop (File bytes) = hlevel props
 IsTree-prop : (t : Tree) → IsProp (IsTree t)
 IsTree-prop t = hlevel (props, AllByRecursion-prop, IsNode-prop)
 
-IsKnown-prop : (disk : DiskState) (p : Parameters) (opened : List Pair) (t : Tree) → IsProp (IsKnown disk p opened t)
+IsKnown-prop : (disk : DiskState) (p : Parameters) (opened : List Pair) (t : Tree) → IsProp (IsKnownTree disk p opened t)
 IsKnown-prop disk p opened t = hlevel (props, IsTree-prop)
 
-pub one_known : (disk : DiskState) (p : Parameters) (opened : List Pair) (t u : Tree) → IsKnown disk p opened t → IsKnown disk p opened u → t ≡ u
+pub one_known : (disk : DiskState) (p : Parameters) (opened : List Pair) (t u : Tree) → IsKnownTree disk p opened t → IsKnownTree disk p opened u → t ≡ u
 one_known disk p opened t u a b =
     ⊎_elim
     (λ seen. (layouts_tell t u p p a.fitting.in_range b.fitting.in_range a.fitting.tree b.fitting.tree a.fitting.fits b.fitting.fits (sym (a.seen seen) ∙ b.seen seen)).0)
@@ -61,4 +61,4 @@ one_known disk p opened t u a b =
 pub TellsTree-prop : (disk : DiskState) (p : Parameters) (opened : List Pair) → IsProp (TellsTree disk p opened)
 TellsTree-prop disk p opened x y =
     let same : x.0 ≡ y.0 = one_known disk p opened x.0 y.0 x.1 y.1 in
-    subst (λ (t : Tree). (h : IsKnown disk p opened t) → x ≡ (t, h)) same (λ h. ap (λ (g : IsKnown disk p opened x.0). (x.0, g)) (IsKnown-prop disk p opened x.0 x.1 h)) y.1
+    subst (λ (t : Tree). (h : IsKnownTree disk p opened t) → x ≡ (t, h)) same (λ h. ap (λ (g : IsKnownTree disk p opened x.0). (x.0, g)) (IsKnown-prop disk p opened x.0 x.1 h)) y.1

@@ -15,7 +15,7 @@ use Rattle.page_store.specs.StagedState.{StagedState, IsTold}
 use Rattle.image_check.specs.Standing.{IsFitting, Stands}
 
 -- The disk stands at the tree, the pages in its table are the tree's, and nothing else is staged.
-pub record HoldsPages {D : Type 0} (state : D → DiskState) (t : Tree) (p : Parameters) (s : StagedState D AnyDraw) : Type 0 where
+pub record StagesTreePages {D : Type 0} (state : D → DiskState) (t : Tree) (p : Parameters) (s : StagedState D AnyDraw) : Type 0 where
   pub stands : Stands (state s.disk) t p
   pub table_is : s.table ≡ map_of_pages (pages t p)
   pub map_is : s.map ≡ map_of_pages (pages t p)
@@ -25,7 +25,7 @@ pub record AreAt {D : Type 0} (state : D → DiskState) (t : Tree) (p : Paramete
   pub params : s.params ≡ p
   pub draw : any_draw s.draw ≡ draw_of p
   pub size_is : (state s.disk).size ≡ image_len p.slots
-  pub held : IsObservable (state s.disk) → s.is_spent ≡ false → HoldsPages state t p s
+  pub held : IsObservable (state s.disk) → s.is_spent ≡ false → StagesTreePages state t p s
 
 -- Over an observable disk that stands at the tree, with the tree's pages in its table, the pages of the next one are staged.
 pub record IsStagedFor {D : Type 0} (state : D → DiskState) (t next : Tree) (p : Parameters) (s : StagedState D AnyDraw) : Type 0 where

@@ -5,7 +5,7 @@ ghost use Rattle.store_model.specs.Trees.{Tree};
 ghost use Rattle.store_model.specs.Images.{layout};
 ghost use Rattle.disk_model.specs.DiskState.{IsObservable};
 ghost use Rattle.image_check.specs.Standing.{IsFitting};
-ghost use Rattle.store_core.specs.Known.{IsKnown, TellsTree, TellsTree-prop, SettlesKnown};
+ghost use Rattle.store_core.specs.Known.{IsKnownTree, TellsTree, TellsTree-prop, SettlesKnown};
 
 use disk_model::Disk;
 use node_pages::PairList;
@@ -36,7 +36,7 @@ impl<D: Disk> KnownTree<D> {
     /// The tree that has these pairs, and at which the disk stands.
     pub fn new(params: Params, pairs: &PairList, disk: &D) -> Self
         requires { TellsTree (D.state disk.now) params pairs.now }
-        ensures { (t : Tree) → IsKnown (D.state disk.now) params pairs.now t → result ≡ record { params = params; tree = t; settled = disk.now } }
+        ensures { (t : Tree) → IsKnownTree (D.state disk.now) params pairs.now t → result ≡ record { params = params; tree = t; settled = disk.now } }
     {
         KnownTree {
             params,

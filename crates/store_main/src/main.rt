@@ -140,7 +140,7 @@ fn disk_of(file: File) -> io::Result<FileDisk> {
 }
 
 /// Carries out the words on the disk.
-fn carry_out(rt: &HostRuntime, words: &Words, disk: FileDisk) -> Status {
+fn serve(rt: &HostRuntime, words: &Words, disk: FileDisk) -> Status {
     let (source, sink) = (StdSource::new(rt.stdin()), StdSink::new(rt.stdout()));
     let Outcome { status, .. } = top(rt.alloc(), words, disk, source, sink);
     status
@@ -164,7 +164,7 @@ fn run(rt: &HostRuntime) -> u8 {
         Ok(Wanted::Fresh(len)) => open_or_make(rt, image.as_str(), len),
     };
     match opened.and_then(disk_of) {
-        Ok(disk) => carry_out(rt, &words, disk).code(),
+        Ok(disk) => serve(rt, &words, disk).code(),
         Err(_) => NO_FILE,
     }
 }

@@ -55,14 +55,14 @@ pub fn top<D: Disk, R: Source, W: Sink>(
     ensures big { (number count : ℕ) → request_of words.now ≡ Some (Big number count) → IsBig D.state W.state number count (outside_of disk source sink) result }
 {
     match words.request() {
-        Ok(Some(request)) => carry_out(alloc, request, disk, source, sink),
+        Ok(Some(request)) => serve_request(alloc, request, disk, source, sink),
         Ok(None) => usage(disk, source, sink),
         Err(NoMemory) => no_memory(disk, source, sink),
     }
 }
 
 /// Carries out what the words ask for.
-fn carry_out<D: Disk, R: Source, W: Sink>(
+fn serve_request<D: Disk, R: Source, W: Sink>(
     alloc: Global,
     request: Request,
     disk: D,

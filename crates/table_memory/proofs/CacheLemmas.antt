@@ -14,7 +14,7 @@ use Rattle.gate_journal.proofs.Calls.{AreCalls-none, AreCalls-one, AreCalls-answ
 use Rattle.gate_journal.proofs.Layouts.{with-slots-changed, with-slots-kept}
 use Rattle.gate_journal.proofs.Reading.{ReadsOnly-refl, ReadsOnly-read}
 use Rattle.lru.specs.LruCache.{LruCache, promoted, put_entries, lru_cache}
-use Rattle.table_memory.specs.Caches.{Kept, kept_at, IsTableSlot, IsCacheOf, KeepsAll, KeepsFew, most_kept, KeepsOne, Rewrites, changes_of, RewritesFirst, ReadsSlot, IsOfKept, TellsOfSlot}
+use Rattle.table_memory.specs.Caches.{Kept, kept_at, IsTableSlot, IsSlotCacheOf, KeepsAll, KeepsFew, most_kept, KeepsOne, Rewrites, changes_of, RewritesFirst, ReadsSlot, IsOfKept, TellsOfSlot}
 
 same_number : (i j : ℕ) → nat_eq i j ≡ true → i ≡ j
 same_number i j is = grind (arith, is)
@@ -173,7 +173,7 @@ rewrites_turn items yielded at slot old mid new next so_far rewrites =
 
 -- ---- the slots of a disk
 
-module _ (slots : ℕ) (old new : DiskState) (same : new.is_observable ≡ old.is_observable) (kept : Kept) (cached : IsCacheOf slots old kept) where
+module _ (slots : ℕ) (old new : DiskState) (same : new.is_observable ≡ old.is_observable) (kept : Kept) (cached : IsSlotCacheOf slots old kept) where
   before : IsObservable new → IsObservable old
   before observable = sym same ∙ observable
 
@@ -183,11 +183,11 @@ module _ (slots : ℕ) (old new : DiskState) (same : new.is_observable ≡ old.i
       let was = cached i slot is in
       record { within = was.within; long = was.long; is = λ observable. was.is (before observable) ∙ ap (λ (image : List ℕ). table_slot slots image i) (sym (reads (before observable)).bytes) }
 
-  pub cache_read : (IsObservable old → ReadsOnly old new) → (after : Kept) → KeepsAll kept after → IsCacheOf slots new after
+  pub cache_read : (IsObservable old → ReadsOnly old new) → (after : Kept) → KeepsAll kept after → IsSlotCacheOf slots new after
   cache_read reads after keeps i slot is = slot_later reads i slot (sym (keeps i) ∙ is)
 
   -- and one more is kept
-  pub cache_more : (IsObservable old → ReadsOnly old new) → (mid after : Kept) (at : ℕ) (slot : List ℕ) → KeepsAll kept mid → KeepsOne mid after at slot → IsTableSlot slots new at slot → IsCacheOf slots new after
+  pub cache_more : (IsObservable old → ReadsOnly old new) → (mid after : Kept) (at : ℕ) (slot : List ℕ) → KeepsAll kept mid → KeepsOne mid after at slot → IsTableSlot slots new at slot → IsSlotCacheOf slots new after
   cache_more reads mid after at slot keeps one now i other is = elim (one i other is) [
     | inl was ↦ slot_later reads i other (sym (keeps i) ∙ was)
     | inr here ↦ subst (λ (n : ℕ). IsTableSlot slots new n other) (sym here.0) (subst (IsTableSlot slots new at) (sym here.1) now)
@@ -195,7 +195,7 @@ module _ (slots : ℕ) (old new : DiskState) (same : new.is_observable ≡ old.i
 
   -- the slots that were committed are rewritten
   pub cache_committed : (changes : journal.Changes) → journal.AreChanges slots changes → (IsObservable old → length old.bytes ≡ image_len slots) → (IsObservable old → new.bytes ≡ journal.with_slots slots changes old.bytes)
-      → (after : Kept) → RewritesFirst changes.count changes kept after → IsCacheOf slots new after
+      → (after : Kept) → RewritesFirst changes.count changes kept after → IsSlotCacheOf slots new after
   cache_committed changes are long bytes after rewrites i slot is = elim (rewrites i slot is) [
     | inl others ↦
         let was = cached i slot others.1 in
@@ -219,12 +219,12 @@ module _ (slots : ℕ) (old new : DiskState) (same : new.is_observable ≡ old.i
   ]
 
 -- nothing is kept
-pub cache_empty : (slots : ℕ) (disk : DiskState) (none : Kept) → none ≡ [] → IsCacheOf slots disk none
+pub cache_empty : (slots : ℕ) (disk : DiskState) (none : Kept) → none ≡ [] → IsSlotCacheOf slots disk none
 cache_empty slots disk none empty i slot is = absurd (none-some slot (sym (ap (λ (kept : Kept). kept_at kept i) empty) ∙ is))
 
 -- ---- a read of a slot
 
-module _ (slots at : ℕ) (old : DiskState) (kept : Kept) (sound : IsObservable old → IsSound old) (cached : IsCacheOf slots old kept) where
+module _ (slots at : ℕ) (old : DiskState) (kept : Kept) (sound : IsObservable old → IsSound old) (cached : IsSlotCacheOf slots old kept) where
   -- it is kept
   pub slot_fetched : (after : Kept) (buffer : List ℕ) → KeepsAll kept after → kept_at kept at ≡ Some buffer → ReadsSlot slots at old old after buffer {T = Unit {0}} (Ok tt)
   slot_fetched after buffer keeps found = record {
@@ -235,7 +235,7 @@ module _ (slots at : ℕ) (old : DiskState) (kept : Kept) (sound : IsObservable 
   }
 
   -- behind a look at what is kept
-  pub cache_kept : (after : Kept) → KeepsAll kept after → IsCacheOf slots old after
+  pub cache_kept : (after : Kept) → KeepsAll kept after → IsSlotCacheOf slots old after
   cache_kept after keeps i slot is = cached i slot (sym (keeps i) ∙ is)
 
   -- it is kept, and something is told of it

@@ -12,7 +12,7 @@ use Rattle.std.specs.FinMap.{get-insert, get-remove, same_map, slice_cmp-IsAntis
 use Rattle.store_model.specs.Labels.{Label, label_bytes, label_cmp}
 use Rattle.store_model.specs.Pages.{Page}
 use Rattle.store_model.specs.PageMaps.{PageMap, page_at}
-use Rattle.table_memory.specs.Staging.{Changes, with_change, with_changes}
+use Rattle.table_memory.specs.Staging.{StagedPages, with_change, with_changes}
 
 -- what is staged, and what is below where nothing is
 abbrev pub page_or : Option (Option Page) → Option Page → Option Page
@@ -25,7 +25,7 @@ get-with_change m k (Some page) b = get-insert nat_list_cmp_total m (label_bytes
 get-with_change m k None b = get-remove nat_list_cmp_total m (label_bytes k) b
 
 -- the page under a label behind all changes
-pub page_at-with_changes : (m : PageMap) (changes : Changes) (l : Label) → page_at (with_changes m changes) l ≡ page_or (lookup (is_at (label_cmp l)) changes) (page_at m l)
+pub page_at-with_changes : (m : PageMap) (changes : StagedPages) (l : Label) → page_at (with_changes m changes) l ≡ page_or (lookup (is_at (label_cmp l)) changes) (page_at m l)
 page_at-with_changes m [] l = refl
 page_at-with_changes m (e ∷ es) l = get-with_change (with_changes m es) e.0 e.1 (label_bytes l) ∙ by_case (is_eq (label_cmp l e.0)) (page_at-with_changes m es l)
   where
@@ -55,7 +55,7 @@ exchanged true false v w x apart = refl
 exchanged false true v w x apart = refl
 exchanged false false v w x apart = refl
 
-inserted : (m : PageMap) (changes : Changes) (k : Label) (v : Option Page) (b : List ℕ)
+inserted : (m : PageMap) (changes : StagedPages) (k : Label) (v : Option Page) (b : List ℕ)
     → maps.get (with_changes m (insert_entry label_cmp changes k v)) b ≡ cond (eq_by_cmp (slice_cmp nat_cmp) b (label_bytes k)) v (maps.get (with_changes m changes) b)
 inserted m [] k v b = get-with_change m k v b
 inserted m (e ∷ es) k v b = by_case (label_cmp k e.0) refl (inserted m es k v b)
@@ -85,13 +85,13 @@ inserted m (e ∷ es) k v b = by_case (label_cmp k e.0) refl (inserted m es k v 
         ∙ ap (cond (eq_by_cmp (slice_cmp nat_cmp) b (label_bytes k)) v) (sym below)
 
 -- a change that is staged comes behind all others
-pub with_changes-insert : (m : PageMap) (changes : Changes) (k : Label) (v : Option Page) → with_changes m (insert_entry label_cmp changes k v) ≡ with_change (with_changes m changes) k v
+pub with_changes-insert : (m : PageMap) (changes : StagedPages) (k : Label) (v : Option Page) → with_changes m (insert_entry label_cmp changes k v) ≡ with_change (with_changes m changes) k v
 with_changes-insert m changes k v =
     same_map nat_list_cmp_total (slice_cmp-IsAntisymmetric nat_cmp-IsAntisymmetric) (with_changes m (insert_entry label_cmp changes k v)) (with_change (with_changes m changes) k v)
     (λ b. inserted m changes k v b ∙ sym (get-with_change (with_changes m changes) k v b))
 
 -- a change under a label that is written over
-written : (m : PageMap) (changes : Changes) (k : Label) (old v : Option Page) (b : List ℕ) → lookup (is_at (label_cmp k)) changes ≡ Some old
+written : (m : PageMap) (changes : StagedPages) (k : Label) (old v : Option Page) (b : List ℕ) → lookup (is_at (label_cmp k)) changes ≡ Some old
     → maps.get (with_changes m (set_value (is_at (label_cmp k)) changes v)) b ≡ cond (eq_by_cmp (slice_cmp nat_cmp) b (label_bytes k)) v (maps.get (with_changes m changes) b)
 written m [] k old v b found = cc
 written m (e ∷ es) k old v b found = by_case (is_eq (label_cmp k e.0)) refl found (written m es k old v b)
@@ -120,7 +120,7 @@ written m (e ∷ es) k old v b found = by_case (is_eq (label_cmp k e.0)) refl fo
         ∙ ap (cond (eq_by_cmp (slice_cmp nat_cmp) b (label_bytes k)) v) (sym below)
 
 -- written over, it comes behind all others
-pub with_changes-set_value : (m : PageMap) (changes : Changes) (k : Label) (old v : Option Page) → lookup (is_at (label_cmp k)) changes ≡ Some old → with_changes m (set_value (is_at (label_cmp k)) changes v) ≡ with_change (with_changes m changes) k v
+pub with_changes-set_value : (m : PageMap) (changes : StagedPages) (k : Label) (old v : Option Page) → lookup (is_at (label_cmp k)) changes ≡ Some old → with_changes m (set_value (is_at (label_cmp k)) changes v) ≡ with_change (with_changes m changes) k v
 with_changes-set_value m changes k old v found =
     same_map nat_list_cmp_total (slice_cmp-IsAntisymmetric nat_cmp-IsAntisymmetric) (with_changes m (set_value (is_at (label_cmp k)) changes v)) (with_change (with_changes m changes) k v)
     (λ b. written m changes k old v b found ∙ sym (get-with_change (with_changes m changes) k v b))

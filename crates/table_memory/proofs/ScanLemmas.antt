@@ -19,7 +19,7 @@ use Rattle.gate_journal.specs.Places.{AreCalls, ReadsOnly}
 use Rattle.gate_journal.proofs.Calls.{AreCalls-none, AreCalls-answered, AreCalls-then, observable_after}
 use Rattle.gate_journal.proofs.Reading.{ReadsOnly-refl, ReadsOnly-trans}
 use Rattle.table_memory.specs.declared.changed.ChangedSlots.{ChangedSlots}
-use Rattle.table_memory.specs.Caches.{Kept, IsCacheOf, changes_of, TellsOfSlot}
+use Rattle.table_memory.specs.Caches.{Kept, IsSlotCacheOf, changes_of, TellsOfSlot}
 use Rattle.table_memory.specs.Differences.{AreDifferences}
 use Rattle.table_memory.specs.OverlayState.{touched_at, bytes_or, slot_over}
 use Rattle.table_memory.specs.Comparing.{FindsChanges}
@@ -169,7 +169,7 @@ pub left_over : (slots : ℕ) (written : List (ℕ × List ℕ)) (old now : Disk
 left_over slots written old now items rest so_far i slot is = sym (so_far.ahead i (so_far.past i slot is)) ∙ is
 
 -- all were compared
-pub found_all : (slots : ℕ) (written : List (ℕ × List ℕ)) (old now : DiskState) (kept : Kept) (found : ChangedSlots) → IsCacheOf slots now kept → IsScanning slots written old now found.slots.items [] → FindsChanges slots written old now kept (Ok found)
+pub found_all : (slots : ℕ) (written : List (ℕ × List ℕ)) (old now : DiskState) (kept : Kept) (found : ChangedSlots) → IsSlotCacheOf slots now kept → IsScanning slots written old now found.slots.items [] → FindsChanges slots written old now kept (Ok found)
 found_all slots written old now kept found cached scanned = record {
   kept = record { size = scanned.calls.size; observable = scanned.calls.observable; faults = scanned.calls.rise; writes = scanned.calls.writes; syncs = scanned.calls.syncs };
   cached = cached;
@@ -182,7 +182,7 @@ found_all slots written old now kept found cached scanned = record {
 }
 
 -- there was no memory for as many slots as were written
-pub none_reserved : (slots : ℕ) (written : List (ℕ × List ℕ)) (disk : DiskState) (kept : Kept) → (IsObservable disk → IsSound disk) → IsCacheOf slots disk kept → FindsChanges slots written disk disk kept (Err causes.NoMemory)
+pub none_reserved : (slots : ℕ) (written : List (ℕ × List ℕ)) (disk : DiskState) (kept : Kept) → (IsObservable disk → IsSound disk) → IsSlotCacheOf slots disk kept → FindsChanges slots written disk disk kept (Err causes.NoMemory)
 none_reserved slots written disk kept sound cached =
     let calls : AreCalls {T = Unit {0}} {E = DiskFault} disk disk (Ok tt) = AreCalls-none disk tt in
     record {

@@ -3,9 +3,9 @@ use Rattle.std.proofs.Common.{◌≡◌, ◌⊎◌, ℕ, zero, suc, Bool, true, 
 use Rattle.std.proofs.lemmas.Option.{same_Some, none-some}
 use Rattle.store_model.specs.Labels.{Label}
 use Rattle.store_model.specs.Draws.{Draw}
-use Rattle.table_memory.specs.Starts.{Starts, IsKept, AreStarts}
+use Rattle.table_memory.specs.Starts.{Starts, IsKeptStart, AreStarts}
 
-pub kept_is : (d : Draw) (kept : Starts) (l : Label) (start : ℕ) → AreStarts d kept → IsKept kept l start → start ≡ d.start l
+pub kept_is : (d : Draw) (kept : Starts) (l : Label) (start : ℕ) → AreStarts d kept → IsKeptStart kept l start → start ≡ d.start l
 kept_is d kept l start are is = are.drawn is.place (l, start) is.there
 
 pub starts_none : (d : Draw) (none : Starts) → none ≡ [] → AreStarts d none

@@ -33,8 +33,8 @@ pub record IsTableSlot (slots : ℕ) (disk : DiskState) (i : ℕ) (slot : List �
   pub is : IsObservable disk → slot ≡ table_slot slots disk.bytes i
 
 -- each slot that is kept is the one that the table of the disk has under its number
-abbrev pub IsCacheOf : ℕ → DiskState → Kept → Type 0
-IsCacheOf slots disk kept = (i : ℕ) (slot : List ℕ) → kept_at kept i ≡ Some slot → IsTableSlot slots disk i slot
+abbrev pub IsSlotCacheOf : ℕ → DiskState → Kept → Type 0
+IsSlotCacheOf slots disk kept = (i : ℕ) (slot : List ℕ) → kept_at kept i ≡ Some slot → IsTableSlot slots disk i slot
 
 -- of each slot the same is kept, in whatever order
 abbrev pub KeepsAll : Kept → Kept → Type 0
@@ -65,7 +65,7 @@ RewritesFirst n changes old new = (i : ℕ) (other : List ℕ) → kept_at new i
 pub record ReadsSlot (slots at : ℕ) (old new : DiskState) (kept : Kept) (buffer : List ℕ) {T : Type 0} (result : Result T DiskFault) : Type 0 where
   pub calls : AreCalls old new result
   pub reads : IsObservable old → ReadsOnly old new
-  pub cached : IsCacheOf slots new kept
+  pub cached : IsSlotCacheOf slots new kept
   pub slot : IsObservable old → OnOk result (buffer ≡ table_slot slots old.bytes at)
 
 -- something is told of a slot that is kept
@@ -78,5 +78,5 @@ pub record IsOfKept {T : Type 0} (kept : Kept) (at : ℕ) (IsOf : List ℕ → T
 pub record TellsOfSlot {T : Type 0} (slots at : ℕ) (old new : DiskState) (kept : Kept) (IsOf : List ℕ → T → Type 0) (result : Result T DiskFault) : Type 0 where
   pub calls : AreCalls old new result
   pub reads : IsObservable old → ReadsOnly old new
-  pub cached : IsCacheOf slots new kept
+  pub cached : IsSlotCacheOf slots new kept
   pub told : IsObservable old → IfOk result (IsOf (table_slot slots old.bytes at))

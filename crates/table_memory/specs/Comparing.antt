@@ -7,7 +7,7 @@ use Rattle.gate_journal.specs.Changes.{AreChanges}
 use Rattle.gate_journal.specs.Disks.{KeepsDisk}
 use Rattle.gate_journal.specs.Phases.{table_slot}
 use Rattle.gate_journal.specs.Places.{ReadsOnly}
-use Rattle.table_memory.specs.Caches.{Kept, IsCacheOf, changes_of}
+use Rattle.table_memory.specs.Caches.{Kept, IsSlotCacheOf, changes_of}
 use Rattle.table_memory.specs.OverlayState.{slot_over}
 use Rattle.table_memory.specs.declared.changed.ChangedSlots.{ChangedSlots}
 use Rattle.table_memory.specs.Differences.{AreDifferences}
@@ -15,7 +15,7 @@ use Rattle.table_memory.specs.Differences.{AreDifferences}
 -- Slots that were written are compared with the table of a disk, and with what is kept of it.
 pub record FindsChanges (slots : ℕ) (written : List (ℕ × List ℕ)) (old new : DiskState) (cache : Kept) (result : Result ChangedSlots Fault) : Type 0 where
   pub kept : KeepsDisk old new
-  pub cached : IsCacheOf slots new cache
+  pub cached : IsSlotCacheOf slots new cache
   pub faults : new.faults ≡ disk_faults_after old.faults result
   pub reads : IsObservable old → ReadsOnly old new
   pub rise : IfOk result (λ found. AreChanges slots (changes_of found.slots.items))

@@ -11,7 +11,7 @@ use Rattle.store_model.specs.Pages.{Page}
 use Rattle.store_model.specs.PageMaps.{PageMap, page_at, HoldsPages}
 use Rattle.store_base.specs.SlotsState.{SlotsState, IsObservable}
 use Rattle.table_memory.specs.Spelled.{label_in}
-use Rattle.table_memory.specs.Staging.{Changes}
+use Rattle.table_memory.specs.Staging.{StagedPages}
 
 -- a number within 64 bits
 abbrev pub wrapped : ℕ → ℕ
@@ -23,13 +23,13 @@ checked [] sum sums = sums
 checked (word ∷ words) sum sums = checked words (wrapped (sum + from_be_bytes w64 word)) (wrapped (sums + wrapped (sum + from_be_bytes w64 word)))
 
 -- the first 15 words of eight bytes of a key
-abbrev pub words_of : List ℕ → List (List ℕ)
-words_of key = first_chunks 8 15 key
+abbrev pub checksum_words : List ℕ → List (List ℕ)
+checksum_words key = first_chunks 8 15 key
 
 -- the checksum of a label, from a first number: that number, or with it that of the last two bytes and of the words of the key that leads (Fletcher)
 unfoldable pub checksum_from : Lead → ℕ → ℕ
 checksum_from Start first = first
-checksum_from (Leader key) first = checked (words_of key) (first + 256 * slice_index key 122 + slice_index key 123) 0
+checksum_from (Leader key) first = checked (checksum_words key) (first + 256 * slice_index key 122 + slice_index key 123) 0
 
 abbrev pub checksum_of : Label → ℕ
 checksum_of l = checksum_from l.lead (l.level + 256 * l.index)
@@ -43,8 +43,8 @@ abbrev pub memo_places : ℕ
 memo_places = 227
 
 -- the place of a label, by its bytes
-unfoldable pub place_of : List ℕ → ℕ
-place_of bytes = checksum bytes % memo_places
+unfoldable pub memo_place : List ℕ → ℕ
+memo_place bytes = checksum bytes % memo_places
 
 -- what was found, at each place with its label: a page, or that there is none
 abbrev pub Remembered : Type 0
@@ -56,7 +56,7 @@ RemembersFew memo = length memo ≤ memo_places
 
 -- this is remembered of the label
 abbrev pub IsRemembered : Remembered → Label → Option Page → Type 0
-IsRemembered memo l page = slice_get memo (place_of (label_bytes l)) ≡ Some (Some (l, page))
+IsRemembered memo l page = slice_get memo (memo_place (label_bytes l)) ≡ Some (Some (l, page))
 
 -- what is at a place now was there before
 abbrev pub KeepsPlaces : Remembered → Remembered → Type 0
@@ -77,19 +77,19 @@ RemembersMore old new at found = (l : Label) (page : Option Page) → IsRemember
     → IsRemembered old l page ⊎ ((label_bytes l ≡ label_bytes at) × (page ≡ found))
 
 -- what is staged under a label, if anything is
-abbrev pub staged_at : Changes → Label → Option (Option Page)
+abbrev pub staged_at : StagedPages → Label → Option (Option Page)
 staged_at changes l = lookup (is_at (label_cmp l)) changes
 
 -- this is known of the label: it is staged under it, or nothing is, and it is remembered of it
-abbrev pub IsKnown : Changes → Remembered → Label → Option Page → Type 0
-IsKnown changes memo l page = (staged_at changes l ≡ Some page) ⊎ ((staged_at changes l ≡ None) × IsRemembered memo l page)
+abbrev pub IsRemembered : StagedPages → Remembered → Label → Option Page → Type 0
+IsRemembered changes memo l page = (staged_at changes l ≡ Some page) ⊎ ((staged_at changes l ≡ None) × IsRemembered memo l page)
 
 -- behind changes that is remembered of a label which was known of it with them
-abbrev pub Renews : Changes → Remembered → Remembered → Type 0
-Renews changes old new = (l : Label) (page : Option Page) → IsRemembered new l page → IsKnown changes old l page
+abbrev pub Renews : StagedPages → Remembered → Remembered → Type 0
+Renews changes old new = (l : Label) (page : Option Page) → IsRemembered new l page → IsRemembered changes old l page
 
 -- a loop that renews it has come so far
-pub record IsRenewing (old now : Remembered) (all rest : Changes) : Type 0 where
+pub record IsRenewing (old now : Remembered) (all rest : StagedPages) : Type 0 where
   pub within : (l : Label) (page : Option Page) → staged_at rest l ≡ Some page → staged_at all l ≡ Some page
   pub renews : (l : Label) (page : Option Page) → IsRemembered now l page
       → (staged_at all l ≡ Some page) ⊎ ((staged_at all l ≡ staged_at rest l) × IsRemembered old l page)

@@ -8,7 +8,7 @@ abbrev pub Starts : Type 0
 Starts = List (Label × ℕ)
 
 -- this is the start that is kept of the label
-pub record IsKept (kept : Starts) (l : Label) (start : ℕ) : Type 0 where
+pub record IsKeptStart (kept : Starts) (l : Label) (start : ℕ) : Type 0 where
   pub place : ℕ
   pub there : slice_get kept place ≡ Some (l, start)
 

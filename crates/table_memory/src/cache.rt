@@ -3,7 +3,7 @@
 ghost use Rattle.std.specs.Prelude.{◌≡◌, ◌<◌, ◌≤◌, ℕ, List, [], Some, IfOk, IfSome, length};
 ghost use Rattle.std.specs.Bool.{OnTrue};
 ghost use Rattle.store_model.specs.Parameters.{image_len, slots_limit};
-ghost use Rattle.table_memory.specs.Caches.{kept_at, KeepsAll, KeepsNoMore, KeepsOne, Rewrites, changes_of, RewritesFirst, most_kept, IsCacheOf, ReadsSlot, IsOfKept, TellsOfSlot};
+ghost use Rattle.table_memory.specs.Caches.{kept_at, KeepsAll, KeepsNoMore, KeepsOne, Rewrites, changes_of, RewritesFirst, most_kept, IsSlotCacheOf, ReadsSlot, IsOfKept, TellsOfSlot};
 
 use crate::boxed::Boxed;
 use crate::spares::Spares;
@@ -149,7 +149,7 @@ pub fn read_slot<D: Disk>(
     requires in_range { slots ≤ slots_limit }
     requires below { at < slots }
     requires size { (D.state disk.old).size ≡ image_len slots }
-    requires cached { IsCacheOf slots (D.state disk.old) cache.old }
+    requires cached { IsSlotCacheOf slots (D.state disk.old) cache.old }
     ensures call { ReadsSlot slots at (D.state disk.old) (D.state disk.new) cache.new into.new result }
 {
     if cache.fetch(at, into) {
@@ -173,7 +173,7 @@ pub fn tell_slot<D: Disk, T: Told>(
     requires in_range { slots ≤ slots_limit }
     requires below { at < slots }
     requires size { (D.state disk.old).size ≡ image_len slots }
-    requires cached { IsCacheOf slots (D.state disk.old) cache.old }
+    requires cached { IsSlotCacheOf slots (D.state disk.old) cache.old }
     ensures call { TellsOfSlot slots at (D.state disk.old) (D.state disk.new) cache.new (λ slot told. T.of slot wanted.now told) result }
 {
     match cache.tell(at, wanted) {
@@ -193,7 +193,7 @@ fn load_and_tell<D: Disk, T: Told>(
     requires in_range { slots ≤ slots_limit }
     requires below { at < slots }
     requires size { (D.state disk.old).size ≡ image_len slots }
-    requires cached { IsCacheOf slots (D.state disk.old) cache.old }
+    requires cached { IsSlotCacheOf slots (D.state disk.old) cache.old }
     ensures call { TellsOfSlot slots at (D.state disk.old) (D.state disk.new) cache.new (λ slot told. T.of slot wanted.now told) result }
 {
     let Some(mut slot) = cache.give_up() else {
@@ -218,7 +218,7 @@ fn read_and_tell<D: Disk, T: Told>(
     requires in_range { slots ≤ slots_limit }
     requires below { at < slots }
     requires size { (D.state disk.old).size ≡ image_len slots }
-    requires cached { IsCacheOf slots (D.state disk.old) cache.old }
+    requires cached { IsSlotCacheOf slots (D.state disk.old) cache.old }
     ensures call { TellsOfSlot slots at (D.state disk.old) (D.state disk.new) cache.new (λ slot told. T.of slot wanted.now told) result }
 {
     let mut there = [0; BLOCK];

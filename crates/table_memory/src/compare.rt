@@ -2,7 +2,7 @@
 
 ghost use Rattle.std.specs.Prelude.{◌≡◌, ◌<◌, ◌≤◌, ℕ, List, length, Some};
 ghost use Rattle.store_model.specs.Parameters.{image_len, block_len, slots_limit};
-ghost use Rattle.table_memory.specs.Caches.{IsCacheOf};
+ghost use Rattle.table_memory.specs.Caches.{IsSlotCacheOf};
 ghost use Rattle.table_memory.specs.OverlayState.{touched_at};
 ghost use Rattle.table_memory.specs.Comparing.{FindsChanges};
 
@@ -29,7 +29,7 @@ pub fn find_changes<D: Disk>(
     requires size { (D.state disk.old).size ≡ image_len slots }
     requires within { (i : ℕ) (slot : List ℕ) → touched_at written.old.entries i ≡ Some slot → i < slots }
     requires filled { (i : ℕ) (slot : List ℕ) → touched_at written.old.entries i ≡ Some slot → length slot ≡ block_len }
-    requires cached { IsCacheOf slots (D.state disk.old) cache.old }
+    requires cached { IsSlotCacheOf slots (D.state disk.old) cache.old }
     ensures call { FindsChanges slots written.old.entries (D.state disk.old) (D.state disk.new) cache.new result }
     ensures left { (i : ℕ) (slot : List ℕ) → touched_at written.new.entries i ≡ Some slot → touched_at written.old.entries i ≡ Some slot }
 {

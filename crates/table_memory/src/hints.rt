@@ -1,7 +1,7 @@
 //! Where pages were found last, and starts that were drawn last.
 
 ghost use Rattle.std.specs.Prelude.{◌≡◌, ◌⊎◌, [], IfSome};
-ghost use Rattle.table_memory.specs.Starts.{AreStarts, IsKept};
+ghost use Rattle.table_memory.specs.Starts.{AreStarts, IsKeptStart};
 
 use crate::memo::checksum_of_label;
 use seeded_draw::{Draw, Front};
@@ -85,7 +85,7 @@ impl Hints {
 
     /// The start of the label, if it is kept. It takes no memory.
     fn kept_start(&self, label: &Label) -> Option<u32>
-        ensures { IfSome result (IsKept self.now label.now) }
+        ensures { IfSome result (IsKeptStart self.now label.now) }
     {
         for (kept, start) in &self.starts {
             if *kept == *label {

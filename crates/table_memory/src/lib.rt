@@ -22,6 +22,6 @@ pub use changed::ChangedSlots;
 pub use compare::find_changes;
 pub use hints::Hints;
 pub use maps::empty;
-pub use memo::{PageMemo, place_of};
+pub use memo::{PageMemo, memo_place};
 pub use spares::Spares;
 pub use told::Told;

@@ -3,7 +3,7 @@
 ghost use Rattle.std.specs.Prelude.{◌≡◌, ◌<◌, ◌≤◌, [], IfSome, OnOk, length};
 ghost use Rattle.store_model.specs.Labels.{label_bytes};
 ghost use Rattle.store_model.specs.Labels.Lead.{Leader};
-ghost use Rattle.table_memory.specs.Memos.{checksum_from, checksum, place_of, IsRemembered, KeepsPlaces, Remembers, RemembersMore, Renews};
+ghost use Rattle.table_memory.specs.Memos.{checksum_from, checksum, memo_place, IsRemembered, KeepsPlaces, Remembers, RemembersMore, Renews};
 
 use crate::boxed::{Boxed, on_heap};
 use crate::spares::Spares;
@@ -66,8 +66,8 @@ pub fn checksum_of_label(label: &Label) -> u64
 }
 
 /// The place of a label.
-pub fn place_of(label: &Label) -> usize
-    ensures value { result ≡ place_of (label_bytes label.now) }
+pub fn memo_place(label: &Label) -> usize
+    ensures value { result ≡ memo_place (label_bytes label.now) }
     ensures below { result < PLACES }
 {
     (checksum_of_label(label) % PLACES as u64) as usize
@@ -106,7 +106,7 @@ impl PageMemo {
     /// What is remembered of the label, whose place this is, if anything is: a page, or that there is none. It takes no
     /// memory.
     pub fn recall(&self, place: usize, label: &Label) -> Option<&Option<Boxed<Page>>>
-        requires { place ≡ place_of (label_bytes label.now) }
+        requires { place ≡ memo_place (label_bytes label.now) }
         ensures { IfSome result (λ found. IsRemembered self.now label.now found.now) }
     {
         let Some((kept, found)) = self.places.get(place)? else {
@@ -127,7 +127,7 @@ impl PageMemo {
             self.places.clear();
             return None;
         };
-        let place = place_of(&label);
+        let place = memo_place(&label);
         page_of(mem::replace(&mut self.places[place], Some((label, found))))
     }
 

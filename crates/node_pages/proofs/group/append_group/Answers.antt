@@ -2,7 +2,7 @@ use Rattle.std.proofs.Common.{◌++◌, ◌∷◌, [], take, length, sym, ap, �
 use Rattle.std.specs.Prelude.{slice_get}
 use Rattle.std.proofs.lemmas.List.{take_all}
 use Rattle.store_model.specs.Pages.{group_pages}
-use Rattle.store_base.specs.Leads.{lead_of}
+use Rattle.store_base.specs.Leads.{model_lead}
 use Rattle.node_pages.proofs.Runs.{runs_few, length-pages_from, all_pages}
 use Rattle.node_pages.proofs.Joined.{take_next}
 use Rattle.node_pages.proofs.group.append_group.Goals as goal
@@ -13,7 +13,7 @@ page-requires-clause-number c = omega (arith, c.len.ensures.valid.few, c.loop-in
 pub loop-index-preserved : goal.loop-index-preserved
 loop-index-preserved c =
     let level = c.args.cells.now.level in
-    let lead = lead_of c.args.lead.now in
+    let lead = model_lead c.args.lead.now in
     let cells = c.args.cells.now.cells in
     let whole = group_pages level lead cells in
     c.in_ok-push.ensures.ok ∙ ap (λ ps. ps ++ c.page.result ∷ []) c.loop-index.invariant ∙ append_assoc c.args.pages.now (take c.loop-index.index whole) (c.page.result ∷ [])
@@ -22,7 +22,7 @@ loop-index-preserved c =
 pub returns-clause-ok : goal.returns-clause-ok
 returns-clause-ok c =
     let level = c.args.cells.now.level in
-    let lead = lead_of c.args.lead.now in
+    let lead = model_lead c.args.lead.now in
     let cells = c.args.cells.now.cells in
     let whole = group_pages level lead cells in
     c.loop-index.invariant

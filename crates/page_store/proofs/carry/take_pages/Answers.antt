@@ -1,6 +1,6 @@
 use Rattle.std.proofs.Common.{◌≡◌, sym, subst, ◌∙◌}
 use Rattle.std.proofs.lemmas.Result.{err_from_is_err_and}
-use Rattle.table_memory.specs.Staging.{Changes}
+use Rattle.table_memory.specs.Staging.{StagedPages}
 use Rattle.page_store.specs.Carrying.{TakingPages}
 use Rattle.page_store.proofs.CarryLemmas.{some_of, none_of, taking_begins, taking_passes, taking_takes, taking_fails, taking_ends}
 use Rattle.page_store.proofs.carry.take_pages.Goals as goal
@@ -11,7 +11,7 @@ loop-label-init g c =
     let slots = g.S.ReadSlots.state c.args.slots.now in
     let all = c.args.changes.now.entries in
     let start : c.into_iter-label-iterator.result ≡ all = c.into_iter-label-iterator.ensures.into_iter_gives.0 in
-    (subst (λ (es : Changes). TakingPages d slots slots all es) (sym start) (taking_begins d slots all), g.met.S.ReadSlots.follows_refl c.args.slots.now, c.requires.starts)
+    (subst (λ (es : StagedPages). TakingPages d slots slots all es) (sym start) (taking_begins d slots all), g.met.S.ReadSlots.follows_refl c.args.slots.now, c.requires.starts)
 
 pub loop-label-preserved : goal.loop-label-preserved
 loop-label-preserved g c =

@@ -1,6 +1,6 @@
 use Rattle.std.proofs.Common.{◌≡◌, ◌++◌, List, drop, Equal, Greater, sym, ap, subst, ◌∙◌, arith}
 use Rattle.std.proofs.lemmas.List.{take_all}
-use Rattle.store_base.specs.Leads.{lead_of}
+use Rattle.store_base.specs.Leads.{model_lead}
 use Rattle.store_model.specs.Pages.{Cell}
 use Rattle.skip_groups.specs.Floors.{last_of, lead_from}
 use Rattle.skip_groups.specs.GroupCells.{AreCells, side}
@@ -27,4 +27,4 @@ returns-clause-merged c valid =
     (subst (λ (xs : List Cell). AreCells level (start.cells ++ xs) → first.cells ≡ start.cells ++ xs) c.places_of-at.ensures.between.low c.in_ok-append_rising.ensures.added)
     (on_level first.level level (first.cells ++ side Equal key c.args.own.now) on_first c.in_ok-append_own.ensures.added)
     (on_level second.level level (second.cells ++ side Greater key cells) on_second (subst (λ (xs : List Cell). AreCells second.level (second.cells ++ xs) → third.cells ≡ second.cells ++ xs) above c.in_ok-append_rising-2.ensures.added)) in
-    record { next = c.lead_behind-next.ensures ∙ ap (λ xs. lead_from (last_of xs) (lead_of c.args.lead.now)) made.0; cells = made.1 }
+    record { next = c.lead_behind-next.ensures ∙ ap (λ xs. lead_from (last_of xs) (model_lead c.args.lead.now)) made.0; cells = made.1 }

@@ -1,5 +1,5 @@
 use Rattle.std.proofs.Common.{◌+◌, ◌<◌, ap, ◌∙◌, arith}
-use Rattle.store_base.specs.Leads.{lead_of}
+use Rattle.store_base.specs.Leads.{model_lead}
 use Rattle.node_pages.proofs.Runs.{runs_few}
 use Rattle.skip_groups.specs.Groups.{label_of}
 use Rattle.skip_groups.proofs.RunChanges.{run_puts, run_drops}
@@ -16,7 +16,7 @@ pub loop-i-preserved : goal.loop-i-preserved
 loop-i-preserved g c =
     let old = g.P.Pages.state c.args.pages.now in
     let now = g.P.Pages.state c.loop-i.pages in
-    let lead = lead_of c.args.lead.now in
+    let lead = model_lead c.args.lead.now in
     let list = c.args.cells.now in
     let h = c.loop-i.invariant.call in
     let below : c.args.first + c.loop-i.i < 4294967296 = omega (arith, c.loop-i-test.true) in

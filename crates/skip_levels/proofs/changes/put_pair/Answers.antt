@@ -1,6 +1,6 @@
 use Rattle.std.proofs.Common.{refl, sym, ap, ◌∙◌, arith}
 use Rattle.std.proofs.lemmas.Result.{err_from_is_err_and}
-use Rattle.store_base.specs.Leads.{lead_of}
+use Rattle.store_base.specs.Leads.{model_lead}
 use Rattle.skip_levels.specs.Descent.{lead_in}
 use Rattle.skip_levels.proofs.PairCalls.{no_place_to_put, may_put, pair_not_put, pair_put, lowest_put}
 use Rattle.skip_levels.proofs.PutSearches.{no_put_place, place_of_lowest}
@@ -17,11 +17,11 @@ returns-in_err-go_to-clause-call g c =
 
 pub put_lowest-requires : goal.put_lowest-requires
 put_lowest-requires g c = may_put (g.W.Draw.drawn c.args.draw.now) (g.P.Pages.state c.args.pages.now) (g.P.Pages.state c.go_to.new.pages) c.args.known.now c.args.key.now c.go_to.new.known c.requires.whole c.requires.known c.args.value (record { top = 0; lead = c.known_lead.result })
-    (place_of_lowest (g.W.Draw.drawn c.args.draw.now) (g.P.Pages.state c.args.pages.now) (g.P.Pages.state c.go_to.new.pages) c.args.known.now c.args.key.now c.go_to.new.known c.height.result c.height.ensures (omega (arith, (g.met.W.Draw.lawful c.args.draw.now).level_in_range c.args.key.now, c.height.ensures)) 0 (sym c.if-own-eq0.true ∙ c.level_from-own.ensures) (lead_in c.go_to.new.known) c.in_ok-go_to.ensures.call c.known_lead.result refl (ap lead_of c.known_lead.ensures)) c.requires.room
+    (place_of_lowest (g.W.Draw.drawn c.args.draw.now) (g.P.Pages.state c.args.pages.now) (g.P.Pages.state c.go_to.new.pages) c.args.known.now c.args.key.now c.go_to.new.known c.height.result c.height.ensures (omega (arith, (g.met.W.Draw.lawful c.args.draw.now).level_in_range c.args.key.now, c.height.ensures)) 0 (sym c.if-own-eq0.true ∙ c.level_from-own.ensures) (lead_in c.go_to.new.known) c.in_ok-go_to.ensures.call c.known_lead.result refl (ap model_lead c.known_lead.ensures)) c.requires.room
 
 pub returns-then-own-eq0-clause-call : goal.returns-then-own-eq0-clause-call
 returns-then-own-eq0-clause-call g c = lowest_put (g.W.Draw.drawn c.args.draw.now) (g.P.Pages.state c.args.pages.now) (g.P.Pages.state c.go_to.new.pages) c.args.known.now c.args.key.now c.go_to.new.known c.requires.whole c.requires.known c.args.value (record { top = 0; lead = c.known_lead.result })
-    (place_of_lowest (g.W.Draw.drawn c.args.draw.now) (g.P.Pages.state c.args.pages.now) (g.P.Pages.state c.go_to.new.pages) c.args.known.now c.args.key.now c.go_to.new.known c.height.result c.height.ensures (omega (arith, (g.met.W.Draw.lawful c.args.draw.now).level_in_range c.args.key.now, c.height.ensures)) 0 (sym c.if-own-eq0.true ∙ c.level_from-own.ensures) (lead_in c.go_to.new.known) c.in_ok-go_to.ensures.call c.known_lead.result refl (ap lead_of c.known_lead.ensures)) c.requires.room (g.P.Pages.state c.put_lowest.new.pages) c.as_bytes.ensures.valid (c.as_slice.ensures.some, c.as_slice.ensures.fits, c.as_slice.ensures.bytes) c.put_lowest.result refl c.put_lowest.ensures.call
+    (place_of_lowest (g.W.Draw.drawn c.args.draw.now) (g.P.Pages.state c.args.pages.now) (g.P.Pages.state c.go_to.new.pages) c.args.known.now c.args.key.now c.go_to.new.known c.height.result c.height.ensures (omega (arith, (g.met.W.Draw.lawful c.args.draw.now).level_in_range c.args.key.now, c.height.ensures)) 0 (sym c.if-own-eq0.true ∙ c.level_from-own.ensures) (lead_in c.go_to.new.known) c.in_ok-go_to.ensures.call c.known_lead.result refl (ap model_lead c.known_lead.ensures)) c.requires.room (g.P.Pages.state c.put_lowest.new.pages) c.as_bytes.ensures.valid (c.as_slice.ensures.some, c.as_slice.ensures.fits, c.as_slice.ensures.bytes) c.put_lowest.result refl c.put_lowest.ensures.call
 
 pub returns-in_err-top-clause-call : goal.returns-in_err-top-clause-call
 returns-in_err-top-clause-call g c =

@@ -1,5 +1,5 @@
 use Rattle.std.proofs.Common.{ap, arith}
-use Rattle.store_base.specs.Leads.{lead_of}
+use Rattle.store_base.specs.Leads.{model_lead}
 use Rattle.std.proofs.lemmas.Result.{err_from_is_err_and}
 use Rattle.skip_levels.proofs.ValueLemmas.{no_lead, no_value, place_found}
 use Rattle.skip_levels.proofs.search.place_from_above.Goals as goal
@@ -12,10 +12,10 @@ returns-in_err-lead-clause-call g c =
 pub returns-in_err-search_group-clause-call : goal.returns-in_err-search_group-clause-call
 returns-in_err-search_group-clause-call g c =
     let p = err_from_is_err_and c.from_residual-in_err-search_group.result c.from_residual-in_err-search_group.ensures.1 in
-    rw (p.1, p.2) (no_value (g.P.Pages.state c.args.pages.now) (g.P.Pages.state c.find_lead.new.pages) c.args.height c.args.known.now c.args.top c.args.key.now c.find_lead.new.known (omega arith) (g.P.Pages.state c.search_group.new.pages) c.in_ok-lead.lead c.in_ok-lead.ensures.call _ (ap lead_of c.known_lead.ensures) c.search_group.new.found c.in_err-search_group.field-0.0 c.in_err-search_group.ensures.call)
+    rw (p.1, p.2) (no_value (g.P.Pages.state c.args.pages.now) (g.P.Pages.state c.find_lead.new.pages) c.args.height c.args.known.now c.args.top c.args.key.now c.find_lead.new.known (omega arith) (g.P.Pages.state c.search_group.new.pages) c.in_ok-lead.lead c.in_ok-lead.ensures.call _ (ap model_lead c.known_lead.ensures) c.search_group.new.found c.in_err-search_group.field-0.0 c.in_err-search_group.ensures.call)
 
 pub returns-clause-call : goal.returns-clause-call
-returns-clause-call g c = place_found (g.P.Pages.state c.args.pages.now) (g.P.Pages.state c.find_lead.new.pages) c.args.height c.args.known.now c.args.top c.args.key.now c.find_lead.new.known (omega arith) (g.P.Pages.state c.search_group.new.pages) c.in_ok-lead.lead c.in_ok-lead.ensures.call _ (ap lead_of c.known_lead.ensures) c.search_group.new.found tt c.in_ok-search_group.ensures.call
+returns-clause-call g c = place_found (g.P.Pages.state c.args.pages.now) (g.P.Pages.state c.find_lead.new.pages) c.args.height c.args.known.now c.args.top c.args.key.now c.find_lead.new.known (omega arith) (g.P.Pages.state c.search_group.new.pages) c.in_ok-lead.lead c.in_ok-lead.ensures.call _ (ap model_lead c.known_lead.ensures) c.search_group.new.found tt c.in_ok-search_group.ensures.call
 
 -- what each call keeps of the state below
 pub returns-in_err-search_group-clause-follows : goal.returns-in_err-search_group-clause-follows

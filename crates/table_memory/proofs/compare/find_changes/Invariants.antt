@@ -1,5 +1,5 @@
 use Rattle.std.proofs.Common.{length}
-use Rattle.table_memory.specs.Caches.{IsCacheOf}
+use Rattle.table_memory.specs.Caches.{IsSlotCacheOf}
 use Rattle.table_memory.proofs.ScanLemmas.{IsScanning}
 use Rattle.table_memory.proofs.compare.find_changes.Given as goal
 
@@ -7,7 +7,7 @@ use Rattle.table_memory.proofs.compare.find_changes.Given as goal
 abbrev pub invariant-loop-at : goal.invariant-loop-at
 invariant-loop-at g l = record {
   scanning : IsScanning l.slots l.fn.written.entries (g.D.Disk.state l.fn.disk) (g.D.Disk.state l.disk) l.changed.items l.written.entries;
-  cached : IsCacheOf l.slots (g.D.Disk.state l.disk) l.cache;
+  cached : IsSlotCacheOf l.slots (g.D.Disk.state l.disk) l.cache;
 }
 
 abbrev pub decreases-loop-at : goal.decreases-loop-at

@@ -2,7 +2,7 @@ use Rattle.std.proofs.Common.{ℕ, List, Ok, Err, sym, subst}
 use Rattle.std.proofs.lemmas.Result.{err_from_is_err_and}
 use Rattle.gate_journal.specs.ViewState.{KeepsView-refl}
 use Rattle.ordered_table.specs.Tables.{TellsOrder}
-use Rattle.table_memory.specs.Caches.{IsCacheOf, TellsOfSlot}
+use Rattle.table_memory.specs.Caches.{IsSlotCacheOf, TellsOfSlot}
 use Rattle.page_store.specs.declared.label_order.LabelOrder.{LabelOrder}
 use Rattle.page_store.proofs.OverlayLemmas.{orders_touched, orders_below, orders_failed, view_read}
 use Rattle.page_store.proofs.overlay.OverlayOrderSlots.order.Goals as goal
@@ -22,10 +22,10 @@ returns-clause-call g c =
     orders_below o.params.slots o.touched.entries old new c.tell_slot.new.cache c.args.at c.args.wanted.now c.in_ok-order.field-0 c.requires (sym c.in_default.ensures.value) told
 
 pub tell_slot-requires-clause-cached : goal.tell_slot-requires-clause-cached
-tell_slot-requires-clause-cached g c = subst (λ (n : ℕ). IsCacheOf n (g.D.Disk.state c.args.self.now.disk) c.args.self.now.cache) (sym c.slots-slots.ensures.value) c.args.self.now.cached
+tell_slot-requires-clause-cached g c = subst (λ (n : ℕ). IsSlotCacheOf n (g.D.Disk.state c.args.self.now.disk) c.args.self.now.cache) (sym c.slots-slots.ensures.value) c.args.self.now.cached
 
 pub invariant_of-self-clause-cached : goal.invariant_of-self-clause-cached
-invariant_of-self-clause-cached g c = subst (λ (n : ℕ). IsCacheOf n (g.D.Disk.state c.tell_slot.new.disk) c.tell_slot.new.cache) c.slots-slots.ensures.value c.tell_slot.ensures.call.cached
+invariant_of-self-clause-cached g c = subst (λ (n : ℕ). IsSlotCacheOf n (g.D.Disk.state c.tell_slot.new.disk) c.tell_slot.new.cache) c.slots-slots.ensures.value c.tell_slot.ensures.call.cached
 
 pub returns-in_err-order-clause-call : goal.returns-in_err-order-clause-call
 returns-in_err-order-clause-call g c =

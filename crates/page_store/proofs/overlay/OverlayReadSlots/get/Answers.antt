@@ -2,7 +2,7 @@ use Rattle.std.proofs.Common.{◌≡◌, ℕ, ◌+◌, List, Option, Some, Ok, E
 use Rattle.std.proofs.lemmas.Result.{err_from_is_err_and}
 use Rattle.gate_journal.specs.ViewState.{KeepsView-refl}
 use Rattle.store_model.specs.Lists.{numbers_below}
-use Rattle.table_memory.specs.Caches.{IsCacheOf, ReadsSlot}
+use Rattle.table_memory.specs.Caches.{IsSlotCacheOf, ReadsSlot}
 use Rattle.table_memory.specs.OverlayState.{bytes_or, slot_over}
 use Rattle.gate_journal.specs.Phases.{table_slot}
 use Rattle.page_store.proofs.OverlayLemmas.{get_number, get_failed, view_read}
@@ -44,10 +44,10 @@ returns-clause-call g c =
     }
 
 pub read_slot-requires-clause-cached : goal.read_slot-requires-clause-cached
-read_slot-requires-clause-cached g c = subst (λ (n : ℕ). IsCacheOf n (g.D.Disk.state c.args.self.now.disk) c.args.self.now.cache) (sym c.slots-slots.ensures.value) c.args.self.now.cached
+read_slot-requires-clause-cached g c = subst (λ (n : ℕ). IsSlotCacheOf n (g.D.Disk.state c.args.self.now.disk) c.args.self.now.cache) (sym c.slots-slots.ensures.value) c.args.self.now.cached
 
 pub invariant_of-self-clause-cached : goal.invariant_of-self-clause-cached
-invariant_of-self-clause-cached g c = subst (λ (n : ℕ). IsCacheOf n (g.D.Disk.state c.read_slot.new.disk) c.read_slot.new.cache) c.slots-slots.ensures.value c.read_slot.ensures.call.cached
+invariant_of-self-clause-cached g c = subst (λ (n : ℕ). IsSlotCacheOf n (g.D.Disk.state c.read_slot.new.disk) c.read_slot.new.cache) c.slots-slots.ensures.value c.read_slot.ensures.call.cached
 
 pub returns-in_err-read_slot-clause-call : goal.returns-in_err-read_slot-clause-call
 returns-in_err-read_slot-clause-call g c =

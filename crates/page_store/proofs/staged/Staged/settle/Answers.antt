@@ -4,7 +4,7 @@ use Rattle.gate_journal.specs.ViewState.{KeepsView-refl}
 use Rattle.page_store.specs.declared.fault.SettleFault.{SettleFault}
 use Rattle.page_store.specs.declared.fault.SettleFault.TheVariants as causes
 use Rattle.store_model.specs.Parameters.{Parameters}
-use Rattle.table_memory.specs.Caches.{IsCacheOf}
+use Rattle.table_memory.specs.Caches.{IsSlotCacheOf}
 use Rattle.page_store.specs.Preparing.{FindsSlots}
 use Rattle.page_store.specs.Settling.{Settles}
 use Rattle.page_store.specs.StagedState.{StagedState, staged_state}
@@ -108,9 +108,9 @@ returns-in-Err g c =
 pub commit_slots-requires-clause-cached : goal.commit_slots-requires-clause-cached
 commit_slots-requires-clause-cached g c =
     let mid = c.find_slots-found.new.overlay in
-    subst (λ (p : Parameters). IsCacheOf p.slots (g.D.Disk.state mid.disk) mid.cache) c.find_slots-found.ensures.follows.params mid.cached
+    subst (λ (p : Parameters). IsSlotCacheOf p.slots (g.D.Disk.state mid.disk) mid.cache) c.find_slots-found.ensures.follows.params mid.cached
 
 pub invariant_of-overlay-clause-cached : goal.invariant_of-overlay-clause-cached
 invariant_of-overlay-clause-cached g c =
     let slots = c.commit_slots.new in
-    subst (λ (p : Parameters). IsCacheOf p.slots (g.D.Disk.state slots.disk) slots.cache) (sym c.find_slots-found.ensures.follows.params) c.commit_slots.ensures.call.cached
+    subst (λ (p : Parameters). IsSlotCacheOf p.slots (g.D.Disk.state slots.disk) slots.cache) (sym c.find_slots-found.ensures.follows.params) c.commit_slots.ensures.call.cached

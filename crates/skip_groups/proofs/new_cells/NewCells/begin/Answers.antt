@@ -1,5 +1,5 @@
 use Rattle.std.proofs.Common.{arith}
-use Rattle.store_base.specs.Leads.{lead_of}
+use Rattle.store_base.specs.Leads.{model_lead}
 use Rattle.skip_groups.proofs.NewCellsSteps.{set_begins, some_run}
 use Rattle.skip_groups.proofs.new_cells.NewCells.begin.Goals as goal
 
@@ -11,7 +11,7 @@ returns-then-len-clause-set c pages h =
     let page = c.args.page.now in
     let cells = c.merge_page.new.cells in
     let few = c.in_ok-self.ensures.few in
-    set_begins c.args.self.now.cells.level (lead_of c.args.lead.now) c.args.key.now c.args.own.now pages page c.args.self.now h c.requires.none c.requires.first _ cells (omega (arith, few))
+    set_begins c.args.self.now.cells.level (model_lead c.args.lead.now) c.args.key.now c.args.own.now pages page c.args.self.now h c.requires.none c.requires.first _ cells (omega (arith, few))
     c.in_ok-self.ensures.merged
 
 pub returns-then-is_page-clause-set : goal.returns-then-is_page-clause-set
@@ -19,7 +19,7 @@ returns-then-is_page-clause-set c pages h =
     let page = c.args.page.now in
     let cells = c.merge_page.new.cells in
     let few = c.in_ok-self.ensures.few in
-    set_begins c.args.self.now.cells.level (lead_of c.args.lead.now) c.args.key.now c.args.own.now pages page c.args.self.now h c.requires.none c.requires.first _ cells (omega (arith, few))
+    set_begins c.args.self.now.cells.level (model_lead c.args.lead.now) c.args.key.now c.args.own.now pages page c.args.self.now h c.requires.none c.requires.first _ cells (omega (arith, few))
     c.in_ok-self.ensures.merged
 
 pub returns-else-is_page-clause-set : goal.returns-else-is_page-clause-set
@@ -27,5 +27,5 @@ returns-else-is_page-clause-set c pages h =
     let page = c.args.page.now in
     let cells = c.merge_page.new.cells in
     let few = c.in_ok-self.ensures.few in
-    set_begins c.args.self.now.cells.level (lead_of c.args.lead.now) c.args.key.now c.args.own.now pages page c.args.self.now h c.requires.none c.requires.first _ cells (omega (arith, few))
+    set_begins c.args.self.now.cells.level (model_lead c.args.lead.now) c.args.key.now c.args.own.now pages page c.args.self.now h c.requires.none c.requires.first _ cells (omega (arith, few))
     c.in_ok-self.ensures.merged

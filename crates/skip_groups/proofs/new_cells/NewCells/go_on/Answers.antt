@@ -1,18 +1,18 @@
 use Rattle.std.proofs.Common.{refl, subst, arith}
-use Rattle.store_base.specs.Leads.{lead_of}
+use Rattle.store_base.specs.Leads.{model_lead}
 use Rattle.skip_groups.specs.GroupCells.{IsKept}
 use Rattle.skip_groups.proofs.NewCellsSteps.{set_stays}
 use Rattle.skip_groups.proofs.new_cells.NewCells.go_on.Goals as goal
 
 pub returns-then-self-gt0-clause-set : goal.returns-then-self-gt0-clause-set
-returns-then-self-gt0-clause-set c pages h = c.append.ensures.set (lead_of c.args.lead.now) c.args.own.now pages h
+returns-then-self-gt0-clause-set c pages h = c.append.ensures.set (model_lead c.args.lead.now) c.args.own.now pages h
 
 pub returns-then-self-gt0-clause-step : goal.returns-then-self-gt0-clause-step
-returns-then-self-gt0-clause-step c = c.append.ensures.step (lead_of c.args.lead.now)
+returns-then-self-gt0-clause-step c = c.append.ensures.step (model_lead c.args.lead.now)
 
 pub returns-clause-set : goal.returns-clause-set
 returns-clause-set c pages h =
     let page = c.args.page.now in
-    set_stays c.args.self.now.cells.level (lead_of c.args.lead.now) c.args.key.now c.args.own.now pages page c.args.self.now h (omega arith)
+    set_stays c.args.self.now.cells.level (model_lead c.args.lead.now) c.args.key.now c.args.own.now pages page c.args.self.now h (omega arith)
     (subst (λ n. IsKept n c.args.key.now page) c.level.ensures.value (c.stays.ensures.stays c.if-not-stays.false))
     _ c.key.result refl c.len.ensures.valid.some_cell (rw c.len.ensures.value at c.key.ensures.value)

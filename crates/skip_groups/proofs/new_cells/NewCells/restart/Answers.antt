@@ -1,5 +1,5 @@
 use Rattle.std.proofs.Common.{refl, sym, ap, subst}
-use Rattle.store_base.specs.Leads.{lead_of}
+use Rattle.store_base.specs.Leads.{model_lead}
 use Rattle.node_pages.specs.Cells.{CellList}
 use Rattle.skip_groups.specs.GroupCells.{AreCells}
 use Rattle.skip_groups.proofs.CellLists.{no_cells}
@@ -14,7 +14,7 @@ returns-clause-valid c = record {
 }
 
 pub returns-clause-set : goal.returns-clause-set
-returns-clause-set c key own = set_none c.args.level (lead_of c.args.lead.now) key own c.args.lead.now c.restart.new.self refl (ap (λ (list : CellList). list.cells) c.restart.ensures)
+returns-clause-set c key own = set_none c.args.level (model_lead c.args.lead.now) key own c.args.lead.now c.restart.new.self refl (ap (λ (list : CellList). list.cells) c.restart.ensures)
 
 pub returns-clause-parted : goal.returns-clause-parted
-returns-clause-parted c key start = part_none c.args.level (lead_of c.args.lead.now) key start c.args.lead.now c.restart.new.self refl (ap (λ (list : CellList). list.cells) c.restart.ensures)
+returns-clause-parted c key start = part_none c.args.level (model_lead c.args.lead.now) key start c.args.lead.now c.restart.new.self refl (ap (λ (list : CellList). list.cells) c.restart.ensures)

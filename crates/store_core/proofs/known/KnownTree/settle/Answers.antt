@@ -1,7 +1,7 @@
 use Rattle.std.proofs.Common.{◌≡◌, sym, ap, subst, ◌∙◌}
 use Rattle.store_model.specs.Parameters.{Parameters}
 use Rattle.store_model.specs.Images.{layout}
-use Rattle.store_core.specs.Known.{KnownState, IsKnown, TellsTree, one_known}
+use Rattle.store_core.specs.Known.{KnownState, IsKnownTree, TellsTree, one_known}
 use Rattle.image_check.specs.Standing.{IsFitting}
 use Rattle.store_core.proofs.known.KnownTree.settle.Goals as goal
 
@@ -19,14 +19,14 @@ returns g c =
         params = params;
         settled = c.of.ensures;
         seen = λ observable t fit is.
-            let there : IsKnown (state now) s.params s.opened.value t = record {
+            let there : IsKnownTree (state now) s.params s.opened.value t = record {
               fitting = subst (λ (p : Parameters). IsFitting t p) (sym params) fit;
               seen = λ seen. ap (λ (disk : g.row.D.Denot). (state disk).bytes) c.of.ensures ∙ is ∙ ap (layout t) (sym params);
               unseen = λ hidden. absurd (hidden (ap (λ (disk : g.row.D.Denot). (state disk).is_observable) c.of.ensures ∙ observable));
             } in
             one_known (state now) s.params s.opened.value given.0 t given.1 there;
         unseen = λ hidden.
-            let there : IsKnown (state now) s.params s.opened.value s.known.0 = record {
+            let there : IsKnownTree (state now) s.params s.opened.value s.known.0 = record {
               fitting = s.known.1.fitting;
               seen = λ seen. absurd (hidden (sym (ap (λ (disk : g.row.D.Denot). (state disk).is_observable) c.of.ensures) ∙ seen));
               unseen = λ other. s.known.1.unseen (λ seen. other (same ∙ seen));

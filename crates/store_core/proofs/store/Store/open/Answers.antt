@@ -4,9 +4,9 @@ use Rattle.store_model.specs.PageMaps.{PageMap}
 use Rattle.store_model.specs.Placement.{Table, pages_in}
 use Rattle.seeded_draw.specs.AnyDrawn.{any_draw}
 use Rattle.seeded_draw.specs.declared.any.AnyDraw.{AnyDraw}
-use Rattle.page_store.specs.PageImages.{pages_in_table, StandsAt}
+use Rattle.page_store.specs.PageImages.{pages_in_table, SlotStandsAt}
 use Rattle.page_store.specs.StagedState.{StagedState}
-use Rattle.store_core.specs.Known.{KnownState, IsKnown}
+use Rattle.store_core.specs.Known.{KnownState, IsKnownTree}
 use Rattle.store_core.specs.StagedTree.{AreAt}
 use Rattle.store_core.specs.StoreFields.{HoldsKnown}
 use Rattle.store_core.proofs.AnswerSteps.{list_at}
@@ -25,8 +25,8 @@ new-pages-requires-clause-stands g c observable =
     let t = c.requires.stands.0 in
     let fit = fitting_open disk c.args.contents t c.requires.stands.1 in
     let stands = c.requires.stands.1.stands observable in
-    subst (λ (d : Draw). StandsAt d p (pages_in_table p.slots disk.bytes) disk) (sym c.new-draw.ensures)
-    (subst (λ (m : PageMap). StandsAt (draw_of p) p m disk) (sym (table_pages t p disk.bytes fit stands.layout_is)) (stands_pages t p disk fit stands))
+    subst (λ (d : Draw). SlotStandsAt d p (pages_in_table p.slots disk.bytes) disk) (sym c.new-draw.ensures)
+    (subst (λ (m : PageMap). SlotStandsAt (draw_of p) p m disk) (sym (table_pages t p disk.bytes fit stands.layout_is)) (stands_pages t p disk fit stands))
 
 pub new-pages-requires-clause-count : goal.new-pages-requires-clause-count
 new-pages-requires-clause-count g c observable =
@@ -60,7 +60,7 @@ invariant_of-result g c =
     let fit = fitting_open (state disk) c.args.contents t at in
     let ends = c.new-pages.ensures in
     let pages = open_pages state disk c.args.contents t c.new-pages.result c.new-draw.result at c.new-draw.ensures ends.params ends.drawn ends.disk ends.table ends.map in
-    let known : IsKnown (state disk) p c.args.contents.pairs t = record { fitting = fit; seen = λ observable. (at.stands observable).layout_is; unseen = λ hidden. at.contents_are.pairs_are } in
+    let known : IsKnownTree (state disk) p c.args.contents.pairs t = record { fitting = fit; seen = λ observable. (at.stands observable).layout_is; unseen = λ hidden. at.contents_are.pairs_are } in
     let served : HoldsKnown state (record { params = p; tree = t; settled = disk }) c.new.result = record {
       at = record {
         fitting = fit;

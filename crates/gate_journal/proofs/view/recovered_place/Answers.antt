@@ -1,7 +1,7 @@
 use Rattle.std.proofs.Common.{ℕ, Bool, sym, ap, ◌∙◌, if◌then◌else◌}
 use Rattle.store_model.specs.Parameters.{shadow_at, table_at}
 use Rattle.store_model.specs.Images.{bytes_at, recovered_slot}
-use Rattle.gate_journal.proofs.view.place_of.Goals as goal
+use Rattle.gate_journal.proofs.view.recovered_place.Goals as goal
 
 pub returns-then-branch-clause-value : goal.returns-then-branch-clause-value
 unfolding recovered_slot

@@ -1,7 +1,7 @@
 use Rattle.std.proofs.Common.{◌≡◌, ◌+◌, ◌-◌, length, arith}
 use Rattle.disk_model.proofs.Crashes.{IsObservable-call}
 use Rattle.gate_journal.proofs.Wiping.{wipes_fault, wipes}
-use Rattle.gate_journal.proofs.wipe.wipe_disk.Goals as goal
+use Rattle.gate_journal.proofs.wipe.overwrite_disk.Goals as goal
 
 pub returns-in_err-write_first-clause-wipes : goal.returns-in_err-write_first-clause-wipes
 returns-in_err-write_first-clause-wipes g c observable =

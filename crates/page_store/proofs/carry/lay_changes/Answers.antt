@@ -1,7 +1,7 @@
 use Rattle.std.proofs.Common.{◌∙◌}
 use Rattle.std.proofs.lemmas.Result.{err_from_is_err_and}
 use Rattle.page_store.proofs.CarriedLemmas.{carried_out, carried_failed}
-use Rattle.page_store.proofs.carry.carry_out.Goals as goal
+use Rattle.page_store.proofs.carry.lay_changes.Goals as goal
 
 pub returns-clause-call : goal.returns-clause-call
 returns-clause-call g c =

@@ -1,7 +1,7 @@
 use Rattle.std.proofs.Common.{sym, ◌∙◌, ap, Some, arith, rules}
 use Rattle.store_model.specs.Grammar.{number_of}
 use Rattle.command_line.proofs.FormatLemmas.{fits_byte, passes_byte, no_slots, no_height, great_height, no_kind, no_seed, made_request}
-use Rattle.command_line.proofs.request.read_params.Goals as goal
+use Rattle.command_line.proofs.request.params_of_values.Goals as goal
 
 pub returns-in_err-slots-clause-value : goal.returns-in_err-slots-clause-value
 returns-in_err-slots-clause-value c =

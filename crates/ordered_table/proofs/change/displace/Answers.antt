@@ -2,7 +2,7 @@ use Rattle.std.proofs.Common.{◌≡◌, ℕ, ◌+◌, ◌-◌, ◌%◌, ◌<◌
 use Rattle.std.proofs.lemmas.Result.{err_from_is_err_and}
 use Rattle.ordered_table.proofs.InsertCalls.{is_less, is_not_less}
 use Rattle.ordered_table.proofs.Settling.{settles_unread, settles_unwritten, settles_free, settles_displacing, on_way_goes_on, settles_round}
-use Rattle.ordered_table.proofs.change.settle.Goals as goal
+use Rattle.ordered_table.proofs.change.displace.Goals as goal
 
 pub returns-in_err-get-clause-call : goal.returns-in_err-get-clause-call
 returns-in_err-get-clause-call g c =

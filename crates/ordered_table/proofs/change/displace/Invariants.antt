@@ -1,6 +1,6 @@
 use Rattle.std.proofs.Common.{◌-◌}
 use Rattle.ordered_table.proofs.Settling.{OnWay}
-use Rattle.ordered_table.proofs.change.settle.Given as goal
+use Rattle.ordered_table.proofs.change.displace.Given as goal
 
 abbrev pub invariant-loop-look : goal.invariant-loop-look
 invariant-loop-look g l =
