@@ -1,0 +1,20 @@
+#compdef hstore
+# What a shell completes behind `hstore`, as docs/hstore.bash does. `hstore --install` puts it where zsh looks for it.
+local -a its=(format run check scrub wipe big)
+case $CURRENT in
+    2)
+        compadd -- help --help --version --install --uninstall
+        _files
+        ;;
+    3)
+        case $words[2] in
+            help) compadd -a its ;;
+            --install | --uninstall) _files -/ ;;
+            -h | --help | --version) ;;
+            *) compadd -a its ;;
+        esac
+        ;;
+    4) [[ $words[3] != format ]] || compadd 64 256 1024 4096 16384 ;;
+    5) [[ $words[3] != format ]] || compadd 1 2 3 4 5 6 7 8 ;;
+    6) [[ $words[3] != format ]] || compadd sha256 ruler ;;
+esac
