@@ -14,6 +14,6 @@ mod wanted;
 pub use cells::{append_own, lead_behind};
 pub use group::label_in_group;
 pub use new_cells::NewCells;
-pub use search::{search_group, search_group_from};
+pub use search::search_group;
 pub use set_group::{change_run, part_group, read_new_cells};
 pub use wanted::{Wanted, pair_of};

@@ -1,13 +1,10 @@
 //! The search for the cells next to a key in the pages of one group.
 
-ghost use Rattle.std.specs.Prelude.{◌≡◌, ◌-◌, ◌*◌, ◌<◌, ◌≤◌, List, length, slice_get};
+ghost use Rattle.std.specs.Prelude.{◌≡◌, ◌-◌, ◌<◌, ◌≤◌, length, slice_get};
 ghost use Rattle.std.specs.List.{prefix_len};
 ghost use Rattle.store_base.specs.Leads.{model_lead};
-ghost use Rattle.store_model.specs.Pages.{Cell, page_room};
-ghost use Rattle.node_pages.specs.PagesState.{IsObservable};
 ghost use Rattle.skip_groups.specs.Floors.{is_not_above};
-ghost use Rattle.skip_groups.specs.Groups.{HoldsGroup};
-ghost use Rattle.skip_groups.specs.Searches.{seen, IsSearchBehind, IsGroupSearch, IsGroupSearchFrom};
+ghost use Rattle.skip_groups.specs.Searches.{seen, IsGroupSearch};
 
 use crate::group::{is_last, label_in_group};
 use crate::wanted::Wanted;
@@ -69,39 +66,9 @@ fn see_next<T: Wanted>(page: &Page, index: u32, key: &Key, found: &mut T)
     }
 }
 
-/// Goes on with a search for the cells next to a key in the group that `lead` leads on the level, behind so many pages, whose cells
-/// are not above the key, and answers at which page it ends. Each page from there on is asked for once at most, and none behind a page
-/// with room. After a fault a part may be seen.
-fn search_behind<P: Pages, T: Wanted>(
-    pages: &mut P,
-    level: u8,
-    lead: &Lead,
-    first: u32,
-    key: &Key,
-    found: &mut T,
-) -> Result<u32, Fault>
-    requires { IsObservable (P.state pages.old) → (cells : List Cell) → HoldsGroup (P.state pages.old).pages level (model_lead lead.now) cells → page_room level * first ≤ length cells }
-    ensures call { IsSearchBehind (T.floor key.now) (T.after key.now) (P.state pages.old) (P.state pages.new) level (model_lead lead.now) key.now first found.old found.new result }
-    ensures follows { P.follows pages.old pages.new }
-{
-    for index in first..u32::MAX {
-        let looked = pages.look(&label_in_group(level, lead, index))?;
-        let Some(page) = looked else {
-            return Ok(index.saturating_sub(1));
-        };
-        let count = count_in_group(level, page, key);
-        see_last(page, count, key, found);
-        if count < page.len() || is_last(level, page) {
-            see_next(page, count, key, found);
-            return Ok(index);
-        }
-    }
-    Ok(0)
-}
-
-/// Sees the cells next to a key in the group that `lead` leads on the level: the one with the greatest key that is not above the
-/// key, and the one with the least key above it. Each page of the group is asked for once at most, and none behind a page with
-/// room. After a fault a part may be seen.
+/// Sees the cells next to a key in the group that `lead` leads on the level: the one with the greatest key that is not
+/// above the key, and the one with the least key above it. Each page of the group is asked for once at most, and none
+/// behind a page with room. After a fault a part may be seen.
 pub fn search_group<P: Pages, T: Wanted>(
     pages: &mut P,
     level: u8,
@@ -112,39 +79,17 @@ pub fn search_group<P: Pages, T: Wanted>(
     ensures call { IsGroupSearch (T.floor key.now) (T.after key.now) (P.state pages.old) (P.state pages.new) level (model_lead lead.now) key.now found.old found.new result }
     ensures follows { P.follows pages.old pages.new }
 {
-    search_behind(pages, level, lead, 0, key, found)?;
+    for index in 0..u32::MAX {
+        let looked = pages.look(&label_in_group(level, lead, index))?;
+        let Some(page) = looked else {
+            return Ok(());
+        };
+        let count = count_in_group(level, page, key);
+        see_last(page, count, key, found);
+        if count < page.len() || is_last(level, page) {
+            see_next(page, count, key, found);
+            return Ok(());
+        }
+    }
     Ok(())
-}
-
-/// Sees the cells next to a key in the group that `lead` leads on the level, as `search_group`, and answers at which page the search
-/// ends. Page `first` is asked for first: where it begins at or below the key, the pages before it are not, and else the search
-/// begins anew with page 0. After a fault a part may be seen.
-pub fn search_group_from<P: Pages, T: Wanted>(
-    pages: &mut P,
-    level: u8,
-    lead: &Lead,
-    first: u32,
-    key: &Key,
-    found: &mut T,
-) -> Result<u32, Fault>
-    ensures call { IsGroupSearchFrom (T.floor key.now) (T.after key.now) (P.state pages.old) (P.state pages.new) level (model_lead lead.now) key.now found.old found.new result }
-    ensures follows { P.follows pages.old pages.new }
-{
-    if first == 0 || first == u32::MAX {
-        return search_behind(pages, level, lead, 0, key, found);
-    }
-    let looked = pages.look(&label_in_group(level, lead, first))?;
-    let Some(page) = looked else {
-        return search_behind(pages, level, lead, 0, key, found);
-    };
-    let count = count_in_group(level, page, key);
-    if count == 0 {
-        return search_behind(pages, level, lead, 0, key, found);
-    }
-    see_last(page, count, key, found);
-    if count < page.len() || is_last(level, page) {
-        see_next(page, count, key, found);
-        return Ok(first);
-    }
-    search_behind(pages, level, lead, first + 1, key, found)
 }
