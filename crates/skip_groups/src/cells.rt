@@ -9,7 +9,7 @@ ghost use Rattle.skip_groups.specs.GroupCells.{AreCells, IsRisingList, AreBetwee
 ghost use Rattle.skip_groups.specs.Insertions.{IsInsertPlace};
 
 use crate::group::is_last;
-use crate::search::count_not_above;
+use crate::group_search::count_not_above;
 use node_pages::{Cell, Cells, Page};
 use store_base::{Key, Lead, NoMemory};
 

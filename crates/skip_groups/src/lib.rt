@@ -6,14 +6,14 @@
 
 mod cells;
 mod group;
+mod group_search;
 mod new_cells;
-mod search;
 mod set_group;
 mod wanted;
 
 pub use cells::{append_own, lead_behind};
 pub use group::label_in_group;
+pub use group_search::search_group;
 pub use new_cells::NewCells;
-pub use search::search_group;
 pub use set_group::{change_run, part_group, read_new_cells};
 pub use wanted::{Wanted, pair_of};

@@ -4,12 +4,12 @@
 //! (`levels`), a group of a level or two, and never reads the list. What one group is on its own says `skip_groups`.
 #![tactic(auto)]
 
-mod changes;
 mod levels;
 mod next;
+mod pair_changes;
 mod put_place;
-mod search;
 mod skip_list;
+mod walk;
 
 pub use ordered_pairs::{MapPairs, OrderedPairs};
 pub use skip_list::SkipList;
