@@ -1,6 +1,6 @@
 //! Reading and changing the pages of a group in which the cells of a key are set, or which a key parts.
 
-ghost use Rattle.std.specs.Prelude.{◌≡◌, ◌+◌, ◌<◌, [], max, map, length, OnOk};
+ghost use Rattle.std.specs.Prelude.{◌≡◌, ◌+◌, ◌<◌, [], max, map, length, IfSome, IfOk, OnOk};
 ghost use Rattle.std.specs.List.Sorted.{IsStrictlySortedBy};
 ghost use Rattle.std.specs.FinMap as maps;
 ghost use Rattle.store_model.specs.Lists.{runs};
@@ -37,6 +37,7 @@ pub fn read_new_cells<P: Pages>(
     requires none { IsCellsSet made.old.cells.level (model_lead lead.now) key.now own.now [] made.old }
     ensures call { IsSetRead (P.state pages.old) (P.state pages.new) made.old.cells.level (model_lead lead.now) key.now own.now made.new result }
     ensures valid { OnOk result (IsRisingList made.old.cells.level made.new.cells) }
+    ensures number { IfOk result (λ place. IfSome place (λ at. made.new.kept < 4294967296)) }
     ensures follows { P.follows pages.old pages.new }
 {
     let level = made.cells.level();

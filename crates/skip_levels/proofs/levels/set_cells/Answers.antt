@@ -1,4 +1,4 @@
-use Rattle.std.proofs.Common.{None, Some, Ok, Err, refl, ◌∙◌, subst, arith}
+use Rattle.std.proofs.Common.{◌<◌, IfSome, None, Some, Ok, Err, refl, ◌∙◌, subst}
 use Rattle.std.proofs.lemmas.Result.{err_from_is_err_and}
 use Rattle.store_base.specs.Leads.{model_lead}
 use Rattle.skip_groups.specs.Insertions.{IsSetRead}
@@ -43,7 +43,7 @@ returns-in-Some-clause-call g c =
     let read = subst (λ o. IsSetRead (g.P.Pages.state c.args.pages.now) (g.P.Pages.state c.read_new_cells.new.pages) c.new-made.result.cells.level (model_lead c.args.lead.now) c.args.key.now c.args.own.now made (Ok o)) c.in-Some.is c.in_ok-at.ensures.call in
     cell_inserted (g.P.Pages.state c.args.pages.now) (g.P.Pages.state c.read_new_cells.new.pages) c.args.level (model_lead c.args.lead.now) c.args.key.now c.args.own.now made at (Some at) (c.in_ok-at.ensures.valid.level_is ∙ on)
     (subst (λ n. IsSetRead (g.P.Pages.state c.args.pages.now) (g.P.Pages.state c.read_new_cells.new.pages) n (model_lead c.args.lead.now) c.args.key.now c.args.own.now made (Ok (Some at))) on read)
-    (g.P.Pages.state c.insert_cell.new.self) c.label_in_group.result _ (omega arith) (g.met.P.Pages.valid c.read_new_cells.new.pages) c.label_in_group.ensures c.index-own-0.result c.index-own-0.is c.in_ok-insert_cell.ensures.call
+    (g.P.Pages.state c.insert_cell.new.self) c.label_in_group.result _ (subst (λ o. IfSome o (λ at. c.read_new_cells.new.made.kept < 4294967296)) c.in-Some.is c.in_ok-at.ensures.number) (g.met.P.Pages.valid c.read_new_cells.new.pages) c.label_in_group.ensures c.index-own-0.result c.index-own-0.is c.in_ok-insert_cell.ensures.call
 
 -- where a call fails
 pub returns-in_err-at-clause-call : goal.returns-in_err-at-clause-call
@@ -63,7 +63,7 @@ returns-in_err-insert_cell-clause-call g c =
     let read = subst (λ o. IsSetRead (g.P.Pages.state c.args.pages.now) (g.P.Pages.state c.read_new_cells.new.pages) c.new-made.result.cells.level (model_lead c.args.lead.now) c.args.key.now c.args.own.now made (Ok o)) c.in-Some.is c.in_ok-at.ensures.call in
     rw (p.1, p.2) (cell_not_inserted (g.P.Pages.state c.args.pages.now) (g.P.Pages.state c.read_new_cells.new.pages) c.args.level (model_lead c.args.lead.now) c.args.key.now c.args.own.now made at (Some at) (c.in_ok-at.ensures.valid.level_is ∙ on)
     (subst (λ n. IsSetRead (g.P.Pages.state c.args.pages.now) (g.P.Pages.state c.read_new_cells.new.pages) n (model_lead c.args.lead.now) c.args.key.now c.args.own.now made (Ok (Some at))) on read)
-    (g.P.Pages.state c.insert_cell.new.self) c.label_in_group.result fault (omega arith) (g.met.P.Pages.valid c.read_new_cells.new.pages) c.label_in_group.ensures c.index-own-0.result c.index-own-0.is c.in_err-insert_cell.ensures.call)
+    (g.P.Pages.state c.insert_cell.new.self) c.label_in_group.result fault (subst (λ o. IfSome o (λ at. c.read_new_cells.new.made.kept < 4294967296)) c.in-Some.is c.in_ok-at.ensures.number) (g.met.P.Pages.valid c.read_new_cells.new.pages) c.label_in_group.ensures c.index-own-0.result c.index-own-0.is c.in_err-insert_cell.ensures.call)
 
 pub returns-in_err-change_run-clause-call : goal.returns-in_err-change_run-clause-call
 returns-in_err-change_run-clause-call g c =

@@ -1,11 +1,12 @@
-use Rattle.std.proofs.Common.{sym, subst, arith}
+use Rattle.skip_levels.specs.declared.walk.Walk.{Walk}
+use Rattle.std.proofs.Common.{sym, ap, subst, arith}
 use Rattle.std.proofs.lemmas.Result.{err_from_is_err_and}
 use Rattle.skip_levels.specs.Descent.{IsKnownGroup}
 use Rattle.skip_levels.specs.PagePairs.{pairs_of_map}
 use Rattle.ordered_pairs.specs.PairsState.{without}
 use Rattle.skip_levels.proofs.PairCalls.{not_found, none_to_take, pair_taken, pair_not_taken, known_still}
-use Rattle.skip_levels.proofs.pair_changes.Walk.take_pair.Goals.{then-top-gt0, else-top-gt0}
-use Rattle.skip_levels.proofs.pair_changes.Walk.take_pair.Goals as goal
+use Rattle.skip_levels.proofs.walk.Walk.take_pair.Goals.{then-top-gt0, else-top-gt0}
+use Rattle.skip_levels.proofs.walk.Walk.take_pair.Goals as goal
 
 pub returns-in_err-lead-clause-call : goal.returns-in_err-lead-clause-call
 returns-in_err-lead-clause-call g c =
@@ -22,12 +23,12 @@ returns-in_err-take_from-clause-call g c =
 
 pub returns-clause-call : goal.returns-clause-call
 returns-clause-call g c =
-    pair_taken (g.W.Draw.drawn c.args.draw.now) (g.P.Pages.state c.args.pages.now) (g.P.Pages.state c.find_place.new.pages) c.args.self.now.known c.args.key.now c.find_place.new.self.known c.requires.whole c.requires.known c.height.result c.level_from-top.result c.height.ensures c.level_from-top.ensures c.in_ok-lead.field-0 c.in_ok-lead.ensures.call (g.P.Pages.state c.take_from.new.pages) tt c.in-Some.value c.if-top-gt0.known c.in-Some.is c.in_ok-take_from.ensures.call
+    pair_taken (g.W.Draw.drawn c.args.draw.now) (g.P.Pages.state c.args.pages.now) (g.P.Pages.state c.find_place.new.pages) c.args.self.now.known c.args.key.now c.find_place.new.self.known c.requires.whole c.requires.known c.height.result c.level_from-top.result c.height.ensures c.level_from-top.ensures c.in_ok-lead.field-0 c.in_ok-lead.ensures.call (g.P.Pages.state c.take_from.new.pages) tt c.in-Some.value c.if-top-gt0.self.known c.in-Some.is c.in_ok-take_from.ensures.call
     (λ o.
     let known = IsKnownGroup (g.W.Draw.drawn c.args.draw.now) (without c.args.key.now (pairs_of_map (g.P.Pages.state c.args.pages.now).pages)) in
     elim c.if-top-gt0.branch [
-      | then-top-gt0 w ↦ subst known (sym w.known-is) tt
-      | else-top-gt0 w ↦ subst known (sym w.known-is) (known_still (g.W.Draw.drawn c.args.draw.now) (g.P.Pages.state c.args.pages.now) (g.P.Pages.state c.find_place.new.pages) c.args.self.now.known c.args.key.now c.find_place.new.self.known c.requires.whole c.requires.known c.height.result c.level_from-top.result c.height.ensures c.level_from-top.ensures c.in_ok-lead.field-0 c.in_ok-lead.ensures.call c.in-Some.value c.in-Some.is (omega (arith, w.if-top-gt0.false)) o)
+      | then-top-gt0 w ↦ subst known (sym (ap (λ (walk : Walk). walk.known) w.self-is)) tt
+      | else-top-gt0 w ↦ subst known (sym (ap (λ (walk : Walk). walk.known) w.self-is)) (known_still (g.W.Draw.drawn c.args.draw.now) (g.P.Pages.state c.args.pages.now) (g.P.Pages.state c.find_place.new.pages) c.args.self.now.known c.args.key.now c.find_place.new.self.known c.requires.whole c.requires.known c.height.result c.level_from-top.result c.height.ensures c.level_from-top.ensures c.in_ok-lead.field-0 c.in_ok-lead.ensures.call c.in-Some.value c.in-Some.is (omega (arith, w.if-top-gt0.false)) o)
     ])
 
 -- what each call keeps of the state below

@@ -4,7 +4,7 @@ use Rattle.store_base.specs.Leads.{model_lead}
 use Rattle.skip_levels.specs.Descent.{lead_in}
 use Rattle.skip_levels.proofs.PairCalls.{no_place_to_put, may_put, pair_not_put, pair_put, lowest_put}
 use Rattle.skip_levels.proofs.PutSearches.{no_put_place, place_of_lowest}
-use Rattle.skip_levels.proofs.pair_changes.Walk.put_pair.Goals as goal
+use Rattle.skip_levels.proofs.walk.Walk.put_pair.Goals as goal
 
 -- a lawful draw has a level
 pub go_to-requires : goal.go_to-requires

@@ -1,7 +1,7 @@
 use Rattle.std.proofs.Common.{sym, ◌∙◌, arith}
 use Rattle.std.proofs.lemmas.Result.{err_from_is_err_and}
 use Rattle.skip_levels.proofs.PutSearches.{no_put_place, place_of_lead, place_of_own}
-use Rattle.skip_levels.proofs.put_place.Walk.place_to_put.Goals as goal
+use Rattle.skip_levels.proofs.walk.Walk.place_to_put.Goals as goal
 
 -- a lawful draw has the level
 pub find_lead-requires : goal.find_lead-requires

@@ -4,7 +4,7 @@ use Rattle.skip_levels.specs.Descent.{lead_in}
 use Rattle.std.proofs.lemmas.Result.{err_from_is_err_and}
 use Rattle.skip_levels.proofs.NextLemmas.{no_path, no_neighbours, next_is_none, next_in_group, next_leads}
 use Rattle.skip_levels.proofs.ValueLemmas.{some_from_test, none_from_test}
-use Rattle.skip_levels.proofs.next.Walk.find_next.Goals as goal
+use Rattle.skip_levels.proofs.walk.Walk.find_next.Goals as goal
 
 pub returns-in_err-go_to-clause-call : goal.returns-in_err-go_to-clause-call
 returns-in_err-go_to-clause-call g c =
