@@ -1,7 +1,7 @@
 //! What the types of keys and values know, said to a proof.
 //!
-//! Contracts see a key or a value as a list of bytes. That these are 124, or 1 to 256, is a fact of the type, which a proof has only
-//! from a call that promises it. These functions do nothing but promise it.
+//! Contracts see a key or a value as a list of bytes. That these are 124, or 1 to 256, is a fact of the type,
+//! which a proof has only from a call that promises it. These functions do nothing but promise it.
 
 ghost use Rattle.store_base.specs.Keys.{IsKey};
 ghost use Rattle.store_model.specs.Pairs.{IsValue};

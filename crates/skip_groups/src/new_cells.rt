@@ -86,7 +86,8 @@ impl NewCells {
         Ok(NewCells::step_behind(level, page))
     }
 
-    /// Goes on with the first page that gives way. Where the key's cells take the place of as many, none behind it does.
+    /// Goes on with the first page that gives way. Where the key's cells take the place of as many, none
+    /// behind it does.
     fn begin(&mut self, lead: &Lead, page: &Page, key: &Key, own: &[Cell]) -> Result<Step, NoMemory>
         requires none { self.old.count ≡ 0 }
         requires empty { self.old.cells.cells ≡ [] }

@@ -97,8 +97,9 @@ pub fn part_group<P: Pages>(
     Ok(())
 }
 
-/// The fault of a group that would have 2^32 pages or more. No list of pairs has such a group, so it comes only of pages
-/// that do not tell their map, and of which nothing is promised. It is answered as want of memory.
+/// The fault of a group that would have 2^32 pages or more. No list of pairs has such a group, so it comes
+/// only of pages that do not tell their map, and of which nothing is promised. It is answered as want of
+/// memory.
 fn too_many_pages() -> Fault
     ensures { result ≡ faults.NoMemory }
 {

@@ -18,9 +18,9 @@ use skip_groups::{
 use std::alloc::Global;
 use store_base::{Fault, Key, Lead};
 
-/// Sets the key's cells, one or none, in the group that `lead` leads on the level, in the place of the cell that the key
-/// had there. Where one page takes one cell more, that page is changed where it lies. The answer is what leads the group of
-/// the next lower level, strictly below the key.
+/// Sets the key's cells, one or none, in the group that `lead` leads on the level, in the place of the cell
+/// that the key had there. Where one page takes one cell more, that page is changed where it lies. The answer
+/// is what leads the group of the next lower level, strictly below the key.
 pub fn set_cells<P: Pages>(
     alloc: Global,
     pages: &mut P,
@@ -61,8 +61,9 @@ fn change_moved<P: Pages>(
     change_run(pages, lead, made.kept, made.count, &made.cells)
 }
 
-/// Cuts the group that `lead` leads on the level in two: the cells below the key stay, and the key's own cell and those above
-/// it make the group that the key leads. The answer is what leads the group of the next lower level, strictly below the key.
+/// Cuts the group that `lead` leads on the level in two: the cells below the key stay, and the key's own cell
+/// and those above it make the group that the key leads. The answer is what leads the group of the next lower
+/// level, strictly below the key.
 pub fn split_group<P: Pages>(
     alloc: Global,
     pages: &mut P,
@@ -85,8 +86,8 @@ pub fn split_group<P: Pages>(
     Ok(lead_behind(&made.cells, &made.next))
 }
 
-/// Joins the group that the key leads on the level to that of `lead`, which stands before it, and leaves out the key's own cell.
-/// The answer is what leads the group of the next lower level, strictly below the key.
+/// Joins the group that the key leads on the level to that of `lead`, which stands before it, and leaves out
+/// the key's own cell. The answer is what leads the group of the next lower level, strictly below the key.
 pub fn join_groups<P: Pages>(
     alloc: Global,
     pages: &mut P,

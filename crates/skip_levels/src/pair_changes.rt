@@ -30,7 +30,8 @@ fn cell_on(level: u8, key: &Key, value: &Value) -> Result<Cell, NoMemory>
     }
 }
 
-/// Puts the value under the key on level 0 alone, in the group that `lead` leads. After a fault a part of the pages is changed.
+/// Puts the value under the key on level 0 alone, in the group that `lead` leads. After a fault a part of the
+/// pages is changed.
 fn put_lowest<P: Pages>(
     alloc: Global,
     pages: &mut P,
@@ -48,9 +49,10 @@ fn put_lowest<P: Pages>(
     Ok(())
 }
 
-/// Puts the value under the key, from the level `top` down, on which `lead` leads the group of its search path: of a new key that
-/// is its own level, and on each lower one the group is cut in two before the key. A key that is there keeps its levels, and its
-/// value stands on level 0 alone. After a fault a part of the pages is changed.
+/// Puts the value under the key, from the level `top` down, on which `lead` leads the group of its search
+/// path: of a new key that is its own level, and on each lower one the group is cut in two before the key. A
+/// key that is there keeps its levels, and its value stands on level 0 alone. After a fault a part of the
+/// pages is changed.
 pub fn put_from<P: Pages>(
     alloc: Global,
     pages: &mut P,
@@ -75,8 +77,9 @@ pub fn put_from<P: Pages>(
     Ok(())
 }
 
-/// Takes the pair of a key out, from its own level down, on which `lead` leads the group of its search path: on each lower one
-/// the group that it leads is joined to the group before it. After a fault a part of the pages is changed.
+/// Takes the pair of a key out, from its own level down, on which `lead` leads the group of its search path:
+/// on each lower one the group that it leads is joined to the group before it. After a fault a part of the
+/// pages is changed.
 pub fn take_from<P: Pages>(
     alloc: Global,
     pages: &mut P,
@@ -98,8 +101,8 @@ pub fn take_from<P: Pages>(
 }
 
 impl Walk {
-    /// Puts the value under the key in the pages of a list. The place on level 0 that the key then has is known. After a
-    /// fault a part of the pages may be changed.
+    /// Puts the value under the key in the pages of a list. The place on level 0 that the key then has is
+    /// known. After a fault a part of the pages may be changed.
     pub fn put_pair<P: Pages, W: Draw>(
         &mut self,
         pages: &mut P,
@@ -125,9 +128,9 @@ impl Walk {
         Ok(())
     }
 
-    /// Takes the pair of a key out of the pages of a list, and answers its value; `None` exactly where the list lacked the
-    /// key. The place on level 0 that the key then has is known, unless the key led its group. After a fault a part of the
-    /// pages may be changed.
+    /// Takes the pair of a key out of the pages of a list, and answers its value; `None` exactly where the
+    /// list lacked the key. The place on level 0 that the key then has is known, unless the key led its
+    /// group. After a fault a part of the pages may be changed.
     pub fn take_pair<P: Pages, W: Draw>(
         &mut self,
         pages: &mut P,

@@ -15,18 +15,19 @@ use std::alloc::Global;
 use std::marker::Model;
 use store_base::{Fault, Key, Value};
 
-/// A sorted list of pairs in pages. Each level of the list holds the keys that the draw puts on it or above, is cut into
-/// groups before each key of a higher level, and each group into pages.
+/// A sorted list of pairs in pages. Each level of the list holds the keys that the draw puts on it or above,
+/// is cut into groups before each key of a higher level, and each group into pages.
 ///
-/// It is observable where its pages are and no `put` or `take` of it failed. One of which a change failed is spent: its pages are
-/// given back by `into_pages`, and a further `put` or `take` answers `NoMemory` and changes nothing.
+/// It is observable where its pages are and no `put` or `take` of it failed. One of which a change failed is
+/// spent: its pages are given back by `into_pages`, and a further `put` or `take` answers `NoMemory` and
+/// changes nothing.
 ///
-/// It knows the group of level 0 to which its last call came, unless that one took out a key that led its group: a key that lies there
-/// needs no descent.
+/// It knows the group of level 0 to which its last call came, unless that one took out a key that led its
+/// group: a key that lies there needs no descent.
 #[derive(Drop)]
 pub struct SkipList<P: Pages, W: Draw> {
-    /// Its pages, also after a fault. Where it is whole, whoever changes them shows that they are those of a list still, for which
-    /// what is known is right.
+    /// Its pages, also after a fault. Where it is whole, whoever changes them shows that they are those of a
+    /// list still, for which what is known is right.
     pub pages: P,
     draw: W,
     is_whole: bool,
@@ -46,9 +47,9 @@ impl<P: Pages, W: Draw> Model for SkipList<P, W> {
     ghost invariant = { λ s. KeepsList (W.drawn s.draw) s.is_whole (P.state s.pages) s.walk.known };
 }
 
-/// The fault of a change of a list that is spent: one of its changes failed, so its pages are no list's. It answers as the
-/// change that failed might have, and calls nothing.
-fn is_spent() -> Fault
+/// The fault of a change of a list that is spent: one of its changes failed, so its pages are no list's. It
+/// answers as the change that failed might have, and calls nothing.
+fn spent() -> Fault
     ensures { result ≡ faults.NoMemory }
 {
     Fault::NoMemory
@@ -57,8 +58,8 @@ fn is_spent() -> Fault
 impl<P: Pages, W: Draw + Drop> SkipList<P, W> {
     ghost use Rattle.std.specs.Prelude.{List, true, false};
 
-    /// The list whose pages these are, under this draw: the pages of a list of at most 8,388,608 pairs, as no page is that of
-    /// the empty list.
+    /// The list whose pages these are, under this draw: the pages of a list of at most 8,388,608 pairs, as no
+    /// page is that of the empty list.
     pub fn new(alloc: Global, pages: P, draw: W) -> Self
         requires { pages_state.IsObservable (P.state pages) → (s : List model.Pair) × HoldsPairs (W.drawn draw) s (P.state pages).pages }
         ensures pages { result.pages ≡ pages }
@@ -73,7 +74,8 @@ impl<P: Pages, W: Draw + Drop> SkipList<P, W> {
         }
     }
 
-    /// Forgets what it knows. Until it is taken up again its pages may be changed at will, and it is as after a change that failed.
+    /// Forgets what it knows. Until it is taken up again its pages may be changed at will, and it is as after
+    /// a change that failed.
     pub fn forget(&mut self)
         ensures pages { self.new.pages ≡ self.old.pages }
         ensures draw { self.new.draw ≡ self.old.draw }
@@ -130,7 +132,8 @@ impl<P: Pages, W: Draw + Drop> OrderedPairs for SkipList<P, W> {
         self.walk.find_value(&mut self.pages, height, key)
     }
 
-    /// The groups of the search path are read to find the key, and those from its own level down once more to change them.
+    /// The groups of the search path are read to find the key, and those from its own level down once more to
+    /// change them.
     fn put(&mut self, key: Key, value: Value) -> Result<(), Fault>
         requires { IsObservable (⟦<SkipList<P, W> as OrderedPairs>⟧.state self.old) → length (⟦<SkipList<P, W> as OrderedPairs>⟧.state self.old).pairs < most_pairs }
         ensures call { IsPairPut (⟦<SkipList<P, W> as OrderedPairs>⟧.state self.old) (⟦<SkipList<P, W> as OrderedPairs>⟧.state self.new) key value result }
@@ -139,7 +142,7 @@ impl<P: Pages, W: Draw + Drop> OrderedPairs for SkipList<P, W> {
     {
         reveal_pair(&key, &value);
         if !self.is_whole {
-            return Err(is_spent());
+            return Err(spent());
         }
         self.is_whole = false;
         self.walk
@@ -155,7 +158,7 @@ impl<P: Pages, W: Draw + Drop> OrderedPairs for SkipList<P, W> {
         ensures lookups { IsObservable (⟦<SkipList<P, W> as OrderedPairs>⟧.state self.old) → (P.state self.new.pages).lookups ≤ (P.state self.old.pages).lookups + (path_cost (W.drawn self.old.draw) (pairs_of_map (P.state self.old.pages).pages) key.now + (low_cost (W.drawn self.old.draw) (pairs_of_map (P.state self.old.pages).pages) key.now + path_cost_below (W.drawn self.old.draw) (pairs_of_map (P.state self.old.pages).pages) key.now)) }
     {
         if !self.is_whole {
-            return Err(is_spent());
+            return Err(spent());
         }
         self.is_whole = false;
         let value = self.walk.take_pair(&mut self.pages, &self.draw, key)?;

@@ -34,8 +34,9 @@ impl Wanted for PathEnd {
     }
 }
 
-/// Goes down on the search path of a key from the level `top`, of which `end` tells the place, to the level `bottom`, of which it
-/// tells the place then, by one group of each level above it. After a fault `end` tells nothing.
+/// Goes down on the search path of a key from the level `top`, of which `end` tells the place, to the level
+/// `bottom`, of which it tells the place then, by one group of each level above it. After a fault `end` tells
+/// nothing.
 fn descend<P: Pages>(
     pages: &mut P,
     top: u8,
@@ -123,8 +124,8 @@ impl Walk {
         }
     }
 
-    /// Finds the place of a key on level 0, in pages of this height, by one group of each level above; it is known then.
-    /// Where it is known before, no page is asked for. After a fault what was known still is.
+    /// Finds the place of a key on level 0, in pages of this height, by one group of each level above; it is
+    /// known then. Where it is known before, no page is asked for. After a fault what was known still is.
     pub fn go_to<P: Pages>(&mut self, pages: &mut P, height: u8, key: &Key) -> Result<(), Fault>
         requires { 1 ≤ height }
         ensures call { IsPlaceSearch (P.state pages.old) (P.state pages.new) height self.old.known 0 key.now self.new.known (leads_in self.new.known result) }
@@ -142,9 +143,9 @@ impl Walk {
         Ok(())
     }
 
-    /// Finds what leads the group of the level `top` on the search path of a key, in pages of this height, by one group of
-    /// each level above. The place of the key on level 0 is then known; where it is before, and `top` is 0, no page is
-    /// asked for. After a fault what was known still is.
+    /// Finds what leads the group of the level `top` on the search path of a key, in pages of this height, by
+    /// one group of each level above. The place of the key on level 0 is then known; where it is before, and
+    /// `top` is 0, no page is asked for. After a fault what was known still is.
     pub fn find_lead<P: Pages>(
         &mut self,
         pages: &mut P,
@@ -171,9 +172,9 @@ impl Walk {
         Ok(lead)
     }
 
-    /// Finds the value of a key in the pages of a list of this height, if the list has it. The groups of one search path
-    /// are read, or that of level 0 alone where it is known. The place of the key on level 0 is then known. After a fault
-    /// the pages are as they were, and what was known is still right.
+    /// Finds the value of a key in the pages of a list of this height, if the list has it. The groups of one
+    /// search path are read, or that of level 0 alone where it is known. The place of the key on level 0 is
+    /// then known. After a fault the pages are as they were, and what was known is still right.
     pub fn find_value<P: Pages>(
         &mut self,
         pages: &mut P,
@@ -190,8 +191,9 @@ impl Walk {
         Ok(value)
     }
 
-    /// Finds what leads the group of a key's own level, `top`, and the key's value, by one way down. The place of the key
-    /// on level 0 is then known. After a fault the pages are as they were, and what was known is still right.
+    /// Finds what leads the group of a key's own level, `top`, and the key's value, by one way down. The
+    /// place of the key on level 0 is then known. After a fault the pages are as they were, and what was
+    /// known is still right.
     pub fn find_place<P: Pages>(
         &mut self,
         pages: &mut P,
