@@ -25,7 +25,6 @@ returns-clause-call c =
       };
     }
 
-
 -- the page is there, and takes the cell
 pub unreachable-requires : goal.unreachable-requires
 unreachable-requires c =
