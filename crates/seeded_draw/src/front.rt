@@ -39,7 +39,7 @@ impl Front {
         }
     }
 
-    /// Has the first bytes of a message digested, if they were not digested last.
+    /// Digests the first bytes of a message, if they were not digested last.
     fn begin(&mut self, bytes: &[u8])
         requires { length bytes.now ≡ FRONT_LEN }
         ensures { self.new.bytes ≡ bytes.now }
