@@ -1,5 +1,6 @@
 //! Cells.
 
+use crate::reveal::{reveal_key, reveal_pair, reveal_value};
 use std::marker::Model;
 use store_base::{Key, Value};
 
@@ -29,8 +30,7 @@ impl Cell {
         ensures value { result ≡ record { key = key; value = Some value } }
         ensures valid { IsCell 0 result }
     {
-        let _ = key.as_bytes();
-        let _ = value.as_slice();
+        reveal_pair(&key, &value);
         Cell {
             key,
             value: Some(value),
@@ -42,7 +42,7 @@ impl Cell {
         ensures value { result ≡ record { key = key; value = None } }
         ensures valid { (level : ℕ) → 0 < level → IsCell level result }
     {
-        let _ = key.as_bytes();
+        reveal_key(&key);
         Cell { key, value: None }
     }
 
@@ -50,10 +50,10 @@ impl Cell {
     pub fn is_of(&self, level: u8) -> bool
         ensures { IsTrue result ↔ IsCell level self.now }
     {
-        let _ = self.key.as_bytes();
+        reveal_key(&self.key);
         match &self.value {
             Some(value) => {
-                let _ = value.as_slice();
+                reveal_value(value);
                 level == 0
             }
             None => level > 0,

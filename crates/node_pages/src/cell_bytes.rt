@@ -11,7 +11,8 @@ use crate::cell::Cell;
 use crate::cell_area::{KEY_LEN, MOST_LEN, cell_len};
 use store_base::{Key, NoMemory, Value};
 
-/// The bytes of the cells from number `first` up to number `past`, of cells of the level that stand one behind the other.
+/// The bytes of the cells from number `first` up to number `past`, of cells of the level that stand one
+/// behind the other.
 pub fn cells_between(level: u8, bytes: &[u8], first: u32, past: u32) -> &[u8]
     requires order { first ≤ past }
     requires within { spelled.cell_size level * past ≤ length bytes.now }

@@ -20,6 +20,7 @@ use crate::cell_area::{cell_len, room};
 use crate::cell_bytes::{cells_between, key_part, push_cell, read_cell, read_key};
 use crate::page::Page;
 use crate::pages::Pages;
+use crate::sequence::too_long;
 use std::alloc::Global;
 use std::marker::Model;
 use store_base::{Fault, Key, Label, Lead, NoMemory};
@@ -170,7 +171,8 @@ impl Cells {
         }
     }
 
-    /// The page of run `index`, the first being 0, in the group that `lead` leads. Its label has the number `first + index`.
+    /// The page of run `index`, the first being 0, in the group that `lead` leads. Its label has the number
+    /// `first + index`.
     // Apart from its caller it would answer a page that is copied once more.
     #[inline(always)]
     pub fn page(&self, lead: &Lead, first: u32, index: u32) -> Page
@@ -185,8 +187,8 @@ impl Cells {
         Page::of_run(label, (past - done) as u8, self.bytes_between(done, past))
     }
 
-    /// Puts the page of run `index` in the group that `lead` leads, with the number `first + index`, into pages. There have
-    /// to be fewer than 2^32 - 1 pages. After a fault the pages are as they were.
+    /// Puts the page of run `index` in the group that `lead` leads, with the number `first + index`, into
+    /// pages. There have to be fewer than 2^32 - 1 pages. After a fault the pages are as they were.
     pub fn put_page<P: Pages>(
         &self,
         pages: &mut P,
@@ -224,23 +226,23 @@ impl Cells {
         page.label() == self.label(lead, first + index)
     }
 
-    /// Adds a cell of the level at the end. `NoMemory` comes where memory ran out, or where the list has 2^32 - 1 cells;
-    /// the list is then as it was.
+    /// Adds a cell of the level at the end. `NoMemory` comes where memory ran out, or where the list has 2^32
+    /// - 1 cells; the list is then as it was.
     pub fn push(&mut self, cell: &Cell) -> Result<(), NoMemory>
         requires { IsCell self.old.level cell.now }
         ensures ok { OnOk result (self.new ≡ record self.old { cells = self.old.cells ++ cell.now ∷ [] }) }
         ensures err { OnErr result (self.new ≡ self.old) }
     {
         let Some(count) = self.count.checked_add(1) else {
-            return Err(NoMemory);
+            return Err(too_long());
         };
         push_cell(&mut self.bytes, self.level, cell)?;
         self.count = count;
         Ok(())
     }
 
-    /// Adds the cells of a page from number `first` up to number `past`, which is not among them; each has to be one of the
-    /// list's level. `NoMemory` comes as from `push`, and leaves the list as it was.
+    /// Adds the cells of a page from number `first` up to number `past`, which is not among them; each has to
+    /// be one of the list's level. `NoMemory` comes as from `push`, and leaves the list as it was.
     pub fn append_from(&mut self, page: &Page, first: u32, past: u32) -> Result<(), NoMemory>
         requires order { first ≤ past }
         requires within { past ≤ length page.now.cells }
@@ -249,7 +251,7 @@ impl Cells {
         ensures err { OnErr result (self.new ≡ self.old) }
     {
         let Some(count) = self.count.checked_add(past - first) else {
-            return Err(NoMemory);
+            return Err(too_long());
         };
         self.bytes
             .extend_from_slice(page.bytes_between(first, past))?;

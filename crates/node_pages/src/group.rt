@@ -38,8 +38,8 @@ pub fn append_group(pages: &mut PageList, lead: &Lead, cells: &Cells) -> Result<
     Ok(())
 }
 
-/// The cells of the pages that are of the level, one page after another: of the pages that `cut_group` gives, the cells of
-/// the group.
+/// The cells of the pages that are of the level, one page after another: of the pages that `cut_group` gives,
+/// the cells of the group.
 pub fn join_group(alloc: Global, level: u8, pages: &PageList) -> Result<Cells, NoMemory>
     ensures cells { IfOk result (λ joined. joined ≡ record { level = level; cells = flat_map (λ page. page.cells) (filter (λ page. page.label.level == level) pages.now) }) }
     ensures group { (lead : ModelLead) (cells : List ModelCell) → pages.now ≡ group_pages level lead cells → IfOk result (λ joined. joined.cells ≡ cells) }

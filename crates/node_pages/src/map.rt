@@ -104,12 +104,12 @@ impl Pages for MapPages {
         ensures done { IsOk result }
         ensures follows { ⟦<MapPages as Pages>⟧.follows self.old self.new }
     {
-        if let Ok(place) = place_of(&self.pages, label) {
-            if self.pages[place].insert(at, cell) {
-                return Ok(());
-            }
-        }
-        Err(Fault::NoMemory)
+        let Ok(place) = place_of(&self.pages, label) else {
+            unreachable!()
+        };
+        let takes = self.pages[place].insert(at, cell);
+        prove!(takes);
+        Ok(())
     }
 
     fn drop_page(&mut self, label: &Label) -> Result<(), Fault> {

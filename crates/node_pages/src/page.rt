@@ -282,8 +282,8 @@ impl Page {
         self.may_take(at, cell) && self.is_between(at, &cell.key)
     }
 
-    /// Inserts a cell before that of number `at`, or behind all, and answers whether it did: it does where the page with it is
-    /// one. Else the page is as it was.
+    /// Inserts a cell before that of number `at`, or behind all, and answers whether it did: it does where
+    /// the page with it is one. Else the page is as it was.
     pub fn insert(&mut self, at: u32, cell: &Cell) -> bool
         ensures takes { IsTrue result ↔ TakesCell self.old at cell.now }
         ensures value { result ≡ true → self.new ≡ with_cell self.old at cell.now }

@@ -42,7 +42,8 @@ pub trait Pages {
         ensures call { IsPagePut (state self.old) (state self.new) page result }
         ensures follows { follows self.old self.new };
 
-    /// As `put`, of the page of a label and so many cells, whose bytes are given. Pages that keep bytes need not make it first.
+    /// As `put`, of the page of a label and so many cells, whose bytes are given. Pages that keep bytes need
+    /// not make it first.
     fn put_run(&mut self, label: &Label, count: u8, run: &[u8]) -> Result<(), Fault>
         requires packed { ArePacked label.now.level count run.now }
         requires page { IsPage (record { label = label.now; cells = cells_in label.now.level count run.now }) }
@@ -53,8 +54,9 @@ pub trait Pages {
         self.put(Page::of_run(*label, count, run))
     }
 
-    /// Inserts a cell before that of number `at`, or behind all, in the page under the label, which has to be there and to take it. It may
-    /// answer `Fault::NoMemory`. After a fault the pages are as they were. It counts as no lookup, and there are as many pages as before.
+    /// Inserts a cell before that of number `at`, or behind all, in the page under the label, which has to be
+    /// there and to take it. It may answer `Fault::NoMemory`. After a fault the pages are as they were. It
+    /// counts as no lookup, and there are as many pages as before.
     fn insert_cell(&mut self, label: &Label, at: u32, cell: &Cell) -> Result<(), Fault>
         requires place { IsObservable (state self.old) → HasPlace (state self.old).pages label.now at cell.now }
         ensures call { IsCellInsert (state self.old) (state self.new) label.now at cell.now result }

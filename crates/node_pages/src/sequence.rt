@@ -88,6 +88,12 @@ impl<T> Sequence<T> {
     }
 }
 
+/// What a list at its greatest length answers: the count of what it has is a number below 2^32, and takes no further one.
+/// It is answered as want of memory, which the list would come to not much later.
+pub(crate) fn too_long() -> NoMemory {
+    NoMemory
+}
+
 impl<T: Drop> Sequence<T> {
     /// Adds an item at the end. `NoMemory` comes where memory ran out, or where the list has 2^32 - 1 items;
     /// the list is then as it was.
@@ -96,7 +102,7 @@ impl<T: Drop> Sequence<T> {
         ensures err { OnErr result (self.new ≡ self.old) }
     {
         if self.items.len() >= u32::MAX as usize {
-            return Err(NoMemory);
+            return Err(too_long());
         }
         self.items.push(item)?;
         Ok(())
@@ -110,7 +116,7 @@ impl Sequence<Page> {
         ensures err { OnErr result (self.new ≡ self.old) }
     {
         if self.items.len() >= u32::MAX as usize {
-            return Err(NoMemory);
+            return Err(too_long());
         }
         self.items.extend_from_slice(slice::from_ref(page))?;
         Ok(())

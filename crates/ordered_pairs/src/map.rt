@@ -9,7 +9,7 @@ ghost use Rattle.node_pages.specs.Places.{IsPlaceOf};
 ghost use Rattle.ordered_pairs.specs.ValidPairs.{IsPairs-prop};
 
 use crate::ordered::OrderedPairs;
-use node_pages::PairList;
+use node_pages::{PairList, reveal_pair};
 use std::alloc::Global;
 use std::cmp::Ordering;
 use store_base::{Fault, Key, NoMemory, Value};
@@ -102,8 +102,7 @@ impl OrderedPairs for MapPairs {
     }
 
     fn put(&mut self, key: Key, value: Value) -> Result<(), Fault> {
-        let _ = key.as_bytes();
-        let _ = value.as_slice();
+        reveal_pair(&key, &value);
         match place_of(&self.pairs, &key) {
             Ok(at) => self.pairs[at] = (key, value),
             Err(at) => self.pairs.insert(at, (key, value))?,

@@ -8,10 +8,10 @@ use store_base::{Fault, Key, Value};
 
 /// A list of pairs, each a key and its value, in the order of the keys: no key stands twice.
 ///
-/// Clauses on the pairs hold where the list is observable, those on faults for every list; a list that was not
-/// observable stays so. A call answers `Fault::Disk` only where the count of faults rises in it, by one (a count that is
-/// 2^64 - 1 stays). `follows` says what every call keeps of the state below, as that nothing was committed, also where
-/// the call fails; pairs in memory have nothing below them.
+/// Clauses on the pairs hold where the list is observable, those on faults for every list; a list that was
+/// not observable stays so. A call answers `Fault::Disk` only where the count of faults rises in it, by one
+/// (a count that is 2^64 - 1 stays). `follows` says what every call keeps of the state below, as that nothing
+/// was committed, also where the call fails; pairs in memory have nothing below them.
 pub trait OrderedPairs {
     /// What the list means at this moment.
     ghost state: { Self → PairsState };

@@ -30,15 +30,7 @@ pub trait Draw {
     fn level(&self, key: &Key) -> u8
         ensures { result ≡ (drawn self.now).level key.now };
 
-    /// As `start`, by what is kept of the label that was drawn for last: of labels that begin alike less is digested.
-    fn start_from(&self, front: &mut Front, label: &Label) -> u32
-        ensures { result ≡ (drawn self.now).start label.now }
-    {
-        let _ = front;
-        self.start(label)
-    }
-
-    /// As `level`, by what is kept of the key that was drawn for last, as `start_from`.
+    /// As `level`, by what is kept of the key that was drawn for last: of keys that begin alike less is digested.
     fn level_from(&self, front: &mut Front, key: &Key) -> u8
         ensures { result ≡ (drawn self.now).level key.now }
     {

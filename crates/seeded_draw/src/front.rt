@@ -10,8 +10,8 @@ use sha2::{Digest, Sha256};
 /// So many first bytes of a message are digested by themselves: two blocks of SHA-256 (FIPS 180-4).
 const FRONT_LEN: usize = 128;
 
-/// What SHA-256 made of the first 128 bytes of a message, so that a message that begins like it is digested from there on. The
-/// keys of one file differ in their last bytes alone, and so do the labels of the pages of one group.
+/// What SHA-256 made of the first 128 bytes of a message, so that a message that begins like it is digested
+/// from there on. The keys of one file differ in their last bytes alone.
 #[derive(Drop)]
 pub struct Front {
     bytes: [u8; FRONT_LEN],
@@ -39,7 +39,7 @@ impl Front {
         }
     }
 
-    /// Has the first bytes of a message digested, if they were not digested last.
+    /// Digests the first bytes of a message, if they were not digested last.
     fn begin(&mut self, bytes: &[u8])
         requires { length bytes.now ≡ FRONT_LEN }
         ensures { self.new.bytes ≡ bytes.now }

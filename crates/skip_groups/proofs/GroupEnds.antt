@@ -13,7 +13,7 @@ use Rattle.node_pages.proofs.Runs.{all_pages, next_page, no_page}
 use Rattle.skip_groups.specs.Groups.{group_cost}
 
 -- what is found at a number of a group's pages has the run of that number
-pub run_from : (level : ℕ) (lead : Lead) (first index : ℕ) (cells : List Cell) (page : Page) → slice_get (pages_from level lead first cells) index ≡ Some page → page.cells ≡ take (page_room level) (drop (page_room level * index) cells)
+run_from : (level : ℕ) (lead : Lead) (first index : ℕ) (cells : List Cell) (page : Page) → slice_get (pages_from level lead first cells) index ≡ Some page → page.cells ≡ take (page_room level) (drop (page_room level * index) cells)
 run_from level lead first index [] page is = let none = ap (λ ps. slice_get ps index) (no_page level lead first [] refl) in absurd (cc)
 run_from level lead first zero (c ∷ cells) page is =
     let n = page_room level in

@@ -28,7 +28,7 @@ stops_at p (c ∷ cells) (suc i) cell at fails =
     elim (p c) as (λ b. cond b (1 + prefix_len p cells) 0 ≤ suc i) [ true ↦ omega arith | false ↦ omega arith ]
 
 -- a key below one that is not above the key is not above it
-pub below_floor : (a b key : List ℕ) → key_cmp a b ≡ Less → is_le (key_cmp b key) ≡ true → is_le (key_cmp a key) ≡ true
+below_floor : (a b key : List ℕ) → key_cmp a b ≡ Less → is_le (key_cmp b key) ≡ true → is_le (key_cmp a key) ≡ true
 below_floor a b key less le =
     elim (key_cmp b key) as (λ o. key_cmp b key ≡ o → is_le o ≡ true → is_le (key_cmp a key) ≡ true) [
       | Less ↦ λ e h. ap is_le (nat_list_cmp_total.trans a b key less e)

@@ -15,6 +15,5 @@ pub mod NewCellsSteps
 pub mod PartReads
 pub mod PartSteps
 pub mod RunChanges
-pub mod SearchFrom
 pub mod Sides
 pub mod Walks

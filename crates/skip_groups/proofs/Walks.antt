@@ -1,5 +1,5 @@
 -- A walk over the pages of a group, from page to page, up to the first cell that fails a test.
-use Rattle.std.proofs.Common.{◌≡◌, ◌⊎◌, inl, inr, ℕ, zero, suc, ◌+◌, ◌-◌, ◌<◌, ◌≤◌, List, [], ◌∷◌, ◌++◌, length, take, drop, Bool, true, false, not, cond, Option, Some, None, refl, sym, ap, subst, ◌∙◌, arith, append_assoc, length-append}
+use Rattle.std.proofs.Common.{◌≡◌, ◌⊎◌, inl, inr, ℕ, zero, suc, ◌+◌, ◌-◌, ◌*◌, ◌<◌, ◌≤◌, List, [], ◌∷◌, ◌++◌, length, take, drop, Bool, true, false, not, cond, Option, Some, None, refl, sym, ap, subst, ◌∙◌, arith, append_assoc, length-append}
 use Rattle.std.specs.List.{AllByRecursion, find, prefix_len, take_while, slice_get}
 use Rattle.std.proofs.lemmas.List.{take-append-drop, append-nil, take_all, drop-drop, drop_all, length-take}
 use Rattle.store_model.specs.Labels.{Lead}
@@ -8,7 +8,6 @@ use Rattle.store_model.proofs.ListsLemmas.{all_append}
 use Rattle.node_pages.specs.Groups.{pages_from, page_of_run}
 use Rattle.node_pages.proofs.Runs.{all_pages, next_page, no_page}
 use Rattle.skip_groups.specs.Floors.{last_of}
-use Rattle.skip_groups.specs.Searches.{IsWalked}
 
 -- one element more
 take_next : {X : Type 0} (xs : List X) (i : ℕ) (x : X) → slice_get xs i ≡ Some x → take (i + 1) xs ≡ take i xs ++ x ∷ []
@@ -110,8 +109,14 @@ last_after front run (suc n) last next within is none some =
 
 module _ (p : Cell → Bool) (level : ℕ) (lead : Lead) (cells : List Cell) where
   -- So many pages of the group were read, and all their cells pass; this is the last of them.
-  abbrev pub Walked : ℕ → Option Cell → Type 0
-  Walked index last = IsWalked p level lead cells index last
+  pub record Walked (index : ℕ) (last : Option Cell) : Type 0 where
+    pub front : List Cell
+    pub rest : List Cell
+    pub whole : cells ≡ front ++ rest
+    pub passes : AllByRecursion (λ cell. p cell ≡ true) front
+    pub pages : drop index (group_pages level lead cells) ≡ pages_from level lead index rest
+    pub full : page_room level * index ≤ length front
+    pub last_is : last ≡ last_of front
 
   pub walk_start : Walked 0 None
   unfolding last_of

@@ -32,25 +32,10 @@ abbrev pub lead_from : Option Cell → Lead → Lead
 lead_from None lead = lead
 lead_from (Some cell) lead = Leader cell.key
 
--- the first key of a higher level above a key: that of the cell found next to it on a level, or else the one found before
-abbrev pub key_ahead : Option Cell → Option (List ℕ) → Option (List ℕ)
-key_ahead None next = next
-key_ahead (Some cell) next = Some cell.key
-
--- what leads the next group: the key that was found in this one, or else what leads this one
-abbrev pub lead_at : Option (List ℕ) → Lead → Lead
-lead_at None lead = lead
-lead_at (Some key) lead = Leader key
-
 -- the value of a key in the cell that was found, if it is the key's
 abbrev pub value_at : List ℕ → Option Cell → Option (List ℕ)
 value_at key None = None
 value_at key (Some cell) = if is_eq (key_cmp key cell.key) then cell.value else None
-
--- the key of the cell that was found
-abbrev pub key_in : Option Cell → Option (List ℕ)
-key_in None = None
-key_in (Some cell) = Some cell.key
 
 -- the pair of a cell of level 0
 abbrev pub pair_in : Option Cell → Option Pair

@@ -9,7 +9,7 @@ ghost use Rattle.skip_groups.specs.GroupCells.{AreCells, IsRisingList, AreBetwee
 ghost use Rattle.skip_groups.specs.Insertions.{IsInsertPlace};
 
 use crate::group::is_last;
-use crate::search::count_not_above;
+use crate::group_search::count_not_above;
 use node_pages::{Cell, Cells, Page};
 use store_base::{Key, Lead, NoMemory};
 
@@ -63,8 +63,8 @@ fn push_rising(cells: &mut Cells, cell: &Cell) -> Result<(), NoMemory>
     cells.push(cell)
 }
 
-/// Adds the cells of the key behind the others, those left out that are not of the level or do not rise. After `NoMemory` a part of them
-/// may be there.
+/// Adds the cells of the key behind the others, those left out that are not of the level or do not rise.
+/// After `NoMemory` a part of them may be there.
 pub fn append_own(cells: &mut Cells, own: &[Cell], key: &Key) -> Result<(), NoMemory>
     requires { AreCells cells.old.level cells.old.cells }
     ensures valid { IsRisingList cells.old.level cells.new }
@@ -79,8 +79,8 @@ pub fn append_own(cells: &mut Cells, own: &[Cell], key: &Key) -> Result<(), NoMe
     Ok(())
 }
 
-/// Adds the cells of a page from number `first` up to number `past` behind the others, where they are of the level of these
-/// and above them; any others are left out.
+/// Adds the cells of a page from number `first` up to number `past` behind the others, where they are of the
+/// level of these and above them; any others are left out.
 fn append_rising(cells: &mut Cells, page: &Page, first: u32, past: u32) -> Result<(), NoMemory>
     requires order { first ≤ past }
     requires within { past ≤ length page.now.cells }
@@ -115,7 +115,8 @@ fn places_of(page: &Page, key: &Key) -> (u32, u32)
     }
 }
 
-/// Where the cell of the key, if it has just one and that is one of the level, comes into a page with room that lacks the key.
+/// Where the cell of the key, if it has just one and that is one of the level, comes into a page with room
+/// that lacks the key.
 pub fn place_of_own(level: u8, page: &Page, key: &Key, own: &[Cell]) -> Option<u32>
     ensures { IfSome result (λ at. IsInsertPlace level key.now own.now page.now at) }
 {
@@ -134,8 +135,8 @@ pub fn place_of_own(level: u8, page: &Page, key: &Key, own: &[Cell]) -> Option<u
     Some(at)
 }
 
-/// What leads the next lower group of a search path, where the cells before this place of a page are those below the key: the last
-/// of them, or else what leads this one.
+/// What leads the next lower group of a search path, where the cells before this place of a page are those
+/// below the key: the last of them, or else what leads this one.
 pub fn lead_before(page: &Page, at: u32, lead: &Lead) -> Lead
     requires { at ≤ length page.now.cells }
     ensures { model_lead result ≡ lead_from (last_of (take at page.now.cells)) (model_lead lead.now) }
@@ -146,7 +147,8 @@ pub fn lead_before(page: &Page, at: u32, lead: &Lead) -> Lead
     Lead::Key(page.key(at - 1))
 }
 
-/// Adds the cells of a page that are above the key behind the others, those left out that are not of the level or do not rise.
+/// Adds the cells of a page that are above the key behind the others, those left out that are not of the
+/// level or do not rise.
 pub fn append_above(cells: &mut Cells, page: &Page, key: &Key) -> Result<(), NoMemory>
     requires { AreCells cells.old.level cells.old.cells }
     ensures valid { IsRisingList cells.old.level cells.new }
@@ -158,8 +160,8 @@ pub fn append_above(cells: &mut Cells, page: &Page, key: &Key) -> Result<(), NoM
     append_rising(cells, page, past, page.len())
 }
 
-/// Parts the cells of a page by the key: those below it come behind the ones of `low`, and those above it behind the ones of `high`,
-/// any left out that are not of the level or do not rise.
+/// Parts the cells of a page by the key: those below it come behind the ones of `low`, and those above it
+/// behind the ones of `high`, any left out that are not of the level or do not rise.
 pub fn part_page(low: &mut Cells, high: &mut Cells, page: &Page, key: &Key) -> Result<(), NoMemory>
     requires low { AreCells low.old.level low.old.cells }
     requires high { AreCells high.old.level high.old.cells }
@@ -188,8 +190,9 @@ pub fn stays(level: u8, page: &Page, key: &Key) -> bool
     page.key(page.len() - 1).cmp(key).is_lt()
 }
 
-/// Sets the cells of the key among those of a page: the cells below the key, then its own, then those above it. The answer is what
-/// leads the next lower group of the search path. Cells that are not of the level or do not rise are left out.
+/// Sets the cells of the key among those of a page: the cells below the key, then its own, then those above
+/// it. The answer is what leads the next lower group of the search path. Cells that are not of the level or
+/// do not rise are left out.
 pub fn merge_page(
     cells: &mut Cells,
     lead: &Lead,

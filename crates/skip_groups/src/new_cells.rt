@@ -12,11 +12,12 @@ use node_pages::{Cell, Cells, Page};
 use std::alloc::Global;
 use store_base::{Key, Lead, NoMemory};
 
-/// The cells that come into a group where those of a key are set, or which the key parts, in the place of the cells of some of its pages.
+/// The cells that come into a group where those of a key are set, or which the key parts, in the place of the cells of
+/// some of its pages.
 #[derive(Drop)]
 pub struct NewCells {
-    /// Where cells are set, what leads the next lower group of the search path; where they are parted, the last key of the pages that
-    /// stay, or else what leads the group.
+    /// Where cells are set, what leads the next lower group of the search path; where they are parted, the last key of
+    /// the pages that stay, or else what leads the group.
     pub next: Lead,
     /// How many of the first pages stay as they are.
     pub kept: u32,
@@ -53,27 +54,19 @@ impl NewCells {
         }
     }
 
-    /// Those of no group yet. They take no memory.
-    pub fn new(alloc: Global) -> Self {
+    /// Those of the group that `lead` leads on the level, before its first page. They take no memory.
+    pub fn new(alloc: Global, level: u8, lead: &Lead) -> Self
+        ensures valid { IsRisingList level result.cells }
+        ensures empty { result.cells.cells ≡ [] }
+        ensures set { (key : List ℕ) (own : List model.Cell) → IsCellsSet level (model_lead lead.now) key own [] result }
+        ensures parted { (key : List ℕ) (start : List model.Cell) → IsParted level (model_lead lead.now) key [] start result start }
+    {
         NewCells {
-            next: Lead::Start,
+            next: *lead,
             kept: 0,
             count: 0,
-            cells: Cells::new(alloc, 0),
+            cells: Cells::new(alloc, level),
         }
-    }
-
-    /// Those of the group that `lead` leads on the level, before its first page. The memory of the former ones is kept.
-    pub fn restart(&mut self, level: u8, lead: &Lead)
-        ensures valid { IsRisingList level self.new.cells }
-        ensures empty { self.new.cells.cells ≡ [] }
-        ensures set { (key : List ℕ) (own : List model.Cell) → IsCellsSet level (model_lead lead.now) key own [] self.new }
-        ensures parted { (key : List ℕ) (start : List model.Cell) → IsParted level (model_lead lead.now) key [] start self.new start }
-    {
-        self.next = *lead;
-        self.kept = 0;
-        self.count = 0;
-        self.cells.restart(level);
     }
 
     /// Goes on with a page behind one that gives way.
@@ -93,7 +86,8 @@ impl NewCells {
         Ok(NewCells::step_behind(level, page))
     }
 
-    /// Goes on with the first page that gives way. Where the key's cells take the place of as many, none behind it does.
+    /// Goes on with the first page that gives way. Where the key's cells take the place of as many, none
+    /// behind it does.
     fn begin(&mut self, lead: &Lead, page: &Page, key: &Key, own: &[Cell]) -> Result<Step, NoMemory>
         requires none { self.old.count ≡ 0 }
         requires empty { self.old.cells.cells ≡ [] }
@@ -157,8 +151,8 @@ impl NewCells {
         Ok(Step::More)
     }
 
-    /// Goes on with the next page of a group that is parted by the key: the cells below the key of each page that gives way come behind
-    /// one another, and those above it behind `above`. After `NoMemory` nothing is promised of either.
+    /// Goes on with the next page of a group that is parted by the key: the cells below the key of each page that gives
+    /// way come behind one another, and those above it behind `above`. After `NoMemory` nothing is promised of either.
     pub fn part(&mut self, page: &Page, key: &Key, above: &mut Cells) -> Result<(), NoMemory>
         requires low { AreCells self.old.cells.level self.old.cells.cells }
         requires high { IsRisingList self.old.cells.level above.old }

@@ -1,12 +1,13 @@
 //! Reading and changing the pages of a group in which the cells of a key are set, or which a key parts.
 
-ghost use Rattle.std.specs.Prelude.{◌≡◌, ◌+◌, ◌<◌, [], max, map, length, OnOk};
+ghost use Rattle.std.specs.Prelude.{◌≡◌, ◌+◌, ◌<◌, [], max, map, length, IfSome, IfOk, OnOk};
 ghost use Rattle.std.specs.List.Sorted.{IsStrictlySortedBy};
 ghost use Rattle.std.specs.FinMap as maps;
 ghost use Rattle.store_model.specs.Lists.{runs};
 ghost use Rattle.store_model.specs.Paths.{key_cmp};
 ghost use Rattle.store_model.specs.Pages.{page_room};
 ghost use Rattle.store_base.specs.Leads.{model_lead};
+ghost use Rattle.store_base.specs.declared.store_fault.Fault.TheVariants as faults;
 ghost use Rattle.node_pages.specs.PagesState.{IsObservable, most_pages};
 ghost use Rattle.skip_groups.specs.GroupCells.{AreCells, IsRisingList};
 ghost use Rattle.skip_groups.specs.GroupChanges.{IsRunChange};
@@ -20,9 +21,10 @@ use crate::new_cells::{NewCells, Step};
 use node_pages::{Cell, Cells, Pages};
 use store_base::{Fault, Key, Lead};
 
-/// Reads the group that `lead` leads on the level, as far as it changes where the key's cells are set in it: each page is asked for
-/// once at most, and none behind a page with room. Where one cell comes into the page behind those that stay, and nothing else changes,
-/// the answer is its place there, and no cells are gathered. After a fault the pages are as they were.
+/// Reads the group that `lead` leads on the level, as far as it changes where the key's cells are set in it: each page
+/// is asked for once at most, and none behind a page with room. Where one cell comes into the page behind those that
+/// stay, and nothing else changes, the answer is its place there, and no cells are gathered. After a fault the pages
+/// are as they were.
 pub fn read_new_cells<P: Pages>(
     pages: &mut P,
     lead: &Lead,
@@ -35,6 +37,7 @@ pub fn read_new_cells<P: Pages>(
     requires none { IsCellsSet made.old.cells.level (model_lead lead.now) key.now own.now [] made.old }
     ensures call { IsSetRead (P.state pages.old) (P.state pages.new) made.old.cells.level (model_lead lead.now) key.now own.now made.new result }
     ensures valid { OnOk result (IsRisingList made.old.cells.level made.new.cells) }
+    ensures number { IfOk result (λ place. IfSome place (λ at. made.new.kept < 4294967296)) }
     ensures follows { P.follows pages.old pages.new }
 {
     let level = made.cells.level();
@@ -61,9 +64,9 @@ pub fn read_new_cells<P: Pages>(
     Ok(None)
 }
 
-/// Reads the group that `lead` leads on the level, and parts its cells by the key: the first full pages of cells below it stay, of the
-/// others the cells below the key are taken together, and those above it come behind `above`. Each page is asked for once, and none
-/// behind a page with room. After a fault the pages are as they were.
+/// Reads the group that `lead` leads on the level, and parts its cells by the key: the first full pages of cells below
+/// it stay, of the others the cells below the key are taken together, and those above it come behind `above`. Each page
+/// is asked for once, and none behind a page with room. After a fault the pages are as they were.
 pub fn part_group<P: Pages>(
     pages: &mut P,
     lead: &Lead,
@@ -94,9 +97,17 @@ pub fn part_group<P: Pages>(
     Ok(())
 }
 
-/// Changes so many pages of the group that `lead` leads, from page `first` on, to those of these cells: pages for which there
-/// are no cells are dropped. `Fault::NoMemory` comes where the group would have 2^32 pages or more. After a fault a part of
-/// the pages is changed.
+/// The fault of a group that would have 2^32 pages or more. No list of pairs has such a group, so it comes
+/// only of pages that do not tell their map, and of which nothing is promised. It is answered as want of
+/// memory.
+fn too_many_pages() -> Fault
+    ensures { result ≡ faults.NoMemory }
+{
+    Fault::NoMemory
+}
+
+/// Changes so many pages of the group that `lead` leads, from page `first` on, to those of these cells: pages for which
+/// there are no cells are dropped. After a fault a part of the pages is changed.
 pub fn change_run<P: Pages>(
     pages: &mut P,
     lead: &Lead,
@@ -113,7 +124,7 @@ pub fn change_run<P: Pages>(
     let filled = cells.page_count();
     let all = count.max(filled);
     if all > u32::MAX - first {
-        return Err(Fault::NoMemory);
+        return Err(too_many_pages());
     }
     for i in 0..all {
         if i < filled {

@@ -11,8 +11,8 @@ ghost use Rattle.skip_groups.specs.Searches.{seen};
 use node_pages::{Cell, Page};
 use store_base::{Key, Value, byte_order};
 
-/// What a search for a key finds, changed by the cells that it comes to: the place on the next lower level, the value of the
-/// key, or the first pair from the key on.
+/// What a search for a key finds, changed by the cells that it comes to: the place on the next lower level,
+/// the value of the key, or the first pair from the key on.
 pub trait Wanted {
     /// What a cell that is not above the key makes of what was there.
     ghost floor: { List ℕ → model.Cell → Self → Self };

@@ -10,14 +10,14 @@ use Rattle.store_model.specs.Pairs.{Pair}
 use Rattle.store_model.specs.Pages.{Cell}
 use Rattle.store_model.specs.PageMaps.{PageMap}
 use Rattle.node_pages.specs.PagesState.{PagesState, IsObservable}
-use Rattle.skip_groups.specs.Floors.{floor_of, after_of, lead_from, key_ahead}
+use Rattle.skip_groups.specs.Floors.{floor_of, after_of, lead_from}
 use Rattle.skip_groups.specs.Groups.{HoldsGroup}
 use Rattle.skip_levels.specs.SearchPath.{above, leader_behind, leader_ahead, not_above, levels_cost}
 use Rattle.skip_levels.specs.Descent.{HoldsPairs, IsSearched, LiesInKnown, IsPlace, IsWayFrom, IsWayDown, IsPlaceSearch, lead_in, led_by, followed_by}
-use Rattle.skip_levels.specs.declared.search.PathEnd.{PathEnd}
+use Rattle.skip_levels.specs.declared.walk.PathEnd.{PathEnd}
 use Rattle.skip_groups.specs.Searches.{seen, ReadsGroup, IsGroupSearch}
 use Rattle.skip_levels.proofs.PlaceGroups.{group_of_place}
-use Rattle.skip_levels.proofs.Descents.{next_lead, next_ahead, start_leads_highest, none_ahead_highest}
+use Rattle.skip_levels.proofs.Descents.{key_ahead, next_lead, next_ahead, start_leads_highest, none_ahead_highest}
 use Rattle.skip_levels.proofs.PathLemmas.{side_passes, side_fails, holds_path, few_on_path}
 use Rattle.skip_levels.proofs.KnownPlaces.{known_at}
 use Rattle.skip_levels.proofs.PathCosts.{cost_within, cost_of_level, levels_joined}

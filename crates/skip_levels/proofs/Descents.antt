@@ -1,5 +1,5 @@
 -- From level to level on the search path of a key: what a group says of what leads the next.
-use Rattle.std.proofs.Common.{◌≡◌, ◌⊎◌, inl, inr, ℕ, suc, ◌+◌, ◌≤◌, List, [], ◌∷◌, ◌++◌, map, filter, Bool, true, false, cond, nat_le, nat_lt, Some, None, refl, sym, ap, ap₂, subst, ◌∙◌, arith, take, not}
+use Rattle.std.proofs.Common.{◌≡◌, ◌⊎◌, inl, inr, ℕ, suc, ◌+◌, ◌≤◌, List, [], ◌∷◌, ◌++◌, map, filter, Bool, true, false, cond, nat_le, nat_lt, Option, Some, None, refl, sym, ap, ap₂, subst, ◌∙◌, arith, take, not}
 use Rattle.std.specs.List.{AllByRecursion, take_while, prefix_len, slice_get}
 use Rattle.std.proofs.lemmas.List.{append-nil}
 use Rattle.std.proofs.lemmas.Bool.{le-ltb}
@@ -10,12 +10,17 @@ use Rattle.store_model.specs.Pairs.{Pair}
 use Rattle.store_model.specs.Pages.{Cell, cell_on, level_list, leads_group}
 use Rattle.store_model.proofs.ListsLemmas.{all_front, all_back}
 use Rattle.store_model.proofs.PagesLemmasOrder.{cell_on-key}
-use Rattle.skip_groups.specs.Floors.{is_not_above, last_of, floor_of, after_of, lead_from, key_ahead}
+use Rattle.skip_groups.specs.Floors.{is_not_above, last_of, floor_of, after_of, lead_from}
 use Rattle.skip_levels.specs.SearchPath.{last_lead, leader_behind, leader_ahead}
 use Rattle.skip_levels.proofs.Apart.{BeginsAtCut}
 use Rattle.skip_levels.proofs.Around.{IsLed, HasNoCut, LastPart, last_part, first_cut}
 use Rattle.skip_levels.proofs.PlaceGroups.{group_of_place, keys_of_cuts}
 use Rattle.skip_groups.proofs.Walks.{prefix_past, fails_past}
+
+-- the first key of a higher level above a key: that of the cell found next to it on a level, or else the one found before
+abbrev pub key_ahead : Option Cell → Option (List ℕ) → Option (List ℕ)
+key_ahead None next = next
+key_ahead (Some cell) next = Some cell.key
 
 -- none of these passes
 none_pass : (p : Cell → Bool) (cells : List Cell) → AllByRecursion (λ c. p c ≡ false) cells → take_while p cells ≡ []

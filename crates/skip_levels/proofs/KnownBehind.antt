@@ -16,7 +16,7 @@ use Rattle.store_model.specs.Labels.Lead.{Leader}
 use Rattle.store_model.specs.Pairs.{Pair, IsPairs}
 use Rattle.store_model.proofs.ListsLemmas.{rising_from_is_sorted}
 use Rattle.node_pages.proofs.PlaceLemmas.{same_key, reversed}
-use Rattle.skip_levels.specs.declared.search.PathEnd.{PathEnd}
+use Rattle.skip_levels.specs.declared.walk.PathEnd.{PathEnd}
 use Rattle.skip_levels.specs.declared.put_place.PutPlace.{PutPlace}
 use Rattle.skip_levels.specs.Descent.{IsPlace, IsKnownGroup, IsAt}
 use Rattle.ordered_pairs.specs.PairsState.{without}
@@ -138,7 +138,7 @@ module _ (d : Draw) (s : List Pair) (key value : List ℕ) (valid : IsPairs s) (
         zero_from_test : (n : ℕ) → (n == 0) ≡ true → n ≡ 0
         zero_from_test n f = grind (arith, nat_tests)
     low_behind false e =
-        let own : PathEnd = record { lead = leads.Key key; next = low.next; page = 0 } in
+        let own : PathEnd = record { lead = leads.Key key; next = low.next } in
         known_at d made key own valid_behind (record { lead = sym (key_leads (some_from_test place.top e)); next = here.next ∙ ap (leader_ahead d 0) (sym higher_side) })
       where
         some_from_test : (n : ℕ) → (n == 0) ≡ false → 0 < n

@@ -15,7 +15,7 @@ use Rattle.store_model.specs.Labels.Lead.{Start, Leader}
 use Rattle.store_model.specs.Pairs.{Pair, IsPairs}
 use Rattle.store_model.proofs.ListsLemmas.{all_filter, all_weaker, rising_head, rising_tail, rising_from_is_sorted}
 use Rattle.node_pages.proofs.PlaceLemmas.{same_key}
-use Rattle.skip_levels.specs.declared.search.PathEnd.{PathEnd}
+use Rattle.skip_levels.specs.declared.walk.PathEnd.{PathEnd}
 use Rattle.skip_levels.specs.SearchPath.{last_lead, not_above, above}
 use Rattle.skip_levels.specs.Descent.{IsPlace, LiesIn, IsKnownGroup, is_from, is_before}
 

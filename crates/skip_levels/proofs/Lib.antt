@@ -6,7 +6,6 @@ pub mod Descents
 pub mod Found
 pub mod KnownBehind
 pub mod KnownPlaces
-pub mod KnownValues
 pub mod LedGroups
 pub mod LevelChanges
 pub mod ListCalls

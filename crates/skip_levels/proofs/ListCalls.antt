@@ -9,7 +9,7 @@ use Rattle.store_model.specs.Draws.{Draw}
 use Rattle.store_model.specs.Pairs.{Pair, IsValue}
 use Rattle.store_model.proofs.ListsLemmasCuts.{length-filter-le}
 use Rattle.node_pages.specs.PagesState.{PagesState, IsObservable}
-use Rattle.skip_levels.specs.declared.search.PathEnd.{PathEnd}
+use Rattle.skip_levels.specs.declared.walk.PathEnd.{PathEnd}
 use Rattle.skip_levels.specs.Descent.{HoldsPairs, IsKnownGroup}
 use Rattle.skip_levels.specs.PagePairs.{pairs_of_map, list_over, IsHeld}
 use Rattle.ordered_pairs.specs.PairsState.{most_pairs, without, IsPairPut, IsPairTake}

@@ -14,7 +14,7 @@ use Rattle.store_model.specs.Pairs.{Pair}
 use Rattle.store_model.specs.Pages.{Cell, Page, group_pages}
 use Rattle.store_model.proofs.ListsLemmas.{rising_from_is_sorted}
 use Rattle.node_pages.specs.PagesState.{PagesState, IsObservable, IsPageGet}
-use Rattle.skip_levels.specs.declared.search.PathEnd.{PathEnd}
+use Rattle.skip_levels.specs.declared.walk.PathEnd.{PathEnd}
 use Rattle.skip_groups.specs.Floors.{floor_of, after_of, pair_in, pair_at}
 use Rattle.skip_groups.specs.Groups.{HoldsGroup, label_of}
 use Rattle.ordered_pairs.specs.PairsState.{next_pair}

@@ -11,8 +11,8 @@ use Rattle.store_model.specs.PageMaps.{map_of_pages}
 use Rattle.store_model.specs.Pages.{pages_of_pairs}
 use Rattle.store_model.proofs.ListsLemmas.{rising_from_is_sorted}
 use Rattle.node_pages.specs.PagesState.{PagesState, IsObservable}
-use Rattle.skip_levels.specs.declared.search.KeyPlace.{KeyPlace}
-use Rattle.skip_levels.specs.declared.search.PathEnd.{PathEnd}
+use Rattle.skip_levels.specs.declared.walk.KeyPlace.{KeyPlace}
+use Rattle.skip_levels.specs.declared.walk.PathEnd.{PathEnd}
 use Rattle.skip_levels.specs.declared.put_place.PutPlace.{PutPlace}
 use Rattle.skip_levels.specs.CellChanges.{IsPagesCall}
 use Rattle.skip_levels.specs.Descent.{HoldsPairs, IsKnownGroup, IsSearched, IsKeyPlace, IsKeySearch}

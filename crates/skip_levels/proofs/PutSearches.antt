@@ -17,7 +17,7 @@ use Rattle.store_model.specs.Pairs.{Pair, IsPairs}
 use Rattle.store_model.proofs.ListsLemmas.{all_filter, all_map, rising_from_is_sorted}
 use Rattle.node_pages.proofs.PlaceLemmas.{same_key}
 use Rattle.node_pages.specs.PagesState.{PagesState}
-use Rattle.skip_levels.specs.declared.search.PathEnd.{PathEnd}
+use Rattle.skip_levels.specs.declared.walk.PathEnd.{PathEnd}
 use Rattle.skip_levels.specs.declared.put_place.PutPlace.{PutPlace}
 use Rattle.skip_levels.specs.SearchPath.{last_lead, leader_behind, not_above, below, path_cost}
 use Rattle.skip_levels.specs.Descent.{HoldsPairs, IsKnownGroup, IsSearched, FindsLead, IsPlaceSearch, lead_known}

@@ -1,7 +1,7 @@
 -- A search for the value of a key: for its place on level 0, and then the lowest group on the search path.
 use Rattle.std.proofs.Common.{◌≡◌, ℕ, ◌+◌, ◌-◌, ◌≤◌, List, true, false, Option, Some, None, Result, Ok, Err, refl, sym, ap, subst, ◌∙◌, arith}
 use Rattle.store_base.specs.declared.store_fault.Fault.{Fault}
-use Rattle.skip_levels.specs.declared.search.PathEnd.{PathEnd}
+use Rattle.skip_levels.specs.declared.walk.PathEnd.{PathEnd}
 use Rattle.store_base.specs.Faults.{disk_faults_after}
 use Rattle.store_base.specs.declared.label.Lead as declared
 use Rattle.store_model.specs.Labels.{Lead}
@@ -85,7 +85,7 @@ sees_value key cell value = value_at key (Some cell)
 abbrev pub sees_no_more : Cell → Option (List ℕ) → Option (List ℕ)
 sees_no_more cell value = value
 
-pub value_seen : (key : List ℕ) (floor after : Option Cell) → seen sees_no_more after (seen (sees_value key) floor None) ≡ value_at key floor
+value_seen : (key : List ℕ) (floor after : Option Cell) → seen sees_no_more after (seen (sees_value key) floor None) ≡ value_at key floor
 value_seen key None None = refl
 value_seen key None (Some cell) = refl
 value_seen key (Some cell) None = refl

@@ -4,8 +4,8 @@ use Rattle.std.specs.FinMap.{find}
 use Rattle.store_base.specs.declared.store_fault.Fault.{Fault}
 use Rattle.store_base.specs.declared.label.Lead as declared
 use Rattle.store_base.specs.declared.label.Lead.TheVariants as leads
-use Rattle.skip_levels.specs.declared.search.PathEnd.{PathEnd}
-use Rattle.skip_levels.specs.declared.search.KeyPlace.{KeyPlace}
+use Rattle.skip_levels.specs.declared.walk.PathEnd.{PathEnd}
+use Rattle.skip_levels.specs.declared.walk.KeyPlace.{KeyPlace}
 use Rattle.store_base.specs.Leads.{model_lead}
 use Rattle.std.specs.Ordering.{is_le, is_lt}
 use Rattle.store_model.specs.Paths.{key_cmp}
@@ -88,10 +88,10 @@ pub record IsWayFrom (d : Draw) (s : List Pair) (m : PageMap) (top : ℕ) (key :
 
 -- of a place on the search path the cell that is not above the key becomes the lead, and the one above it what comes next
 abbrev pub led_by : Cell → PathEnd → PathEnd
-led_by cell end = record { lead = leads.Key cell.key; next = end.next; page = end.page }
+led_by cell end = record { lead = leads.Key cell.key; next = end.next }
 
 abbrev pub followed_by : Cell → PathEnd → PathEnd
-followed_by cell end = record { lead = end.lead; next = Some cell.key; page = end.page }
+followed_by cell end = record { lead = end.lead; next = Some cell.key }
 
 -- what going down from one level to another leaves of observable pages
 pub record GoesDown (old new : PagesState) (top : ℕ) (from : PathEnd) (bottom : ℕ) (key : List ℕ) (result : Result PathEnd Fault) : Type 0 where

@@ -12,7 +12,7 @@ use Rattle.ordered_pairs.specs.PairsState.{next_pair}
 use Rattle.skip_levels.specs.SearchPath.{path_cost}
 use Rattle.skip_groups.specs.Searches.{IsPagesRead}
 use Rattle.skip_levels.specs.Descent.{IsKnownGroup, IsSearched}
-use Rattle.skip_levels.specs.declared.search.PathEnd.{PathEnd}
+use Rattle.skip_levels.specs.declared.walk.PathEnd.{PathEnd}
 use Rattle.skip_groups.specs.Floors.{pair_in}
 
 -- what asking for the first pair of a group makes of observable pages

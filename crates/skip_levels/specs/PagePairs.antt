@@ -8,7 +8,7 @@ use Rattle.store_model.specs.PageMaps.{PageMap, pages_of_map}
 use Rattle.node_pages.specs.PagesState.{PagesState, IsObservable}
 use Rattle.ordered_pairs.specs.PairsState.{PairsState}
 use Rattle.skip_levels.specs.Descent.{HoldsPairs, IsKnownGroup}
-use Rattle.skip_levels.specs.declared.search.PathEnd.{PathEnd}
+use Rattle.skip_levels.specs.declared.walk.PathEnd.{PathEnd}
 
 -- the pair of a cell, if it has a value
 abbrev pub pairs_with : List ℕ → Option (List ℕ) → List Pair

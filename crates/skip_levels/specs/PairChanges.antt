@@ -11,7 +11,7 @@ use Rattle.store_model.specs.PageMaps.{PageMap, map_of_pages}
 use Rattle.node_pages.specs.PagesState.{PagesState, IsObservable}
 use Rattle.skip_levels.specs.CellChanges.{IsPagesCall}
 use Rattle.skip_levels.specs.Descent.{HoldsPairs, IsKnownGroup}
-use Rattle.skip_levels.specs.declared.search.PathEnd.{PathEnd}
+use Rattle.skip_levels.specs.declared.walk.PathEnd.{PathEnd}
 use Rattle.skip_levels.specs.PagePairs.{pairs_of_map}
 use Rattle.ordered_pairs.specs.PairsState.{most_pairs, without}
 use Rattle.skip_levels.specs.SearchPath.{leader_behind, not_above, levels_cost, path_cost, path_cost_below, low_cost}

@@ -2,7 +2,7 @@
 use Rattle.std.specs.Prelude.{◌≡◌, ◌⊎◌, ℕ, ◌+◌, ◌≤◌, List, Bool, false, Option, Some, None, Result, IfOk, ◌==◌, if◌then◌else◌}
 use Rattle.store_base.specs.declared.store_fault.Fault.{Fault}
 use Rattle.store_base.specs.declared.label.Lead.TheVariants as leads
-use Rattle.skip_levels.specs.declared.search.PathEnd.{PathEnd}
+use Rattle.skip_levels.specs.declared.walk.PathEnd.{PathEnd}
 use Rattle.skip_levels.specs.declared.put_place.PutPlace.{PutPlace}
 use Rattle.store_base.specs.Faults.{disk_faults_after}
 use Rattle.store_base.specs.Leads.{model_lead}
@@ -30,7 +30,7 @@ is_leader key (Leader leader) = is_eq (key_cmp leader key)
 -- what is known behind a put of the key from a level down: a new key above level 0 leads a group of its own
 abbrev pub leads_own : List ℕ → Option PathEnd → Option PathEnd
 leads_own key None = None
-leads_own key (Some place) = Some (record { lead = leads.Key key; next = place.next; page = 0 })
+leads_own key (Some place) = Some (record { lead = leads.Key key; next = place.next })
 
 abbrev pub behind : ℕ → List ℕ → Option PathEnd → Option PathEnd
 behind top key known = if top == 0 then known else leads_own key known

@@ -18,12 +18,12 @@ use skip_groups::{
 use std::alloc::Global;
 use store_base::{Fault, Key, Lead};
 
-/// Sets the key's cells, one or none, in the group that `lead` leads on the level, in the place of the cell that the key
-/// had there. `fresh` lends its memory; it is not needed where one page takes one cell more, which is then changed where it lies. The answer
+/// Sets the key's cells, one or none, in the group that `lead` leads on the level, in the place of the cell
+/// that the key had there. Where one page takes one cell more, that page is changed where it lies. The answer
 /// is what leads the group of the next lower level, strictly below the key.
 pub fn set_cells<P: Pages>(
+    alloc: Global,
     pages: &mut P,
-    fresh: &mut NewCells,
     level: u8,
     lead: &Lead,
     key: &Key,
@@ -34,13 +34,13 @@ pub fn set_cells<P: Pages>(
     ensures call { SetsCells (P.state pages.old) (P.state pages.new) level (model_lead lead.now) key.now own.now result }
     ensures follows { P.follows pages.old pages.new }
 {
-    fresh.restart(level, lead);
-    if let Some(at) = read_new_cells(pages, lead, key, own, fresh)? {
-        pages.insert_cell(&label_in_group(level, lead, fresh.kept), at, &own[0])?;
-        return Ok(fresh.next);
+    let mut made = NewCells::new(alloc, level, lead);
+    if let Some(at) = read_new_cells(pages, lead, key, own, &mut made)? {
+        pages.insert_cell(&label_in_group(level, lead, made.kept), at, &own[0])?;
+        return Ok(made.next);
     }
-    change_run(pages, lead, fresh.kept, fresh.count, &fresh.cells)?;
-    Ok(fresh.next)
+    change_run(pages, lead, made.kept, made.count, &made.cells)?;
+    Ok(made.next)
 }
 
 /// Changes the pages of the group that `lead` leads to those that come of it, unless all its cells are where they were.
@@ -61,13 +61,12 @@ fn change_moved<P: Pages>(
     change_run(pages, lead, made.kept, made.count, &made.cells)
 }
 
-/// Cuts the group that `lead` leads on the level in two: the cells below the key stay, and the key's own cell and those above
-/// it make the group that the key leads. `fresh` lends its memory. The answer is what leads the group of the next lower level, strictly
-/// below the key.
+/// Cuts the group that `lead` leads on the level in two: the cells below the key stay, and the key's own cell
+/// and those above it make the group that the key leads. The answer is what leads the group of the next lower
+/// level, strictly below the key.
 pub fn split_group<P: Pages>(
     alloc: Global,
     pages: &mut P,
-    fresh: &mut NewCells,
     level: u8,
     lead: &Lead,
     key: &Key,
@@ -80,19 +79,18 @@ pub fn split_group<P: Pages>(
     let mut high = Cells::with_room(alloc, level, u32::from(room(level)) + 1)?;
     append_own(&mut high, &[own], key)?;
     let first = high.len();
-    fresh.restart(level, lead);
-    part_group(pages, lead, key, fresh, &mut high)?;
-    change_moved(pages, lead, fresh, high.len() > first)?;
+    let mut made = NewCells::new(alloc, level, lead);
+    part_group(pages, lead, key, &mut made, &mut high)?;
+    change_moved(pages, lead, &made, high.len() > first)?;
     change_run(pages, &Lead::Key(*key), 0, 0, &high)?;
-    Ok(lead_behind(&fresh.cells, &fresh.next))
+    Ok(lead_behind(&made.cells, &made.next))
 }
 
-/// Joins the group that the key leads on the level to that of `lead`, which stands before it, and leaves out the key's own cell.
-/// `fresh` lends its memory. The answer is what leads the group of the next lower level, strictly below the key.
+/// Joins the group that the key leads on the level to that of `lead`, which stands before it, and leaves out
+/// the key's own cell. The answer is what leads the group of the next lower level, strictly below the key.
 pub fn join_groups<P: Pages>(
     alloc: Global,
     pages: &mut P,
-    fresh: &mut NewCells,
     level: u8,
     lead: &Lead,
     key: &Key,
@@ -103,16 +101,15 @@ pub fn join_groups<P: Pages>(
     ensures follows { P.follows pages.old pages.new }
 {
     let leader = Lead::Key(*key);
-    fresh.restart(level, lead);
+    let mut made = NewCells::new(alloc, level, lead);
     let mut none = Cells::new(alloc, level);
-    part_group(pages, lead, key, fresh, &mut none)?;
-    let next = lead_behind(&fresh.cells, &fresh.next);
-    let first = fresh.cells.len();
-    let mut gone = NewCells::new(alloc);
-    gone.restart(level, &leader);
-    part_group(pages, &leader, key, &mut gone, &mut fresh.cells)?;
+    part_group(pages, lead, key, &mut made, &mut none)?;
+    let next = lead_behind(&made.cells, &made.next);
+    let first = made.cells.len();
+    let mut gone = NewCells::new(alloc, level, &leader);
+    part_group(pages, &leader, key, &mut gone, &mut made.cells)?;
     let count = gone.kept + gone.count;
     change_run(pages, &leader, 0, count, &Cells::new(alloc, level))?;
-    change_moved(pages, lead, fresh, fresh.cells.len() > first)?;
+    change_moved(pages, lead, &made, made.cells.len() > first)?;
     Ok(next)
 }

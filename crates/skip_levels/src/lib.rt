@@ -1,15 +1,16 @@
 //! The list layer: the B-skip-list, a sorted list of pairs over any pages (Golovin).
 //!
-//! A search goes from the top level down, a group a level. A change sets a key's cells in a group, cuts a group in two or joins two
-//! (`levels`), a group of a level or two, and never reads the list. What one group is on its own says `skip_groups`.
+//! Start at `SkipList`. A search goes from the top level down, a group a level, and leaves to the next call where it
+//! came (`walk`). A change sets a key's cells in a group, cuts a group in two or joins two (`levels`), a group of a level
+//! or two, and never reads the list (`pair_changes`). What one group is on its own says `skip_groups`.
 #![tactic(auto)]
 
-mod changes;
 mod levels;
 mod next;
+mod pair_changes;
 mod put_place;
-mod search;
 mod skip_list;
+mod walk;
 
 pub use ordered_pairs::{MapPairs, OrderedPairs};
 pub use skip_list::SkipList;

@@ -1,41 +1,37 @@
 //! The skip list with blocks: a sorted list of pairs in pages (Golovin 2010).
 
 ghost use Rattle.std.specs.Prelude.{◌≡◌};
+ghost use Rattle.store_base.specs.declared.store_fault.Fault.TheVariants as faults;
 ghost use Rattle.store_model.specs.Pairs as model;
 ghost use Rattle.node_pages.specs.PagesState as pages_state;
 ghost use Rattle.skip_levels.specs.Descent.{HoldsPairs};
 ghost use Rattle.skip_levels.specs.PagePairs.{pairs_of_map, list_over};
 
-use crate::changes::{put_pair, take_pair};
-use crate::next::find_next;
-use crate::search::{PathEnd, find_value};
-use node_pages::Pages;
+use crate::walk::Walk;
+use node_pages::{Pages, reveal_pair};
 use ordered_pairs::OrderedPairs;
-use seeded_draw::{Draw, Front};
-use skip_groups::NewCells;
+use seeded_draw::Draw;
 use std::alloc::Global;
 use std::marker::Model;
 use store_base::{Fault, Key, Value};
 
-/// A sorted list of pairs in pages. Each level of the list holds the keys that the draw puts on it or above, is cut into
-/// groups before each key of a higher level, and each group into pages.
+/// A sorted list of pairs in pages. Each level of the list holds the keys that the draw puts on it or above,
+/// is cut into groups before each key of a higher level, and each group into pages.
 ///
-/// It is observable where its pages are and no `put` or `take` of it failed. One of which a change failed is spent: its pages are
-/// given back by `into_pages`, and a further `put` or `take` answers `NoMemory` and changes nothing.
+/// It is observable where its pages are and no `put` or `take` of it failed. One of which a change failed is
+/// spent: its pages are given back by `into_pages`, and a further `put` or `take` answers `NoMemory` and
+/// changes nothing.
 ///
-/// It knows the group of level 0 to which its last call came, unless that one took out a key that led its group: a key that lies there
-/// needs no descent.
+/// It knows the group of level 0 to which its last call came, unless that one took out a key that led its
+/// group: a key that lies there needs no descent.
 #[derive(Drop)]
 pub struct SkipList<P: Pages, W: Draw> {
-    alloc: Global,
-    /// Its pages, also after a fault. Where it is whole, whoever changes them shows that they are those of a list still, for which
-    /// what is known is right.
+    /// Its pages, also after a fault. Where it is whole, whoever changes them shows that they are those of a
+    /// list still, for which what is known is right.
     pub pages: P,
     draw: W,
-    front: Front,
     is_whole: bool,
-    known: Option<PathEnd>,
-    fresh: NewCells,
+    walk: Walk,
 }
 
 impl<P: Pages, W: Draw> Model for SkipList<P, W> {
@@ -48,14 +44,22 @@ impl<P: Pages, W: Draw> Model for SkipList<P, W> {
 
     ghost view = { λ s. record { pages = s.pages; draw = s.draw; is_whole = s.is_whole } };
 
-    ghost invariant = { λ s. KeepsList (W.drawn s.draw) s.is_whole (P.state s.pages) s.known };
+    ghost invariant = { λ s. KeepsList (W.drawn s.draw) s.is_whole (P.state s.pages) s.walk.known };
+}
+
+/// The fault of a change of a list that is spent: one of its changes failed, so its pages are no list's. It
+/// answers as the change that failed might have, and calls nothing.
+fn spent() -> Fault
+    ensures { result ≡ faults.NoMemory }
+{
+    Fault::NoMemory
 }
 
 impl<P: Pages, W: Draw + Drop> SkipList<P, W> {
     ghost use Rattle.std.specs.Prelude.{List, true, false};
 
-    /// The list whose pages these are, under this draw: the pages of a list of at most 8,388,608 pairs, as no page is that of
-    /// the empty list.
+    /// The list whose pages these are, under this draw: the pages of a list of at most 8,388,608 pairs, as no
+    /// page is that of the empty list.
     pub fn new(alloc: Global, pages: P, draw: W) -> Self
         requires { pages_state.IsObservable (P.state pages) → (s : List model.Pair) × HoldsPairs (W.drawn draw) s (P.state pages).pages }
         ensures pages { result.pages ≡ pages }
@@ -63,17 +67,15 @@ impl<P: Pages, W: Draw + Drop> SkipList<P, W> {
         ensures whole { result.is_whole ≡ true }
     {
         SkipList {
-            alloc,
             pages,
             draw,
-            front: Front::new(),
             is_whole: true,
-            known: None,
-            fresh: NewCells::new(alloc),
+            walk: Walk::new(alloc),
         }
     }
 
-    /// Forgets what it knows. Until it is taken up again its pages may be changed at will, and it is as after a change that failed.
+    /// Forgets what it knows. Until it is taken up again its pages may be changed at will, and it is as after
+    /// a change that failed.
     pub fn forget(&mut self)
         ensures pages { self.new.pages ≡ self.old.pages }
         ensures draw { self.new.draw ≡ self.old.draw }
@@ -90,7 +92,7 @@ impl<P: Pages, W: Draw + Drop> SkipList<P, W> {
         ensures whole { self.new.is_whole ≡ true }
     {
         self.is_whole = true;
-        self.known = None;
+        self.walk.known = None;
     }
 
     /// Its pages, also after a fault.
@@ -127,32 +129,24 @@ impl<P: Pages, W: Draw + Drop> OrderedPairs for SkipList<P, W> {
         ensures lookups { IsObservable (⟦<SkipList<P, W> as OrderedPairs>⟧.state self.old) → (P.state self.new.pages).lookups ≤ (P.state self.old.pages).lookups + path_cost (W.drawn self.old.draw) (pairs_of_map (P.state self.old.pages).pages) key.now }
     {
         let height = self.draw.height();
-        find_value(&mut self.pages, &mut self.known, height, key)
+        self.walk.find_value(&mut self.pages, height, key)
     }
 
-    /// The groups of the search path are read to find the key, and those from its own level down once more to change them.
+    /// The groups of the search path are read to find the key, and those from its own level down once more to
+    /// change them.
     fn put(&mut self, key: Key, value: Value) -> Result<(), Fault>
         requires { IsObservable (⟦<SkipList<P, W> as OrderedPairs>⟧.state self.old) → length (⟦<SkipList<P, W> as OrderedPairs>⟧.state self.old).pairs < most_pairs }
         ensures call { IsPairPut (⟦<SkipList<P, W> as OrderedPairs>⟧.state self.old) (⟦<SkipList<P, W> as OrderedPairs>⟧.state self.new) key value result }
         ensures follows { ⟦<SkipList<P, W> as OrderedPairs>⟧.follows self.old self.new }
         ensures lookups { IsObservable (⟦<SkipList<P, W> as OrderedPairs>⟧.state self.old) → (P.state self.new.pages).lookups ≤ (P.state self.old.pages).lookups + (path_cost (W.drawn self.old.draw) (pairs_of_map (P.state self.old.pages).pages) key + low_cost (W.drawn self.old.draw) (pairs_of_map (P.state self.old.pages).pages) key) }
     {
-        let _ = key.as_bytes();
-        let _ = value.as_slice();
+        reveal_pair(&key, &value);
         if !self.is_whole {
-            return Err(Fault::NoMemory);
+            return Err(spent());
         }
         self.is_whole = false;
-        put_pair(
-            self.alloc,
-            &mut self.pages,
-            &mut self.fresh,
-            &self.draw,
-            &mut self.front,
-            &mut self.known,
-            &key,
-            value,
-        )?;
+        self.walk
+            .put_pair(&mut self.pages, &self.draw, &key, value)?;
         self.is_whole = true;
         Ok(())
     }
@@ -164,18 +158,10 @@ impl<P: Pages, W: Draw + Drop> OrderedPairs for SkipList<P, W> {
         ensures lookups { IsObservable (⟦<SkipList<P, W> as OrderedPairs>⟧.state self.old) → (P.state self.new.pages).lookups ≤ (P.state self.old.pages).lookups + (path_cost (W.drawn self.old.draw) (pairs_of_map (P.state self.old.pages).pages) key.now + (low_cost (W.drawn self.old.draw) (pairs_of_map (P.state self.old.pages).pages) key.now + path_cost_below (W.drawn self.old.draw) (pairs_of_map (P.state self.old.pages).pages) key.now)) }
     {
         if !self.is_whole {
-            return Err(Fault::NoMemory);
+            return Err(spent());
         }
         self.is_whole = false;
-        let value = take_pair(
-            self.alloc,
-            &mut self.pages,
-            &mut self.fresh,
-            &self.draw,
-            &mut self.front,
-            &mut self.known,
-            key,
-        )?;
+        let value = self.walk.take_pair(&mut self.pages, &self.draw, key)?;
         self.is_whole = true;
         Ok(value)
     }
@@ -187,6 +173,6 @@ impl<P: Pages, W: Draw + Drop> OrderedPairs for SkipList<P, W> {
         ensures lookups { IsObservable (⟦<SkipList<P, W> as OrderedPairs>⟧.state self.old) → (P.state self.new.pages).lookups ≤ (P.state self.old.pages).lookups + path_cost (W.drawn self.old.draw) (pairs_of_map (P.state self.old.pages).pages) key.now + 1 }
     {
         let height = self.draw.height();
-        find_next(&mut self.pages, &mut self.known, height, key)
+        self.walk.find_next(&mut self.pages, height, key)
     }
 }

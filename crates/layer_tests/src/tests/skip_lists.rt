@@ -265,16 +265,14 @@ fn looks_for(rt: &impl Abort, alloc: Global, blocks: &[u32]) -> u64 {
 }
 
 #[test]
-fn search_from_the_page_of_the_last_one(rt: HostRuntime) {
-    // The way down asks for a page of each of two levels above. The first search in the known group begins with its first page, and
-    // the next where that one ended; a page that begins above the key is asked for in vain.
+fn searches_in_a_known_group(rt: HostRuntime) {
+    // The way down asks for a page of each of two levels above, and each search for the pages of the group up to that of its
+    // block: of the 25 blocks the first page has 10, and so has the second.
     let alloc = rt.alloc();
     assert!(rt; looks_for(&rt, alloc, &[25]) == 5);
     assert!(rt; looks_for(&rt, alloc, &[25, 24]) == 8);
-    assert!(rt; looks_for(&rt, alloc, &[25, 24, 23]) == 9);
-    assert!(rt; looks_for(&rt, alloc, &[25, 24, 23, 1]) == 11);
-    assert!(rt; looks_for(&rt, alloc, &[25, 24, 23, 1, 2]) == 12);
-    assert!(rt; looks_for(&rt, alloc, &[1, 2, 15, 16]) == 7);
+    assert!(rt; looks_for(&rt, alloc, &[25, 24, 1]) == 9);
+    assert!(rt; looks_for(&rt, alloc, &[1, 2, 15, 16]) == 8);
 }
 
 /// The pairs of /a with the value 1 and of /b with the value 2.

@@ -16,28 +16,28 @@ append_own-requires g c = subst (λ (list : CellList). AreCells list.level list.
 pub part_group-requires-clause-none : goal.part_group-requires-clause-none
 part_group-requires-clause-none g c =
     let start = c.append_own.new.cells.cells in
-    subst (λ n. IsParted n (model_lead c.args.lead.now) c.args.key.now [] start c.restart.new.self start) (sym c.restart.ensures.valid.level_is) (c.restart.ensures.parted c.args.key.now start)
+    subst (λ n. IsParted n (model_lead c.args.lead.now) c.args.key.now [] start c.new-made.result start) (sym c.new-made.ensures.valid.level_is) (c.new-made.ensures.parted c.args.key.now start)
 
 pub change_moved-requires-clause-room : goal.change_moved-requires-clause-room
 change_moved-requires-clause-room g c =
     let start = c.append_own.new.cells.cells in
-    let read = subst (λ n. IsGroupParted (g.P.Pages.state c.args.pages.now) (g.P.Pages.state c.part_group.new.pages) n (model_lead c.args.lead.now) c.args.key.now start c.part_group.new.made c.part_group.new.above.cells (Ok (tt {0}))) c.restart.ensures.valid.level_is c.in_ok-part_group.ensures.call in
+    let read = subst (λ n. IsGroupParted (g.P.Pages.state c.args.pages.now) (g.P.Pages.state c.part_group.new.pages) n (model_lead c.args.lead.now) c.args.key.now start c.part_group.new.made c.part_group.new.above.cells (Ok (tt {0}))) c.new-made.ensures.valid.level_is c.in_ok-part_group.ensures.call in
     let few : length start ≤ 1 = omega (arith, c.in_ok-append_own.ensures.few, ap (λ (list : CellList). length list.cells) c.in_ok-high.ensures) in
-    room_to_split (g.P.Pages.state c.args.pages.now) (g.P.Pages.state c.part_group.new.pages) c.args.level (model_lead c.args.lead.now) c.args.key.now (c.args.own ∷ []) start c.part_group.new.made c.part_group.new.above (c.in_ok-part_group.ensures.valid.level_is ∙ c.restart.ensures.valid.level_is) read few c.requires.room
+    room_to_split (g.P.Pages.state c.args.pages.now) (g.P.Pages.state c.part_group.new.pages) c.args.level (model_lead c.args.lead.now) c.args.key.now (c.args.own ∷ []) start c.part_group.new.made c.part_group.new.above (c.in_ok-part_group.ensures.valid.level_is ∙ c.new-made.ensures.valid.level_is) read few c.requires.room
 
 pub change_run-requires-clause-room : goal.change_run-requires-clause-room
 change_run-requires-clause-room g c =
     let start = c.append_own.new.cells.cells in
-    let read = subst (λ n. IsGroupParted (g.P.Pages.state c.args.pages.now) (g.P.Pages.state c.part_group.new.pages) n (model_lead c.args.lead.now) c.args.key.now start c.part_group.new.made c.part_group.new.above.cells (Ok (tt {0}))) c.restart.ensures.valid.level_is c.in_ok-part_group.ensures.call in
+    let read = subst (λ n. IsGroupParted (g.P.Pages.state c.args.pages.now) (g.P.Pages.state c.part_group.new.pages) n (model_lead c.args.lead.now) c.args.key.now start c.part_group.new.made c.part_group.new.above.cells (Ok (tt {0}))) c.new-made.ensures.valid.level_is c.in_ok-part_group.ensures.call in
     let few : length start ≤ 1 = omega (arith, c.in_ok-append_own.ensures.few, ap (λ (list : CellList). length list.cells) c.in_ok-high.ensures) in
-    room_behind (g.P.Pages.state c.args.pages.now) (g.P.Pages.state c.part_group.new.pages) c.args.level (model_lead c.args.lead.now) c.args.key.now (c.args.own ∷ []) start c.part_group.new.made c.part_group.new.above (c.in_ok-part_group.ensures.valid.level_is ∙ c.restart.ensures.valid.level_is) read few (g.P.Pages.state c.change_moved.new.pages) _ _ (omega arith) c.requires.room c.in_ok-change_moved.ensures.call
+    room_behind (g.P.Pages.state c.args.pages.now) (g.P.Pages.state c.part_group.new.pages) c.args.level (model_lead c.args.lead.now) c.args.key.now (c.args.own ∷ []) start c.part_group.new.made c.part_group.new.above (c.in_ok-part_group.ensures.valid.level_is ∙ c.new-made.ensures.valid.level_is) read few (g.P.Pages.state c.change_moved.new.pages) _ _ (omega arith) c.requires.room c.in_ok-change_moved.ensures.call
 
 pub returns-clause-call : goal.returns-clause-call
 returns-clause-call g c =
     let start = c.append_own.new.cells.cells in
-    let read = subst (λ n. IsGroupParted (g.P.Pages.state c.args.pages.now) (g.P.Pages.state c.part_group.new.pages) n (model_lead c.args.lead.now) c.args.key.now start c.part_group.new.made c.part_group.new.above.cells (Ok (tt {0}))) c.restart.ensures.valid.level_is c.in_ok-part_group.ensures.call in
+    let read = subst (λ n. IsGroupParted (g.P.Pages.state c.args.pages.now) (g.P.Pages.state c.part_group.new.pages) n (model_lead c.args.lead.now) c.args.key.now start c.part_group.new.made c.part_group.new.above.cells (Ok (tt {0}))) c.new-made.ensures.valid.level_is c.in_ok-part_group.ensures.call in
     let few : length start ≤ 1 = omega (arith, c.in_ok-append_own.ensures.few, ap (λ (list : CellList). length list.cells) c.in_ok-high.ensures) in
-    group_split (g.P.Pages.state c.args.pages.now) (g.P.Pages.state c.part_group.new.pages) c.args.level (model_lead c.args.lead.now) c.args.key.now (c.args.own ∷ []) start c.part_group.new.made c.part_group.new.above (c.in_ok-part_group.ensures.valid.level_is ∙ c.restart.ensures.valid.level_is) read few (g.P.Pages.state c.change_moved.new.pages) (g.P.Pages.state c.change_run.new.pages) _ _ (nat_lt c.len-first.result c.len.result) _ _ (c.in_ok-part_group.ensures.above.level_is ∙ c.restart.ensures.valid.level_is)
+    group_split (g.P.Pages.state c.args.pages.now) (g.P.Pages.state c.part_group.new.pages) c.args.level (model_lead c.args.lead.now) c.args.key.now (c.args.own ∷ []) start c.part_group.new.made c.part_group.new.above (c.in_ok-part_group.ensures.valid.level_is ∙ c.new-made.ensures.valid.level_is) read few (g.P.Pages.state c.change_moved.new.pages) (g.P.Pages.state c.change_run.new.pages) _ _ (nat_lt c.len-first.result c.len.result) _ _ (c.in_ok-part_group.ensures.above.level_is ∙ c.new-made.ensures.valid.level_is)
     (subst (λ (list : CellList). AreCells list.level (list.cells ++ side Equal c.args.key.now (c.args.own ∷ [])) → start ≡ list.cells ++ side Equal c.args.key.now (c.args.own ∷ [])) c.in_ok-high.ensures c.in_ok-append_own.ensures.added)
     (λ e. let few = ltb-false c.len-first.result c.len.result e in omega (arith, few, c.len.ensures.value, c.len-first.ensures.value)) refl c.lead_behind.ensures c.in_ok-change_moved.ensures.call c.in_ok-change_run.ensures.call
 
@@ -57,7 +57,7 @@ returns-in_err-part_group-clause-call g c =
     let p = err_from_is_err_and c.from_residual-in_err-part_group.result c.from_residual-in_err-part_group.ensures.1 in
     let fault = c.in_err-part_group.field-0.0 in
     let start = c.append_own.new.cells.cells in
-    let read = subst (λ n. IsGroupParted (g.P.Pages.state c.args.pages.now) (g.P.Pages.state c.part_group.new.pages) n (model_lead c.args.lead.now) c.args.key.now start c.part_group.new.made c.part_group.new.above.cells (Err fault)) c.restart.ensures.valid.level_is c.in_err-part_group.ensures.call in
+    let read = subst (λ n. IsGroupParted (g.P.Pages.state c.args.pages.now) (g.P.Pages.state c.part_group.new.pages) n (model_lead c.args.lead.now) c.args.key.now start c.part_group.new.made c.part_group.new.above.cells (Err fault)) c.new-made.ensures.valid.level_is c.in_err-part_group.ensures.call in
     rw (p.1, p.2) (group_not_split (g.P.Pages.state c.args.pages.now) (g.P.Pages.state c.part_group.new.pages) (g.P.Pages.state c.part_group.new.pages) c.args.level (model_lead c.args.lead.now) c.args.key.now (c.args.own ∷ []) fault read refl (failed_call (g.P.Pages.state c.args.pages.now) (g.P.Pages.state c.part_group.new.pages) fault (walk_call (g.P.Pages.state c.args.pages.now) (g.P.Pages.state c.part_group.new.pages) c.args.level (model_lead c.args.lead.now) (Err fault) read)))
 
 pub returns-in_err-change_moved-clause-call : goal.returns-in_err-change_moved-clause-call
@@ -65,7 +65,7 @@ returns-in_err-change_moved-clause-call g c =
     let p = err_from_is_err_and c.from_residual-in_err-change_moved.result c.from_residual-in_err-change_moved.ensures.1 in
     let fault = c.in_err-change_moved.field-0.0 in
     let start = c.append_own.new.cells.cells in
-    let read = subst (λ n. IsGroupParted (g.P.Pages.state c.args.pages.now) (g.P.Pages.state c.part_group.new.pages) n (model_lead c.args.lead.now) c.args.key.now start c.part_group.new.made c.part_group.new.above.cells (Ok (tt {0}))) c.restart.ensures.valid.level_is c.in_ok-part_group.ensures.call in
+    let read = subst (λ n. IsGroupParted (g.P.Pages.state c.args.pages.now) (g.P.Pages.state c.part_group.new.pages) n (model_lead c.args.lead.now) c.args.key.now start c.part_group.new.made c.part_group.new.above.cells (Ok (tt {0}))) c.new-made.ensures.valid.level_is c.in_ok-part_group.ensures.call in
     let write = c.in_err-change_moved.ensures.call in
     rw (p.1, p.2) (group_not_split (g.P.Pages.state c.args.pages.now) (g.P.Pages.state c.part_group.new.pages) (g.P.Pages.state c.change_moved.new.pages) c.args.level (model_lead c.args.lead.now) c.args.key.now (c.args.own ∷ []) fault read write.lookups
     (fails_behind (g.P.Pages.state c.args.pages.now) (g.P.Pages.state c.part_group.new.pages) (g.P.Pages.state c.change_moved.new.pages) (tt {0}) fault (walk_call (g.P.Pages.state c.args.pages.now) (g.P.Pages.state c.part_group.new.pages) c.args.level (model_lead c.args.lead.now) (Ok (tt {0})) read) (run_call (g.P.Pages.state c.part_group.new.pages) (g.P.Pages.state c.change_moved.new.pages) (Err fault) write)))
@@ -75,7 +75,7 @@ returns-in_err-change_run-clause-call g c =
     let p = err_from_is_err_and c.from_residual-in_err-change_run.result c.from_residual-in_err-change_run.ensures.1 in
     let fault = c.in_err-change_run.field-0.0 in
     let start = c.append_own.new.cells.cells in
-    let read = subst (λ n. IsGroupParted (g.P.Pages.state c.args.pages.now) (g.P.Pages.state c.part_group.new.pages) n (model_lead c.args.lead.now) c.args.key.now start c.part_group.new.made c.part_group.new.above.cells (Ok (tt {0}))) c.restart.ensures.valid.level_is c.in_ok-part_group.ensures.call in
+    let read = subst (λ n. IsGroupParted (g.P.Pages.state c.args.pages.now) (g.P.Pages.state c.part_group.new.pages) n (model_lead c.args.lead.now) c.args.key.now start c.part_group.new.made c.part_group.new.above.cells (Ok (tt {0}))) c.new-made.ensures.valid.level_is c.in_ok-part_group.ensures.call in
     let first = c.in_ok-change_moved.ensures.call in
     let write = c.in_err-change_run.ensures.call in
     rw (p.1, p.2) (group_not_split (g.P.Pages.state c.args.pages.now) (g.P.Pages.state c.part_group.new.pages) (g.P.Pages.state c.change_run.new.pages) c.args.level (model_lead c.args.lead.now) c.args.key.now (c.args.own ∷ []) fault read (write.lookups ∙ first.lookups)

@@ -18,7 +18,7 @@ pub invariant_of-pairs : goal.invariant_of-pairs
 invariant_of-pairs g c =
     let s = c.pairs-in-Digest.inside in
     let new = c.tell_digest.new.staged in
-    keeps_stays g.D.Disk.state (any_draw s.draw) s.is_whole s.known s.pages new (follows_stay g.D.Disk.state s.pages new c.tell_digest.ensures.follows c.tell_digest.ensures.map) c.pairs-in-Digest.invariant
+    keeps_stays g.D.Disk.state (any_draw s.draw) s.is_whole s.walk.known s.pages new (follows_stay g.D.Disk.state s.pages new c.tell_digest.ensures.follows c.tell_digest.ensures.map) c.pairs-in-Digest.invariant
 
 pub returns-in-Space-clause-call : goal.returns-in-Space-clause-call
 returns-in-Space-clause-call g c t list =

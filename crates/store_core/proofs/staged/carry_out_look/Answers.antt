@@ -25,8 +25,8 @@ invariant_of-pairs g c =
     let some = c.requires.list in
     let command = command_of c.args.command.now in
     let same = same_behind state some.0 some.1.0 c.args.pairs.now some.1.1 c.requires.runs command _ c.answer.new.reply (look_other some.0 command some.1.0 c.requires.looks (reply_of c.answer.new.reply)) (answered g c) in
-    subst (λ (x : StagedState g.row.D.Denot AnyDraw). KeepsList (any_draw s.draw) s.is_whole (pages_state state x) s.known) (sym c.discard.ensures)
-    (keeps_stays state (any_draw s.draw) s.is_whole s.known s.pages _ (back_stays state s.pages same) c.pairs.invariant)
+    subst (λ (x : StagedState g.row.D.Denot AnyDraw). KeepsList (any_draw s.draw) s.is_whole (pages_state state x) s.walk.known) (sym c.discard.ensures)
+    (keeps_stays state (any_draw s.draw) s.is_whole s.walk.known s.pages _ (back_stays state s.pages same) c.pairs.invariant)
 
 pub give_up-requires : goal.give_up-requires
 give_up-requires g c =

@@ -20,14 +20,14 @@ invariant_of-pairs g c =
     let state = g.D.Disk.state in
     let s = c.pairs.inside in
     let runs = ap (λ (v : TreeList g.row.D.Denot). v.pages.is_spent) c.pairs.view_is ∙ c.requires.runs in
-    subst (λ (x : StagedState g.row.D.Denot AnyDraw). KeepsList (any_draw s.draw) s.is_whole (pages_state state x) s.known) (sym c.discard.ensures)
-    (keeps_stays state (any_draw s.draw) s.is_whole s.known s.pages _ (settled_stays state s.pages c.settle.new.self runs c.in-Ok.ensures.call) c.pairs.invariant)
+    subst (λ (x : StagedState g.row.D.Denot AnyDraw). KeepsList (any_draw s.draw) s.is_whole (pages_state state x) s.walk.known) (sym c.discard.ensures)
+    (keeps_stays state (any_draw s.draw) s.is_whole s.walk.known s.pages _ (settled_stays state s.pages c.settle.new.self runs c.in-Ok.ensures.call) c.pairs.invariant)
 
 pub invariant_of-pairs-in-Err : goal.invariant_of-pairs-in-Err
 invariant_of-pairs-in-Err g c =
     let s = c.pairs.inside in
     let runs = ap (λ (v : TreeList g.row.D.Denot). v.pages.is_spent) c.pairs.view_is ∙ c.requires.runs in
-    keeps_stays g.D.Disk.state (any_draw s.draw) s.is_whole s.known s.pages c.settle.new.self (settle_stays g.D.Disk.state s.pages c.settle.new.self runs c.in-Err.ensures.call) c.pairs.invariant
+    keeps_stays g.D.Disk.state (any_draw s.draw) s.is_whole s.walk.known s.pages c.settle.new.self (settle_stays g.D.Disk.state s.pages c.settle.new.self runs c.in-Err.ensures.call) c.pairs.invariant
 
 pub give_up-requires : goal.give_up-requires
 give_up-requires g c =

@@ -10,8 +10,8 @@ use Rattle.ordered_pairs.proofs.map.MapPairsOrderedPairs.put.Goals as goal
 -- the value is another under the key
 pub invariant_of-self : goal.invariant_of-self
 invariant_of-self c =
-    let is_value : IsValue c.args.value = (c.as_slice.ensures.some, c.as_slice.ensures.fits, c.as_slice.ensures.bytes) in
-    let put = IsPairs-put c.args.key c.args.value c.args.self.now.pairs.items c.as_bytes.ensures.valid is_value c.args.self.now.valid in
+    let is_value : IsValue c.args.value = c.reveal_pair.ensures.value in
+    let put = IsPairs-put c.args.key c.args.value c.args.self.now.pairs.items c.reveal_pair.ensures.key is_value c.args.self.now.valid in
     let changed = rw c.deref.ensures.value at (c.in-Ok.ensures.put c.args.value) in
     record {
       valid = subst IsPairs changed put;
@@ -21,8 +21,8 @@ invariant_of-self c =
 -- the key is a new one, and memory ran out or its pair was added
 pub invariant_of-self-in-Err : goal.invariant_of-self-in-Err
 invariant_of-self-in-Err c =
-    let is_value : IsValue c.args.value = (c.as_slice.ensures.some, c.as_slice.ensures.fits, c.as_slice.ensures.bytes) in
-    let put = IsPairs-put c.args.key c.args.value c.args.self.now.pairs.items c.as_bytes.ensures.valid is_value c.args.self.now.valid in
+    let is_value : IsValue c.args.value = c.reveal_pair.ensures.value in
+    let put = IsPairs-put c.args.key c.args.value c.args.self.now.pairs.items c.reveal_pair.ensures.key is_value c.args.self.now.valid in
     let changed = rw c.deref.ensures.value at (c.in-Err.ensures.put c.args.value) in
     let within = rw c.deref.ensures.value at c.in-Err.ensures.within in
     let longer = length-insert c.args.self.now.pairs.items c.in-Err.at (c.args.key, c.args.value) within in

@@ -20,8 +20,8 @@ invariant_of-self-2 g c =
     let room = subst (λ (v : ListState g.row.P.Denot g.row.W.Denot). IsHeld (drawn v.draw) v.is_whole (state v.pages) → length (pairs_of_map (state v.pages).pages) < most_pairs) (sym c.self.view_is) c.requires in
     let held = c.self.invariant.whole c.if-not-self.false in
     record {
-      whole = λ w. whole_behind_put (drawn s.draw) (state s.pages) (state c.put_pair.new.pages) c.args.key s.is_whole c.if-not-self.false held tt c.args.value c.put_pair.new.known c.as_bytes.ensures.valid (c.as_slice.ensures.some, c.as_slice.ensures.fits, c.as_slice.ensures.bytes) room c.in_ok-put_pair.ensures.call;
-      place = λ w. known_behind_put (drawn s.draw) (state s.pages) (state c.put_pair.new.pages) c.args.key s.is_whole c.if-not-self.false held tt c.args.value c.put_pair.new.known c.as_bytes.ensures.valid (c.as_slice.ensures.some, c.as_slice.ensures.fits, c.as_slice.ensures.bytes) room c.in_ok-put_pair.ensures.call;
+      whole = λ w. whole_behind_put (drawn s.draw) (state s.pages) (state c.put_pair.new.pages) c.args.key s.is_whole c.if-not-self.false held tt c.args.value c.put_pair.new.self.known c.reveal_pair.ensures.key c.reveal_pair.ensures.value room c.in_ok-put_pair.ensures.call;
+      place = λ w. known_behind_put (drawn s.draw) (state s.pages) (state c.put_pair.new.pages) c.args.key s.is_whole c.if-not-self.false held tt c.args.value c.put_pair.new.self.known c.reveal_pair.ensures.key c.reveal_pair.ensures.value room c.in_ok-put_pair.ensures.call;
     }
 
 pub returns-clause-call : goal.returns-clause-call
@@ -33,4 +33,4 @@ returns-clause-call g c =
     let room = subst (λ (v : ListState g.row.P.Denot g.row.W.Denot). IsHeld (drawn v.draw) v.is_whole (state v.pages) → length (pairs_of_map (state v.pages).pages) < most_pairs) (sym c.self.view_is) c.requires in
     let held = c.self.invariant.whole c.if-not-self.false in
     subst (λ (v : ListState g.row.P.Denot g.row.W.Denot). IsPairPut (list_over (drawn v.draw) v.is_whole (state v.pages)) (list_over (drawn s.draw) true (state new)) c.args.key c.args.value (Ok tt)) c.self.view_is
-    (list_put (drawn s.draw) (state s.pages) (state new) c.args.key s.is_whole c.if-not-self.false held tt c.args.value c.put_pair.new.known c.as_bytes.ensures.valid (c.as_slice.ensures.some, c.as_slice.ensures.fits, c.as_slice.ensures.bytes) room c.in_ok-put_pair.ensures.call)
+    (list_put (drawn s.draw) (state s.pages) (state new) c.args.key s.is_whole c.if-not-self.false held tt c.args.value c.put_pair.new.self.known c.reveal_pair.ensures.key c.reveal_pair.ensures.value room c.in_ok-put_pair.ensures.call)
