@@ -9,8 +9,7 @@ use Rattle.store_base.specs.SlotsState.{SlotsState, IsObservable}
 use Rattle.store_base.proofs.SlotsCalls.{AreSlotCalls-none}
 use Rattle.table_memory.specs.Memos.{Remembered, IsRemembered, IsKnownPage, IsMemoOf, RemembersMore}
 use Rattle.table_memory.specs.Staging.{StagedPages}
-use Rattle.page_store.specs.Lookups.{Reads, ReadsChanged}
-use Rattle.page_store.proofs.LookupLemmas.{staged_read, settled_read}
+use Rattle.page_store.proofs.LookupLemmas.{Reads, ReadsChanged, staged_read, settled_read}
 
 -- what is remembered of a label needs no read
 pub recalled : (d : Draw) (slots : SlotsState) (memo : Remembered) (l : Label) (page : Option Page) → IsMemoOf d slots memo → IsRemembered memo l page → Reads d slots slots l (Ok page)

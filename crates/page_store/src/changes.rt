@@ -5,7 +5,7 @@ ghost use Rattle.std.specs.BTreeMap.{insert_entry};
 ghost use Rattle.store_model.specs.Labels.{label_bytes, label_cmp};
 ghost use Rattle.store_model.specs.Pages as model;
 ghost use Rattle.node_pages.specs.Insertions.{TakesCell};
-ghost use Rattle.table_memory.specs.Memos.{Remembered, memo_place, staged_at, IsKnownPage};
+ghost use Rattle.table_memory.specs.Memos.{Remembered, memo_place, staged_at, IsKnownPage, Renews};
 ghost use Rattle.page_store.specs.Stagings.{InsertsCell, StagesCell};
 
 use node_pages::{Cell, Page};
@@ -59,6 +59,15 @@ impl Changes {
         ensures { self.new.pages.entries ≡ [] }
     {
         empty(&mut self.pages);
+    }
+
+    /// Hands all changes to the memo, which remembers what they have under their labels, where there is memory for it. No
+    /// change is left.
+    pub fn hand_to(&mut self, memo: &mut PageMemo)
+        ensures renews { Renews self.old.pages.entries memo.old memo.new }
+        ensures emptied { self.new.pages.entries ≡ [] }
+    {
+        memo.renew(&mut self.pages, &mut self.spares);
     }
 
     /// Keeps a change under its label, in the place of the one that was kept. After want of memory the changes are as they

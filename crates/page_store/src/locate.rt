@@ -8,7 +8,7 @@ use seeded_draw::Draw;
 use std::marker::Brand;
 use std::sync::ledger::{Blank, Ledger};
 use store_base::{Fault, Label};
-use table_memory::Hints;
+use table_memory::Finder;
 
 /// As `locate`, from the start of the label, with a ledger for the steps.
 fn locate_counted<S: OrderSlots, W: Draw, L: Ledger>(
@@ -32,19 +32,18 @@ fn locate_counted<S: OrderSlots, W: Draw, L: Ledger>(
 /// The slot where the page of the label was found last, if it holds the page still; `None` tells nothing.
 fn locate_again<S: OrderSlots, W: Draw>(
     slots: &mut S,
-    draw: &W,
-    hints: &Hints,
+    finder: &Finder<W>,
     label: &Label,
 ) -> Result<Option<u32>, Fault>
-    requires { (S.state slots.old).count ≡ (W.drawn draw.now).slots }
-    ensures call { LocatesAgain (W.drawn draw.now) (S.state slots.old) (S.state slots.new) label.now result }
+    requires { (S.state slots.old).count ≡ (W.drawn finder.now.draw).slots }
+    ensures call { LocatesAgain (W.drawn finder.now.draw) (S.state slots.old) (S.state slots.new) label.now result }
     ensures follows { S.follows slots.old slots.new }
 {
-    let at = hints.slot(label);
-    if at >= draw.slots() {
+    let at = finder.hint(label);
+    if at >= finder.draw.slots() {
         return Ok(None);
     }
-    if holds(slots, draw, at, label)? {
+    if holds(slots, &finder.draw, at, label)? {
         return Ok(Some(at));
     }
     Ok(None)
@@ -54,21 +53,19 @@ fn locate_again<S: OrderSlots, W: Draw>(
 /// where it is not the one where the page was found last.
 pub fn locate<S: OrderSlots, W: Draw>(
     slots: &mut S,
-    draw: &W,
-    hints: &mut Hints,
+    finder: &mut Finder<W>,
     label: &Label,
 ) -> Result<Option<u32>, Fault>
-    requires { (S.state slots.old).count ≡ (W.drawn draw.now).slots }
-    ensures call { Locates (W.drawn draw.now) (S.state slots.old) (S.state slots.new) label.now result }
+    requires { (S.state slots.old).count ≡ (W.drawn finder.old.draw).slots }
+    ensures call { Locates (W.drawn finder.old.draw) (S.state slots.old) (S.state slots.new) label.now result }
     ensures follows { S.follows slots.old slots.new }
+    ensures draw { finder.new.draw ≡ finder.old.draw }
 {
-    if let Some(at) = locate_again(slots, draw, hints, label)? {
+    if let Some(at) = locate_again(slots, finder, label)? {
         return Ok(Some(at));
     }
-    let start = draw.start(label);
-    let found = locate_counted::<S, W, Brand>(slots, draw, start, label, Blank::new(1))?;
-    if let Some(at) = found {
-        hints.keep(label, at);
-    }
+    let start = finder.start(label);
+    let found = locate_counted::<S, W, Brand>(slots, &finder.draw, start, label, Blank::new(1))?;
+    finder.keep(label, found);
     Ok(found)
 }

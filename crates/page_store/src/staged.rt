@@ -28,7 +28,7 @@ use seeded_draw::Draw;
 use std::alloc::Global;
 use std::marker::Model;
 use store_base::{DiskFault, Fault, Label, Params};
-use table_memory::{Boxed, Hints, PageMemo, SlotCache, behind, empty, memo_place};
+use table_memory::{Boxed, Finder, PageMemo, SlotCache, behind, empty, memo_place};
 
 /// The pages in the table of an image, with changes that are not settled yet. Contracts see it as one record: the map
 /// of the pages now, that of the pages in the table, the disk, and whether the value is spent.
@@ -36,7 +36,7 @@ use table_memory::{Boxed, Hints, PageMemo, SlotCache, behind, empty, memo_place}
 /// An observable disk under a value that is not spent reads the layout of the table's pages, and nothing is pending.
 #[derive(Drop)]
 pub struct Staged<D: Disk, W: Draw> {
-    lookup: Lookup<Overlay<D>, W>,
+    lookup: Lookup<D, W>,
     changes: Changes,
     /// How many pages there are now, and how many of them the table has.
     used: u32,
@@ -53,9 +53,9 @@ impl<D: Disk, W: Draw> Model for Staged<D, W> {
 
     ghost coded = { staged_code D.code W.code };
 
-    ghost view = { λ s. staged_state D.state s.lookup.slots.params s.lookup.draw s.lookup.slots.disk s.changes.pages.entries s.lookups s.is_spent };
+    ghost view = { λ s. staged_state D.state s.lookup.overlay.params s.lookup.finder.draw s.lookup.overlay.disk s.changes.pages.entries s.lookups s.is_spent };
 
-    ghost invariant = { λ s. IsStaged (W.drawn s.lookup.draw) s.lookup.slots.params (D.state s.lookup.slots.disk) s.lookup.slots.touched.entries s.changes.pages.entries s.used s.settled s.is_spent };
+    ghost invariant = { λ s. IsStaged (W.drawn s.lookup.finder.draw) s.lookup.overlay.params (D.state s.lookup.overlay.disk) s.lookup.overlay.touched.entries s.changes.pages.entries s.used s.settled s.is_spent };
 }
 
 /// How many pages there are, of so many, once one label was given a page or lost it. A count that would come to 2^32
@@ -108,9 +108,8 @@ impl<D: Disk, W: Draw> Staged<D, W> {
     {
         Staged {
             lookup: Lookup {
-                slots: Overlay::new(alloc, disk, params, cache),
-                draw,
-                hints: Hints::new(alloc),
+                overlay: Overlay::new(alloc, disk, params, cache),
+                finder: Finder::new(alloc, draw),
                 memo: PageMemo::new(alloc),
             },
             changes: Changes::new(alloc),
@@ -139,7 +138,7 @@ impl<D: Disk, W: Draw> Staged<D, W> {
     pub fn disk(&self) -> &D
         ensures { result.now ≡ self.now.disk }
     {
-        &self.lookup.slots.disk
+        &self.lookup.overlay.disk
     }
 
     /// Gives the disk back. It takes no memory.
@@ -157,12 +156,11 @@ impl<D: Disk, W: Draw> Staged<D, W> {
             is_spent: _,
         } = self;
         let Lookup {
-            slots,
-            draw: _,
-            hints: _,
+            overlay,
+            finder: _,
             memo: _,
         } = lookup;
-        slots.into_disk()
+        overlay.into_disk()
     }
 
     /// Takes all changes back: the pages are those of the table. It takes no memory.
@@ -183,7 +181,7 @@ impl<D: Disk, W: Draw> Staged<D, W> {
         ensures runs { self.new.is_spent ≡ self.old.is_spent }
         ensures follows { Follows D.state self.old self.new }
     {
-        Journal::digest(&mut self.lookup.slots.disk)
+        Journal::digest(&mut self.lookup.overlay.disk)
     }
 
     /// The page under the label, whose place in the memo this is, as far as it is known; what is not known was left out
@@ -228,7 +226,7 @@ impl<D: Disk, W: Draw> Staged<D, W> {
         requires { self.old.is_spent ≡ false }
         ensures call { Settles D.state W.drawn self.old self.new result }
     {
-        let params = self.lookup.slots.params;
+        let params = self.lookup.overlay.params;
         let slots = params.slots();
         if self.used > slots {
             return Err(SettleFault::Full {
@@ -236,16 +234,15 @@ impl<D: Disk, W: Draw> Staged<D, W> {
                 slots,
             });
         }
-        let found = find_slots(
-            &mut self.lookup.slots,
-            &self.lookup.draw,
-            &mut self.lookup.hints,
-            &self.changes,
-        );
+        let Lookup {
+            overlay,
+            finder,
+            memo,
+        } = &mut self.lookup;
+        let found = find_slots(overlay, finder, &self.changes);
         // Whatever was found, the slots are the disk's again.
-        empty(&mut self.lookup.slots.touched);
+        empty(&mut overlay.touched);
         let changed = found?;
-        let overlay = &mut self.lookup.slots;
         let spares = &mut overlay.spares;
         match commit_slots(
             &mut overlay.disk,
@@ -255,16 +252,13 @@ impl<D: Disk, W: Draw> Staged<D, W> {
             spares,
         ) {
             Ok(()) => {
-                let changes = &mut self.changes;
-                self.lookup
-                    .memo
-                    .renew(&mut changes.pages, &mut changes.spares);
+                self.changes.hand_to(memo);
                 self.settled = self.used;
                 Ok(())
             }
             // It came at a write or behind one, so the disk may have the old pages or the new ones.
             Err(_) => {
-                self.lookup.memo.clear();
+                memo.clear();
                 self.is_spent = true;
                 Err(SettleFault::Disk)
             }

@@ -3,6 +3,7 @@ pub mod ChangeLemmas
 pub mod MapLemmas
 pub mod MemoLemmas
 pub mod SpelledLemmas
+pub mod StartLemmas
 pub mod TouchedLemmas
 pub mod DifferLemmas
 pub mod ScanLemmas

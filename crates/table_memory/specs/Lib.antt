@@ -4,5 +4,6 @@ pub mod Memos
 pub mod OverlayState
 pub mod Spelled
 pub mod Staging
+pub mod Starts
 pub mod Comparing
 pub mod Differences

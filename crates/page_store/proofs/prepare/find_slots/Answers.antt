@@ -4,14 +4,14 @@ use Rattle.table_memory.specs.Caches.{IsSlotCacheOf}
 use Rattle.table_memory.specs.OverlayState.{touched_at}
 use Rattle.table_memory.specs.Comparing.{FindsChanges}
 use Rattle.page_store.proofs.FindLemmas.{slots_found}
-use Rattle.page_store.proofs.compare.find_slots.Goals as goal
+use Rattle.page_store.proofs.prepare.find_slots.Goals as goal
 
 pub returns-clause-call : goal.returns-clause-call
 returns-clause-call g c =
     let state = g.D.Disk.state in
     let before = c.args.overlay.now in
     let after = c.lay_changes.new.slots in
-    slots_found (g.W.Draw.drawn c.args.draw.now) before.params after.params before.touched.entries after.touched.entries c.args.changes.now.entries (state before.disk) (state after.disk) (state c.find_changes.new.disk) c.in_ok-lay_changes.field-0 c.requires.count
+    slots_found (g.W.Draw.drawn c.args.finder.now.draw) before.params after.params before.touched.entries after.touched.entries c.args.changes.now.pages.entries (state before.disk) (state after.disk) (state c.find_changes.new.disk) c.in_ok-lay_changes.field-0 c.requires
     c.in_ok-lay_changes.ensures.call c.in_ok-lay_changes.ensures.follows c.find_changes.new.cache c.find_changes.result
     (subst (λ (n : ℕ). FindsChanges n after.touched.entries (state after.disk) (state c.find_changes.new.disk) c.find_changes.new.cache c.find_changes.result) c.slots.ensures.value
     c.find_changes.ensures.call)

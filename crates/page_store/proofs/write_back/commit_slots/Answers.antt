@@ -1,7 +1,7 @@
 use Rattle.std.proofs.Common.{◌∙◌}
 use Rattle.table_memory.specs.Caches.{changes_of}
 use Rattle.table_memory.proofs.CacheLemmas.{cache_committed, cache_empty}
-use Rattle.page_store.proofs.commit.commit_slots.Goals as goal
+use Rattle.page_store.proofs.write_back.commit_slots.Goals as goal
 
 pub returns-in-Ok : goal.returns-in-Ok
 returns-in-Ok g c =
