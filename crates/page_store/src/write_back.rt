@@ -11,8 +11,7 @@ ghost use Rattle.page_store.specs.Committing.{CommitsSlots};
 use disk_model::Disk;
 use gate_journal::Journal;
 use store_base::{DiskFault, Params};
-use store_model::Slot;
-use table_memory::{ChangedSlots, SlotCache, Spares};
+use table_memory::{ChangedSlots, SlotCache};
 
 /// Commits the changed slots of the table of a disk of these parameters, and gives those that are kept their new bytes.
 /// After `DiskFault` the disk may have the old slots or the new ones, and none is kept.
@@ -21,7 +20,6 @@ pub fn commit_slots<D: Disk>(
     cache: &mut SlotCache,
     params: &Params,
     changed: ChangedSlots,
-    spares: &mut Spares<Slot>,
 ) -> Result<(), DiskFault>
     requires size { (D.state disk.old).size ≡ image_len params.now.slots }
     requires changes { AreChanges params.now.slots (changes_of changed.slots.items) }
@@ -32,7 +30,7 @@ pub fn commit_slots<D: Disk>(
 {
     match Journal::commit(disk, params, &changed) {
         Ok(()) => {
-            cache.rewrite_all(changed.slots, spares);
+            cache.rewrite_all(changed.slots);
             Ok(())
         }
         Err(fault) => {
