@@ -76,7 +76,8 @@ impl Changes {
         ensures ok { OnOk result (self.new.pages.entries ≡ insert_entry label_cmp self.old.pages.entries label change) }
         ensures err { OnErr result (self.new.pages.entries ≡ self.old.pages.entries) }
     {
-        self.spares.take(self.pages.insert(label, change)?.flatten());
+        self.spares
+            .take(self.pages.insert(label, change)?.flatten());
         Ok(())
     }
 

@@ -150,11 +150,7 @@ impl PageMemo {
     /// Takes over what is staged: under each label of a change what is there behind it, where there is memory for it.
     /// Under each other label nothing more is remembered than was. Pages that gave place are spared.
     // The changes are taken one by one, since so their map keeps its memory.
-    pub fn renew(
-        &mut self,
-        changes: &mut BTreeMap<Label, Option<Boxed<Page>>>,
-        spares: &mut Spares,
-    )
+    pub fn renew(&mut self, changes: &mut BTreeMap<Label, Option<Boxed<Page>>>, spares: &mut Spares)
         ensures renews { Renews changes.old.entries self.old self.new }
         ensures emptied { changes.new.entries ≡ [] }
     {
