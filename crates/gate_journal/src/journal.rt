@@ -12,12 +12,12 @@ ghost use Rattle.sha2.specs.Sha256.{sha256};
 ghost use Rattle.gate_journal.specs.Wipes.{Wipes, block_count};
 ghost use Rattle.gate_journal.specs.Formats.{IsEmptyOrNone, Formats, faults_after_format};
 
-use crate::cache::JournalCache;
 use crate::changes::SlotChanges;
 use crate::commit::commit_changes;
 use crate::digest::digest_disk;
 use crate::fault::JournalFault;
 use crate::format::{is_image, write_image};
+use crate::journal_cache::JournalCache;
 use crate::recover::recover_durable;
 use crate::view::read_recovered;
 use crate::wipe::overwrite_disk;
@@ -152,6 +152,7 @@ impl Journal {
     {
         read_recovered(disk, &mut JournalCache::new(), params.slots(), at, into)
     }
+
     /// Fills the disk with zeros, however long it is, and the first byte before all others.
     ///
     /// What the disk reads is then as it was with any first byte, or begins with zero, after `DiskFault` too. If

@@ -10,7 +10,6 @@
 //! nothing to it. No call takes memory. Its name is that of the block with the commit flag, the gate block.
 #![tactic(auto)]
 
-mod cache;
 mod changes;
 mod commit;
 mod digest;
@@ -18,6 +17,7 @@ mod entry;
 mod fault;
 mod format;
 mod journal;
+mod journal_cache;
 mod recover;
 mod redo;
 mod view;

@@ -64,8 +64,8 @@ impl Ord for Ranked<'_> {
     }
 }
 
-/// Says what the types of a key and of a value know, that the two are a pair. It costs nothing: a proof has it only from
-/// calls that promise it, and none of the bytes is read.
+/// Says what the types of a key and of a value know, that the two are a pair. It costs nothing: a proof has it only
+/// from calls that promise it, and none of the bytes is read.
 fn reveal(pair: &(Key, Value))
     ensures { IsPair pair.now }
 {

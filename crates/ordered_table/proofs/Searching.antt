@@ -27,7 +27,7 @@ use Rattle.store_model.proofs.PageMapsLemmas.{IsOrderedTable-page_map, pages_of_
 use Rattle.store_base.specs.declared.store_fault.Fault.{Fault}
 use Rattle.store_base.specs.SlotsState.{SlotsState, IsObservable, AreSlotCalls}
 use Rattle.store_base.proofs.SlotsCalls.{AreSlotCalls-none, AreSlotCalls-then, AreSlotCalls-value, AreSlotCalls-fault, IsObservable-later}
-use Rattle.ordered_table.specs.Tables.{is_passed, looks, TellsOrder, Orders, IsSlotWith, Finds, Looks}
+use Rattle.ordered_table.specs.Tables.{is_passed, looks, TellsOrder, Orders, IsSlotWith, Finds}
 use Rattle.ordered_table.proofs.Reading.{probe_first, probe_next, probe_within, stands_in, seen_page}
 
 -- ---- how many slots a search looks at

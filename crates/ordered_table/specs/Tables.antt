@@ -1,5 +1,5 @@
 -- What the calls on an ordered table answer, and what they leave.
-use Rattle.std.specs.Prelude.{◌≡◌, ◌↔◌, ℕ, ◌+◌, ◌<◌, ◌≤◌, min, List, Bool, false, IsTrue, Option, None, Some, Result, IsNone, IfSome, IfOk, OnOk, slice_get}
+use Rattle.std.specs.Prelude.{◌≡◌, ◌↔◌, ℕ, ◌+◌, ◌<◌, ◌≤◌, min, List, Bool, false, Option, None, Some, Result, IsNone, IfSome, IfOk, OnOk, slice_get}
 use Rattle.std.specs.List.{prefix_len}
 use Rattle.std.specs.declared.cmp.Ordering.{Ordering}
 use Rattle.std.specs.Ordering.{nat_cmp, is_lt}

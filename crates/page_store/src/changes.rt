@@ -23,8 +23,8 @@ pub struct Changes {
     pub spares: Spares,
 }
 
-/// Inserts a cell into the page that a change is, where it lies, and answers whether it did. A change that does not take it
-/// is as it was. It takes no memory.
+/// Inserts a cell into the page that a change is, where it lies, and answers whether it did. A change that does not
+/// take it is as it was. It takes no memory.
 fn insert_into(change: &mut Option<Boxed<Page>>, at: u32, cell: &Cell) -> bool
     ensures done { result ≡ true → InsertsCell change.old change.new at cell.now }
     ensures kept { result ≡ false → change.new ≡ change.old }
@@ -61,8 +61,8 @@ impl Changes {
         empty(&mut self.pages);
     }
 
-    /// Hands all changes to the memo, which remembers what they have under their labels, where there is memory for it. No
-    /// change is left.
+    /// Hands all changes to the memo, which remembers what they have under their labels, where there is memory for it.
+    /// No change is left.
     pub fn hand_to(&mut self, memo: &mut PageMemo)
         ensures renews { Renews self.old.pages.entries memo.old memo.new }
         ensures emptied { self.new.pages.entries ≡ [] }
@@ -70,8 +70,8 @@ impl Changes {
         memo.renew(&mut self.pages, &mut self.spares);
     }
 
-    /// Keeps a change under its label, in the place of the one that was kept. After want of memory the changes are as they
-    /// were.
+    /// Keeps a change under its label, in the place of the one that was kept. After want of memory the changes are as
+    /// they were.
     pub fn keep(&mut self, label: Label, change: Option<Boxed<Page>>) -> Result<(), NoMemory>
         ensures ok { OnOk result (self.new.pages.entries ≡ insert_entry label_cmp self.old.pages.entries label change) }
         ensures err { OnErr result (self.new.pages.entries ≡ self.old.pages.entries) }
@@ -81,8 +81,8 @@ impl Changes {
         Ok(())
     }
 
-    /// What is known of the label, whose place in the memo this is, by the changes, or else by the memo: a page, or that
-    /// there is none. It takes no memory.
+    /// What is known of the label, whose place in the memo this is, by the changes, or else by the memo: a page, or
+    /// that there is none. It takes no memory.
     pub fn known<'a>(
         &'a self,
         memo: &'a PageMemo,
@@ -113,8 +113,8 @@ impl Changes {
         }
     }
 
-    /// Inserts a cell into a copy of the page that is remembered of the label, under which nothing is staged, and stages it.
-    /// After want of memory the changes are as they were.
+    /// Inserts a cell into a copy of the page that is remembered of the label, under which nothing is staged, and
+    /// stages it. After want of memory the changes are as they were.
     fn insert_remembered(
         &mut self,
         memo: &PageMemo,
@@ -137,8 +137,8 @@ impl Changes {
         self.keep(*label, Some(kept))
     }
 
-    /// Inserts a cell into the page that is known of the label, and stages it: where it lies, if it is staged, which takes
-    /// no memory. After want of memory the changes are as they were.
+    /// Inserts a cell into the page that is known of the label, and stages it: where it lies, if it is staged, which
+    /// takes no memory. After want of memory the changes are as they were.
     pub fn insert_cell(
         &mut self,
         memo: &PageMemo,

@@ -31,8 +31,8 @@ pub struct Lookup<D: Disk, W: Draw> {
 }
 
 impl<D: Disk, W: Draw> Lookup<D, W> {
-    /// Remembers the page in slot `at`, which was found under the label, where there is memory for it. A slot that holds no
-    /// page, as only slots that are not observable may, is as one that was not found.
+    /// Remembers the page in slot `at`, which was found under the label, where there is memory for it. A slot that
+    /// holds no page, as only slots that are not observable may, is as one that was not found.
     // It stands apart from `learn`, each call of which would clear its page.
     #[inline(never)]
     fn remember_at(&mut self, at: u32, label: &Label) -> Result<(), Fault>
@@ -47,8 +47,8 @@ impl<D: Disk, W: Draw> Lookup<D, W> {
         Ok(())
     }
 
-    /// Reads and remembers the page of the label, whose place in the memo this is, unless it is known by the changes or by
-    /// the memo. It is not remembered where there is no memory for it.
+    /// Reads and remembers the page of the label, whose place in the memo this is, unless it is known by the changes or
+    /// by the memo. It is not remembered where there is no memory for it.
     pub fn learn(&mut self, changes: &Changes, place: usize, label: &Label) -> Result<(), Fault>
         requires { place ≡ memo_place (label_bytes label.now) }
         ensures call { Consults (slots_of D.state self.old.overlay) (slots_of D.state self.new.overlay) result }

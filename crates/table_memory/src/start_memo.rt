@@ -10,9 +10,9 @@ use store_base::Label;
 /// How many starts are kept: those of the pages that one command looks for, or adds.
 const STARTS: usize = 8;
 
-/// A draw, with the starts that it drew last, each with its label: a page that is new is looked for when it is staged, and
-/// once more when it is laid. What was digested last of a label's front is kept too, since the labels of a group begin
-/// alike.
+/// A draw, with the starts that it drew last, each with its label: a page that is new is looked for when it is staged,
+/// and once more when it is laid. What was digested last of a label's front is kept too, since the labels of a group
+/// begin alike.
 #[derive(Drop)]
 pub struct StartMemo<W: Draw> {
     /// The draw.

@@ -2,7 +2,7 @@ use Rattle.std.proofs.Common.{◌≡◌, ℕ, ◌+◌, ◌-◌, ◌%◌, ◌==�
 use Rattle.store_model.specs.Parameters.{mark_at}
 use Rattle.store_model.specs.Images.{bytes_at, is_marked}
 use Rattle.gate_journal.proofs.Calls.{observable_after}
-use Rattle.gate_journal.proofs.cache.JournalCache.is_marked.Goals as goal
+use Rattle.gate_journal.proofs.journal_cache.JournalCache.is_marked.Goals as goal
 
 -- a mark in the block that was read
 mark_in : (image marks : List ℕ) (slot behind : ℕ) → behind ≤ slot → behind < 4096 → marks ≡ bytes_at image (mark_at (slot - behind)) 4096 → not (slice_index marks behind == 0) ≡ is_marked image slot

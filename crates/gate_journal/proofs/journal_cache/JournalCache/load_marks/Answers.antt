@@ -5,7 +5,7 @@ use Rattle.store_model.specs.Images.{bytes_at, is_flag_set}
 use Rattle.gate_journal.proofs.Areas.{marks_end, shadow_end, table_end}
 use Rattle.gate_journal.proofs.Reading.{ReadsOnly-read}
 use Rattle.gate_journal.proofs.Caches.{ReadsJournal-none, ReadsJournal-call, ReadsJournal-fault}
-use Rattle.gate_journal.proofs.cache.JournalCache.load_marks.Goals as goal
+use Rattle.gate_journal.proofs.journal_cache.JournalCache.load_marks.Goals as goal
 
 pub read_at-requires : goal.read_at-requires
 read_at-requires g c = omega (arith, c.mark_at.ensures, c.requires.below, c.requires.size, table_end c.args.slots, shadow_end c.args.slots, marks_end c.args.slots)

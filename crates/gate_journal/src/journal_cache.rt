@@ -1,4 +1,5 @@
 //! What was read of the journal of a disk, so that the slots that it recovers to are told without reading it again.
+
 ghost use Rattle.std.specs.Prelude.{◌≡◌, ◌≤◌, ◌&&◌, None, Some, OnOk, IfOk};
 ghost use Rattle.store_model.specs.Images.{is_flag_set, is_marked};
 ghost use Rattle.disk_model.specs.DiskState.{DiskState, IsObservable};
