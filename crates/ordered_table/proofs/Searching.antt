@@ -27,7 +27,7 @@ use Rattle.store_model.proofs.PageMapsLemmas.{IsOrderedTable-page_map, pages_of_
 use Rattle.store_base.specs.declared.store_fault.Fault.{Fault}
 use Rattle.store_base.specs.SlotsState.{SlotsState, IsObservable, AreSlotCalls}
 use Rattle.store_base.proofs.SlotsCalls.{AreSlotCalls-none, AreSlotCalls-then, AreSlotCalls-value, AreSlotCalls-fault, IsObservable-later}
-use Rattle.ordered_table.specs.Tables.{is_passed, looks, TellsOrder, Orders, IsSlotWith, Finds}
+use Rattle.ordered_table.specs.Tables.{is_passed, looks, TellsOrder, Orders, IsSlotWith, Finds, Looks}
 use Rattle.ordered_table.proofs.Reading.{probe_first, probe_next, probe_within, stands_in, seen_page}
 
 -- ---- how many slots a search looks at
@@ -356,3 +356,63 @@ finds_none d old now l look at before after law count all most s label counted =
         limit = omega (arith, exact);
       };
 }
+
+-- ---- a look into one slot
+
+-- what is told of the slot
+pub record LooksInto (d : Draw) (old new : SlotsState) (at : ℕ) (l : Label) (order : Option Ordering) : Type 0 where
+  law : IsLawful d
+  within : at < d.slots
+  orders : Orders old new at (label_bytes l) (Ok order)
+
+pub looks_into : (d : Draw) (old new : SlotsState) (at : ℕ) (l : Label) (wanted : List ℕ) (order : Option Ordering) → IsLawful d → old.count ≡ d.slots → at < old.count → Orders old new at wanted (Ok order) → wanted ≡ label_bytes l → LooksInto d old new at l order
+looks_into d old new at l wanted order law count below orders same =
+    record { law = law; within = omega (arith, count, below); orders = subst (λ (bytes : List ℕ). Orders old new at bytes (Ok order)) same orders }
+
+-- the page of the label stands in a slot of which just this is told
+stands_there : (d : Draw) (old new : SlotsState) (at : ℕ) (l : Label) (order : Option Ordering) → LooksInto d old new at l order → (m : PageMap) → IsObservable old → HoldsPages d old.slots m
+    → (order ≡ Some Equal) ↔ IsSlotWith old.slots m l at
+stands_there d old new at l order s m observable holds = (there, back)
+  where
+    table : Table
+    table = place d (pages_of_map m)
+
+    is : IsTableOf d old.slots m table
+    is = held_table d old.slots m s.law holds
+
+    what : (what : Option Page) × (slice_get table at ≡ Some what) × (slice_get old.slots at ≡ Some (slot_bytes what))
+    what = let within = s.within in stands_in table old.slots at is.slots_are (omega (arith, within, is.ordered.slots))
+
+    there : order ≡ Some Equal → IsSlotWith old.slots m l at
+    there same =
+        let order_is = told l what.0 order (λ page e. seen_page d table at what.0 page is.ordered what.1 e) (s.orders.told (slot_bytes what.0) observable what.2) in
+        let p = same_label_there l what.0 (sym order_is ∙ same) in
+        record {
+          page = p.0;
+          in_map = ap (maps.get m) (sym (tied_label_bytes p.0.label l p.2)) ∙ standing_found d old.slots m table at p.0 s.law is (what.1 ∙ ap Some p.1);
+          in_slot = what.2 ∙ ap (λ (o : Option Page). Some (slot_bytes o)) p.1;
+        }
+
+    back : IsSlotWith old.slots m l at → order ≡ Some Equal
+    back slot =
+        let under = holds.pages (label_bytes l) slot.page slot.in_map in
+        let tied : label_cmp slot.page.label l ≡ Equal = ap (λ (b : List ℕ). slice_cmp nat_cmp b (label_bytes l)) (sym under.under) ∙ tied_itself nat_list_cmp_total (label_bytes l) in
+        (s.orders.told (slot_bytes (Some slot.page)) observable slot.in_slot).page slot.page under.valid refl ∙ ap Some tied
+
+-- the answer
+pub looks_told : (d : Draw) (old new : SlotsState) (at : ℕ) (l : Label) (order : Option Ordering) (is_there : Bool) → LooksInto d old new at l order → (is_there ≡ true → order ≡ Some Equal) → (order ≡ Some Equal → is_there ≡ true)
+    → Looks d old new at l (Ok is_there)
+looks_told d old new at l order is_there s says equal = record {
+  calls = AreSlotCalls-value old new order is_there s.orders.calls;
+  reads = s.orders.reads;
+  there = λ m observable holds. let both = stands_there d old new at l order s m observable holds in (λ e. both.0 (says e), λ slot. equal (both.1 slot));
+}
+
+-- a fault of the slots
+pub looks_fail : (d : Draw) (old new : SlotsState) (at : ℕ) (l : Label) (wanted : List ℕ) (fault : Fault) → Orders old new at wanted (Err fault) → Looks d old new at l (Err fault)
+looks_fail d old new at l wanted fault orders = record { calls = AreSlotCalls-fault old new fault orders.calls; reads = orders.reads; there = λ m observable holds. tt }
+
+pub is_equal : (o : Ordering) → is_eq o ≡ true → o ≡ Equal
+is_equal Less e = cc
+is_equal Equal e = refl
+is_equal Greater e = cc

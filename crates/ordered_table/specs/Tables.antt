@@ -1,5 +1,5 @@
 -- What the calls on an ordered table answer, and what they leave.
-use Rattle.std.specs.Prelude.{◌≡◌, ◌↔◌, ℕ, ◌+◌, ◌<◌, ◌≤◌, min, List, Bool, false, Option, None, Some, Result, IsNone, IfSome, IfOk, OnOk, slice_get}
+use Rattle.std.specs.Prelude.{◌≡◌, ◌↔◌, ℕ, ◌+◌, ◌<◌, ◌≤◌, min, List, Bool, false, IsTrue, Option, None, Some, Result, IsNone, IfSome, IfOk, OnOk, slice_get}
 use Rattle.std.specs.List.{prefix_len}
 use Rattle.std.specs.declared.cmp.Ordering.{Ordering}
 use Rattle.std.specs.Ordering.{nat_cmp, is_lt}
@@ -66,6 +66,12 @@ pub record Finds (d : Draw) (old new : SlotsState) (l : Label) (before after : �
   pub within : IfOk result (λ found. IfSome found (λ at. at < old.count))
   pub most : after ≤ before + old.count
   pub found : (m : PageMap) → IsObservable old → HoldsPages d old.slots m → IsFound d old.slots m l before after result
+
+-- what a look into one slot for the page of a label does: it tells whether the page is there
+pub record Looks (d : Draw) (old new : SlotsState) (at : ℕ) (l : Label) (result : Result Bool Fault) : Type 0 where
+  pub calls : AreSlotCalls old new result
+  pub reads : IsObservable old → new.slots ≡ old.slots
+  pub there : (m : PageMap) → IsObservable old → HoldsPages d old.slots m → IfOk result (λ is_there. IsTrue is_there ↔ IsSlotWith old.slots m l at)
 
 -- what an insertion does
 pub record Inserts {T : Type 0} (d : Draw) (old new : SlotsState) (page : Page) (result : Result T Fault) : Type 0 where

@@ -20,5 +20,5 @@ pub use change::{insert, insert_from, overwrite};
 pub use mem_slots::MemSlots;
 pub use order::{OrderSlots, order_of};
 pub use round::next_slot;
-pub use search::{find, find_from};
+pub use search::{find, find_from, holds};
 pub use steps::Steps;

@@ -1,7 +1,7 @@
 //! Search.
 
 ghost use Rattle.std.specs.Prelude.{◌≡◌, ◌<◌};
-ghost use Rattle.ordered_table.specs.Tables.{Finds};
+ghost use Rattle.ordered_table.specs.Tables.{Finds, Looks};
 
 use crate::order::{ByOrder, ByRead, Compare, OrderSlots};
 use crate::round::next_slot;
@@ -10,6 +10,27 @@ use seeded_draw::Draw;
 use std::cmp::Ordering;
 use std::sync::ledger::Ledger;
 use store_base::{Fault, Label, ReadSlots};
+
+/// Whether slot `at` holds the page of the label. A fault of the slots ends the call; it writes nothing.
+///
+/// Nothing is drawn: the draw is there for the contract, which tells of a table that is placed by it, and so rests on
+/// its law. There have to be as many slots as the draw's.
+pub fn holds<S: OrderSlots, W: Draw>(
+    slots: &mut S,
+    _draw: &W,
+    at: u32,
+    label: &Label,
+) -> Result<bool, Fault>
+    requires count { (S.state slots.old).count ≡ (W.drawn _draw.now).slots }
+    requires below { at < (S.state slots.old).count }
+    ensures call { Looks (W.drawn _draw.now) (S.state slots.old) (S.state slots.new) at label.now result }
+    ensures follows { S.follows slots.old slots.new }
+{
+    let Some(order) = slots.order(at, &label.to_bytes())? else {
+        return Ok(false);
+    };
+    Ok(order.is_eq())
+}
 
 /// As `find_from`, where the labels in the slots are compared in this way.
 fn find_by<S: ReadSlots, C: Compare<S>, W: Draw, L: Ledger>(

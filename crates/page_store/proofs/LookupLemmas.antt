@@ -11,9 +11,9 @@ use Rattle.store_model.specs.PageMaps.{PageMap, page_at, HoldsPages}
 use Rattle.store_base.specs.declared.store_fault.Fault.{Fault}
 use Rattle.store_base.specs.SlotsState.{SlotsState, IsObservable, AreSlotCalls, IsGet}
 use Rattle.store_base.proofs.SlotsCalls.{AreSlotCalls-none, AreSlotCalls-then, AreSlotCalls-value, AreSlotCalls-fault, IsObservable-later}
-use Rattle.ordered_table.specs.Tables.{IsSlotWith}
+use Rattle.ordered_table.specs.Tables.{IsSlotWith, Looks}
 use Rattle.table_memory.specs.Staging.{StagedPages, with_changes}
-use Rattle.page_store.specs.Lookups.{Consults, Locates, LooksUp}
+use Rattle.page_store.specs.Lookups.{Consults, Locates, LocatesAgain, LooksUp}
 use Rattle.table_memory.proofs.ChangeLemmas.{page_or, page_at-with_changes}
 
 -- a read of the page of a label
@@ -60,6 +60,56 @@ still_located d old new l at located = record {
       let before : IsObservable old = sym located.calls.observable ∙ observable in
       let was = located.found m before (subst (λ (slots : List (List ℕ)). HoldsPages d slots m) (located.reads before) holds) in
       record { absent = was.absent; slot = subst (λ (slots : List (List ℕ)). IsSlotWith slots m l at) (sym (located.reads before)) was.slot };
+}
+
+-- nothing is told where the slot of a hint lies behind the table
+pub again_untold : (d : Draw) (slots : SlotsState) (l : Label) → LocatesAgain d slots slots l (Ok None)
+again_untold d slots l = record { calls = AreSlotCalls-none slots None; reads = λ observable. refl; within = tt; found = λ m observable holds. tt }
+
+-- or does not hold the page
+pub again_missed : (d : Draw) (old new : SlotsState) (at : ℕ) (l : Label) (is_there : Bool) → Looks d old new at l (Ok is_there) → LocatesAgain d old new l (Ok None)
+again_missed d old new at l is_there looked = record { calls = AreSlotCalls-value old new is_there None looked.calls; reads = looked.reads; within = tt; found = λ m observable holds. tt }
+
+-- or where the slots fail
+pub again_failed : (d : Draw) (old new : SlotsState) (at : ℕ) (l : Label) (fault : Fault) → Looks d old new at l (Err fault) → LocatesAgain d old new l (Err fault)
+again_failed d old new at l fault looked = record { calls = AreSlotCalls-fault old new fault looked.calls; reads = looked.reads; within = tt; found = λ m observable holds. tt }
+
+-- the page is where it was found last
+pub located_again : (d : Draw) (old new : SlotsState) (l : Label) (at : ℕ) → LocatesAgain d old new l (Ok (Some at)) → Locates d old new l (Ok (Some at))
+located_again d old new l at again = record {
+  calls = again.calls;
+  reads = again.reads;
+  within = again.within;
+  found = λ m observable holds.
+      let there = again.found m observable holds in
+      record { absent = some_there (page_at m l) there.page there.in_map; slot = there };
+}
+  where
+    some_there : (o : Option Page) (page : Page) → o ≡ Some page → IsNone (Some at) ↔ (o ≡ None)
+    some_there o page is = (λ none. absurd (cc), λ empty. absurd (none-some page (sym empty ∙ is)))
+
+-- a look that failed
+pub located_failed : (d : Draw) (old new : SlotsState) (l : Label) (fault : Fault) → LocatesAgain d old new l (Err fault) → Locates d old new l (Err fault)
+located_failed d old new l fault again = record { calls = again.calls; reads = again.reads; within = tt; found = λ m observable holds. record { absent = tt; slot = tt } }
+
+-- a search behind a look that told nothing
+pub located_then : (d : Draw) (old mid new : SlotsState) (l : Label) (result : Result (Option ℕ) Fault) → LocatesAgain d old mid l (Ok None) → Locates d mid new l result → Locates d old new l result
+located_then d old mid new l (Ok found) again located = record {
+  calls = AreSlotCalls-then old mid new None (Ok found) again.calls located.calls;
+  reads = λ observable. located.reads (later observable) ∙ again.reads observable;
+  within = subst (λ (n : ℕ). IfSome found (λ at. at < n)) again.calls.count located.within;
+  found = λ m observable holds.
+      let is = located.found m (later observable) (subst (λ (slots : List (List ℕ)). HoldsPages d slots m) (sym (again.reads observable)) holds) in
+      record { absent = is.absent; slot = subst (λ (slots : List (List ℕ)). IfSome found (IsSlotWith slots m l)) (again.reads observable) is.slot };
+}
+  where
+    later : IsObservable old → IsObservable mid
+    later = IsObservable-later old mid (Ok None) again.calls
+located_then d old mid new l (Err fault) again located = record {
+  calls = AreSlotCalls-then old mid new None (Err fault) again.calls located.calls;
+  reads = λ observable. located.reads (IsObservable-later old mid (Ok None) again.calls observable) ∙ again.reads observable;
+  within = tt;
+  found = λ m observable holds. record { absent = tt; slot = tt };
 }
 
 -- the read of a slot only reads

@@ -27,6 +27,13 @@ pub record Locates (d : Draw) (old new : SlotsState) (l : Label) (result : Resul
   pub within : IfOk result (λ found. IfSome found (λ at. at < old.count))
   pub found : (m : PageMap) → IsObservable old → HoldsPages d old.slots m → IsLocated old m l result
 
+-- a look into the slot where the page of a label was found last: the page is there, or nothing is told
+pub record LocatesAgain (d : Draw) (old new : SlotsState) (l : Label) (result : Result (Option ℕ) Fault) : Type 0 where
+  pub calls : AreSlotCalls old new result
+  pub reads : IsObservable old → new.slots ≡ old.slots
+  pub within : IfOk result (λ found. IfSome found (λ at. at < old.count))
+  pub found : (m : PageMap) → IsObservable old → HoldsPages d old.slots m → IfOk result (λ found. IfSome found (IsSlotWith old.slots m l))
+
 -- a search that tells whether there is a page under a label, with changes
 pub record LooksUp (d : Draw) (old new : SlotsState) (changes : StagedPages) (l : Label) (result : Result Bool Fault) : Type 0 where
   pub calls : AreSlotCalls old new result

@@ -12,22 +12,22 @@ use ordered_table::{OrderSlots, insert_from, overwrite};
 use seeded_draw::Draw;
 use shift_remove::remove;
 use store_base::{Fault, Label, Slots};
-use table_memory::StartMemo;
+use table_memory::Finder;
 
 /// Takes the page of the label away from the slots, if they hold one. A fault of the slots ends the call; nothing is
 /// promised of the slots after it.
 fn take_page<S: Slots + OrderSlots, W: Draw>(
     slots: &mut S,
-    starts: &mut StartMemo<W>,
+    finder: &mut Finder<W>,
     label: &Label,
 ) -> Result<(), Fault>
-    requires { (S.ReadSlots.state slots.old).count ≡ (W.drawn starts.old.draw).slots }
-    ensures call { TakesPage (W.drawn starts.old.draw) (S.ReadSlots.state slots.old) (S.ReadSlots.state slots.new) label.now result }
+    requires { (S.ReadSlots.state slots.old).count ≡ (W.drawn finder.old.draw).slots }
+    ensures call { TakesPage (W.drawn finder.old.draw) (S.ReadSlots.state slots.old) (S.ReadSlots.state slots.new) label.now result }
     ensures follows { S.ReadSlots.follows slots.old slots.new }
-    ensures draw { starts.new.draw ≡ starts.old.draw }
+    ensures draw { finder.new.draw ≡ finder.old.draw }
 {
-    match locate(slots, starts, label)? {
-        Some(at) => remove(slots, &starts.draw, at),
+    match locate(slots, finder, label)? {
+        Some(at) => remove(slots, &finder.draw, at),
         None => Ok(()),
     }
 }
@@ -36,20 +36,22 @@ fn take_page<S: Slots + OrderSlots, W: Draw>(
 /// slot. A fault of the slots ends the call; nothing is promised of the slots after it.
 fn lay_page<S: Slots + OrderSlots, W: Draw>(
     slots: &mut S,
-    starts: &mut StartMemo<W>,
+    finder: &mut Finder<W>,
     page: &Page,
 ) -> Result<(), Fault>
-    requires { (S.ReadSlots.state slots.old).count ≡ (W.drawn starts.old.draw).slots }
-    ensures call { LaysPage (W.drawn starts.old.draw) (S.ReadSlots.state slots.old) (S.ReadSlots.state slots.new) page.now result }
+    requires { (S.ReadSlots.state slots.old).count ≡ (W.drawn finder.old.draw).slots }
+    ensures call { LaysPage (W.drawn finder.old.draw) (S.ReadSlots.state slots.old) (S.ReadSlots.state slots.new) page.now result }
     ensures follows { S.ReadSlots.follows slots.old slots.new }
-    ensures draw { starts.new.draw ≡ starts.old.draw }
+    ensures draw { finder.new.draw ≡ finder.old.draw }
 {
     let label = page.label();
-    match locate(slots, starts, &label)? {
-        Some(at) => overwrite(slots, &starts.draw, at, page),
+    match locate(slots, finder, &label)? {
+        Some(at) => overwrite(slots, &finder.draw, at, page),
         None => {
-            let start = starts.start(&label);
-            insert_from(slots, &starts.draw, start, page)
+            let start = finder.start(&label);
+            // A new page mostly comes to its start.
+            finder.keep(&label, Some(start));
+            insert_from(slots, &finder.draw, start, page)
         }
     }
 }
@@ -58,18 +60,18 @@ fn lay_page<S: Slots + OrderSlots, W: Draw>(
 /// is promised of the slots after it.
 fn take_pages<S: Slots + OrderSlots, W: Draw>(
     slots: &mut S,
-    starts: &mut StartMemo<W>,
+    finder: &mut Finder<W>,
     changes: &Changes,
 ) -> Result<(), Fault>
-    requires { (S.ReadSlots.state slots.old).count ≡ (W.drawn starts.old.draw).slots }
-    ensures call { TakesPages (W.drawn starts.old.draw) (S.ReadSlots.state slots.old) (S.ReadSlots.state slots.new) changes.now.pages.entries result }
+    requires { (S.ReadSlots.state slots.old).count ≡ (W.drawn finder.old.draw).slots }
+    ensures call { TakesPages (W.drawn finder.old.draw) (S.ReadSlots.state slots.old) (S.ReadSlots.state slots.new) changes.now.pages.entries result }
     ensures ordered { IsOrdered label_cmp changes.now.pages }
     ensures follows { S.ReadSlots.follows slots.old slots.new }
-    ensures draw { starts.new.draw ≡ starts.old.draw }
+    ensures draw { finder.new.draw ≡ finder.old.draw }
 {
     for (label, change) in &changes.pages {
         if change.is_none() {
-            take_page(slots, starts, label)?;
+            take_page(slots, finder, label)?;
         }
     }
     Ok(())
@@ -79,17 +81,17 @@ fn take_pages<S: Slots + OrderSlots, W: Draw>(
 /// the slots ends the call; nothing is promised of the slots after it.
 fn lay_pages<S: Slots + OrderSlots, W: Draw>(
     slots: &mut S,
-    starts: &mut StartMemo<W>,
+    finder: &mut Finder<W>,
     changes: &Changes,
 ) -> Result<(), Fault>
-    requires { (S.ReadSlots.state slots.old).count ≡ (W.drawn starts.old.draw).slots }
-    ensures call { LaysPages (W.drawn starts.old.draw) (S.ReadSlots.state slots.old) (S.ReadSlots.state slots.new) (values changes.now.pages) result }
+    requires { (S.ReadSlots.state slots.old).count ≡ (W.drawn finder.old.draw).slots }
+    ensures call { LaysPages (W.drawn finder.old.draw) (S.ReadSlots.state slots.old) (S.ReadSlots.state slots.new) (values changes.now.pages) result }
     ensures follows { S.ReadSlots.follows slots.old slots.new }
-    ensures draw { starts.new.draw ≡ starts.old.draw }
+    ensures draw { finder.new.draw ≡ finder.old.draw }
 {
     for change in changes.pages.values() {
         if let Some(page) = change {
-            lay_page(slots, starts, page.get())?;
+            lay_page(slots, finder, page.get())?;
         }
     }
     Ok(())
@@ -100,14 +102,14 @@ fn lay_pages<S: Slots + OrderSlots, W: Draw>(
 /// slots after it.
 pub fn lay_changes<S: Slots + OrderSlots, W: Draw>(
     slots: &mut S,
-    starts: &mut StartMemo<W>,
+    finder: &mut Finder<W>,
     changes: &Changes,
 ) -> Result<(), Fault>
-    requires { (S.ReadSlots.state slots.old).count ≡ (W.drawn starts.old.draw).slots }
-    ensures call { LaysChanges (W.drawn starts.old.draw) (S.ReadSlots.state slots.old) (S.ReadSlots.state slots.new) changes.now.pages.entries result }
+    requires { (S.ReadSlots.state slots.old).count ≡ (W.drawn finder.old.draw).slots }
+    ensures call { LaysChanges (W.drawn finder.old.draw) (S.ReadSlots.state slots.old) (S.ReadSlots.state slots.new) changes.now.pages.entries result }
     ensures follows { S.ReadSlots.follows slots.old slots.new }
-    ensures draw { starts.new.draw ≡ starts.old.draw }
+    ensures draw { finder.new.draw ≡ finder.old.draw }
 {
-    take_pages(slots, starts, changes)?;
-    lay_pages(slots, starts, changes)
+    take_pages(slots, finder, changes)?;
+    lay_pages(slots, finder, changes)
 }

@@ -20,7 +20,7 @@ pub struct Changes {
     /// What is staged, by label.
     pub pages: BTreeMap<Label, Option<Boxed<Page>>>,
     /// Boxes for pages that are to be staged.
-    pub spares: Spares,
+    pub spares: Spares<Page>,
 }
 
 /// Inserts a cell into the page that a change is, where it lies, and answers whether it did. A change that does not

@@ -5,9 +5,9 @@
 //! slots whose bytes differ, so that the table is again the placement of the pages; a crash leaves the old pages or the
 //! new ones.
 //!
-//! Slots that were written lie over those of the disk (`Overlay`), which are read through a cache. What was found under
-//! a label is not looked up again (`Lookup`). What is kept of the table, and which of the slots that were written
-//! differ, is `table_memory`'s.
+//! Slots that were written lie over those of the disk (`Overlay`), which are read through a cache. What is remembered
+//! of a label is not looked up again, and the slot where a page was found last is looked at first. What is remembered,
+//! and which of the slots that were written differ, is `table_memory`'s.
 #![tactic(auto)]
 
 mod carry;

@@ -1,14 +1,14 @@
 //! The slot of the page of a label.
 
 ghost use Rattle.std.specs.Prelude.{◌≡◌, ◌<◌};
-ghost use Rattle.page_store.specs.Lookups.{Locates};
+ghost use Rattle.page_store.specs.Lookups.{Locates, LocatesAgain};
 
-use ordered_table::{OrderSlots, Steps, find_from};
+use ordered_table::{OrderSlots, Steps, find_from, holds};
 use seeded_draw::Draw;
 use std::marker::Brand;
 use std::sync::ledger::{Blank, Ledger};
 use store_base::{Fault, Label};
-use table_memory::StartMemo;
+use table_memory::Finder;
 
 /// As `locate`, from the start of the label, with a ledger for the steps.
 fn locate_counted<S: OrderSlots, W: Draw, L: Ledger>(
@@ -29,17 +29,43 @@ fn locate_counted<S: OrderSlots, W: Draw, L: Ledger>(
     find_from(slots, draw, start, label, &mut Steps::<L>::new(blank))
 }
 
-/// The slot that holds the page of the label; `None` exactly where the slots hold no such page.
-pub fn locate<S: OrderSlots, W: Draw>(
+/// The slot where the page of the label was found last, if it holds the page still; `None` tells nothing.
+fn locate_again<S: OrderSlots, W: Draw>(
     slots: &mut S,
-    starts: &mut StartMemo<W>,
+    finder: &Finder<W>,
     label: &Label,
 ) -> Result<Option<u32>, Fault>
-    requires { (S.state slots.old).count ≡ (W.drawn starts.old.draw).slots }
-    ensures call { Locates (W.drawn starts.old.draw) (S.state slots.old) (S.state slots.new) label.now result }
+    requires { (S.state slots.old).count ≡ (W.drawn finder.now.draw).slots }
+    ensures call { LocatesAgain (W.drawn finder.now.draw) (S.state slots.old) (S.state slots.new) label.now result }
     ensures follows { S.follows slots.old slots.new }
-    ensures draw { starts.new.draw ≡ starts.old.draw }
 {
-    let start = starts.start(label);
-    locate_counted::<S, W, Brand>(slots, &starts.draw, start, label, Blank::new(1))
+    let at = finder.hint(label);
+    if at >= finder.draw.slots() {
+        return Ok(None);
+    }
+    if holds(slots, &finder.draw, at, label)? {
+        return Ok(Some(at));
+    }
+    Ok(None)
+}
+
+/// The slot that holds the page of the label; `None` exactly where the slots hold no such page. It is searched for only
+/// where it is not the one where the page was found last.
+pub fn locate<S: OrderSlots, W: Draw>(
+    slots: &mut S,
+    finder: &mut Finder<W>,
+    label: &Label,
+) -> Result<Option<u32>, Fault>
+    requires { (S.state slots.old).count ≡ (W.drawn finder.old.draw).slots }
+    ensures call { Locates (W.drawn finder.old.draw) (S.state slots.old) (S.state slots.new) label.now result }
+    ensures follows { S.follows slots.old slots.new }
+    ensures draw { finder.new.draw ≡ finder.old.draw }
+{
+    if let Some(at) = locate_again(slots, finder, label)? {
+        return Ok(Some(at));
+    }
+    let start = finder.start(label);
+    let found = locate_counted::<S, W, Brand>(slots, &finder.draw, start, label, Blank::new(1))?;
+    finder.keep(label, found);
+    Ok(found)
 }

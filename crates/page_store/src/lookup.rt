@@ -15,19 +15,19 @@ use node_pages::decode_page;
 use seeded_draw::Draw;
 use store_base::{Fault, Label, ReadSlots};
 use store_model::BLOCK;
-use table_memory::{PageMemo, StartMemo, memo_place};
+use table_memory::{Finder, PageMemo, memo_place};
 
 /// The slots of a table, with all that helps to look a page up in them, and what was found.
 #[derive(Drop)]
 pub struct Lookup<D: Disk, W: Draw> {
     /// The slots.
     pub overlay: Overlay<D>,
-    /// The draw by which pages lie in them, with the starts that it drew last.
-    pub starts: StartMemo<W>,
+    /// The draw by which pages lie in them, with what helps to find them.
+    pub finder: Finder<W>,
     /// What was found in the slots.
     pub memo: PageMemo,
-    pub ghost drawn: { overlay.params.slots ≡ (W.drawn starts.draw).slots },
-    pub ghost remembered: { IsMemoOf (W.drawn starts.draw) (overlaid overlay.params.slots overlay.touched.entries (D.state overlay.disk)) memo },
+    pub ghost drawn: { overlay.params.slots ≡ (W.drawn finder.draw).slots },
+    pub ghost remembered: { IsMemoOf (W.drawn finder.draw) (overlaid overlay.params.slots overlay.touched.entries (D.state overlay.disk)) memo },
 }
 
 impl<D: Disk, W: Draw> Lookup<D, W> {
@@ -36,10 +36,10 @@ impl<D: Disk, W: Draw> Lookup<D, W> {
     // It stands apart from `learn`, each call of which would clear its page.
     #[inline(never)]
     fn remember_at(&mut self, at: u32, label: &Label) -> Result<(), Fault>
-        requires { Locates (W.drawn self.old.starts.draw) (slots_of D.state self.old.overlay) (slots_of D.state self.old.overlay) label.now (Ok (Some at)) }
+        requires { Locates (W.drawn self.old.finder.draw) (slots_of D.state self.old.overlay) (slots_of D.state self.old.overlay) label.now (Ok (Some at)) }
         ensures call { Consults (slots_of D.state self.old.overlay) (slots_of D.state self.new.overlay) result }
         ensures follows { Views D.state self.old.overlay self.new.overlay }
-        ensures draw { self.new.starts.draw ≡ self.old.starts.draw }
+        ensures draw { self.new.finder.draw ≡ self.old.finder.draw }
     {
         let mut slot = [0; BLOCK];
         self.overlay.get(at, &mut slot)?;
@@ -53,13 +53,13 @@ impl<D: Disk, W: Draw> Lookup<D, W> {
         requires { place ≡ memo_place (label_bytes label.now) }
         ensures call { Consults (slots_of D.state self.old.overlay) (slots_of D.state self.new.overlay) result }
         ensures follows { Views D.state self.old.overlay self.new.overlay }
-        ensures draw { self.new.starts.draw ≡ self.old.starts.draw }
+        ensures draw { self.new.finder.draw ≡ self.old.finder.draw }
     {
         // The memo comes first, since to find a label among the changes takes comparisons of labels.
         if self.memo.recall(place, label).is_some() || changes.pages.contains_key(label) {
             return Ok(());
         }
-        let Some(at) = locate(&mut self.overlay, &mut self.starts, label)? else {
+        let Some(at) = locate(&mut self.overlay, &mut self.finder, label)? else {
             self.memo.remember_none(label);
             return Ok(());
         };
@@ -68,14 +68,14 @@ impl<D: Disk, W: Draw> Lookup<D, W> {
 
     /// Whether there is a page under the label, by the changes, or else by the memo, or else by the slots.
     pub fn has_page(&mut self, changes: &Changes, label: &Label) -> Result<bool, Fault>
-        ensures call { LooksUp (W.drawn self.old.starts.draw) (slots_of D.state self.old.overlay) (slots_of D.state self.new.overlay) changes.now.pages.entries label.now result }
+        ensures call { LooksUp (W.drawn self.old.finder.draw) (slots_of D.state self.old.overlay) (slots_of D.state self.new.overlay) changes.now.pages.entries label.now result }
         ensures follows { Views D.state self.old.overlay self.new.overlay }
-        ensures draw { self.new.starts.draw ≡ self.old.starts.draw }
+        ensures draw { self.new.finder.draw ≡ self.old.finder.draw }
     {
         if let Some(page) = changes.known(&self.memo, memo_place(label), label) {
             return Ok(page.is_some());
         }
-        let at = locate(&mut self.overlay, &mut self.starts, label)?;
+        let at = locate(&mut self.overlay, &mut self.finder, label)?;
         Ok(at.is_some())
     }
 }

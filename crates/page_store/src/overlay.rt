@@ -15,7 +15,7 @@ use std::cmp::Ordering;
 use std::collections::BTreeMap;
 use store_base::{Fault, Params, ReadSlots, Slots};
 use store_model::Slot;
-use table_memory::{Boxed, SlotCache, read_slot, tell_slot};
+use table_memory::{Boxed, SlotCache, Spares, read_slot, tell_slot};
 
 /// The slots of the table of a disk, of which those that were written are kept in memory, and those that were read
 /// last. The disk is only read.
@@ -31,6 +31,8 @@ pub struct Overlay<D: Disk> {
     pub touched: BTreeMap<u32, Boxed<Slot>>,
     /// Slots of the disk, those that were read last.
     pub cache: SlotCache,
+    /// Boxes for slots that are to be written.
+    pub spares: Spares<Slot>,
     pub ghost sized: { (D.state disk).size ≡ image_len params.slots },
     pub ghost within: { (i : ℕ) (slot : List ℕ) → touched_at touched.entries i ≡ Some slot → i < params.slots },
     pub ghost filled: { (i : ℕ) (slot : List ℕ) → touched_at touched.entries i ≡ Some slot → length slot ≡ block_len },
@@ -55,6 +57,7 @@ impl<D: Disk> Overlay<D> {
             params: *params,
             touched: BTreeMap::new(alloc),
             cache,
+            spares: Spares::new(alloc),
         }
     }
 
@@ -68,6 +71,7 @@ impl<D: Disk> Overlay<D> {
             params: _,
             touched: _,
             cache: _,
+            spares: _,
         } = self;
         disk
     }
@@ -111,8 +115,8 @@ impl<D: Disk> OrderSlots for Overlay<D> {
 
 impl<D: Disk> Slots for Overlay<D> {
     fn set(&mut self, at: u32, slot: &Slot) -> Result<(), Fault> {
-        let kept = Boxed::new(self.alloc, *slot)?;
-        let _ = self.touched.insert(at, kept)?;
+        let kept = self.spares.copy(slot)?;
+        self.spares.take(self.touched.insert(at, kept)?);
         Ok(())
     }
 }

@@ -11,21 +11,21 @@ use crate::overlay::Overlay;
 use disk_model::Disk;
 use seeded_draw::Draw;
 use store_base::Fault;
-use table_memory::{ChangedSlots, StartMemo, find_changes};
+use table_memory::{ChangedSlots, Finder, find_changes};
 
 /// The slots in which the table differs once the changes are carried out. The disk is only read; which slots the
 /// overlay has written after the call is not said.
 pub fn find_slots<D: Disk, W: Draw>(
     overlay: &mut Overlay<D>,
-    starts: &mut StartMemo<W>,
+    finder: &mut Finder<W>,
     changes: &Changes,
 ) -> Result<ChangedSlots, Fault>
-    requires { (params_of overlay.old).slots ≡ (W.drawn starts.old.draw).slots }
-    ensures call { FindsSlots (W.drawn starts.old.draw) (params_of overlay.old) (touched_of overlay.old) changes.now.pages.entries (D.state (disk_of overlay.old)) (D.state (disk_of overlay.new)) result }
+    requires { (params_of overlay.old).slots ≡ (W.drawn finder.old.draw).slots }
+    ensures call { FindsSlots (W.drawn finder.old.draw) (params_of overlay.old) (touched_of overlay.old) changes.now.pages.entries (D.state (disk_of overlay.old)) (D.state (disk_of overlay.new)) result }
     ensures follows { KeepsView (params_of overlay.old) (params_of overlay.new) (D.state (disk_of overlay.old)) (D.state (disk_of overlay.new)) }
-    ensures draw { starts.new.draw ≡ starts.old.draw }
+    ensures draw { finder.new.draw ≡ finder.old.draw }
 {
-    lay_changes(overlay, starts, changes)?;
+    lay_changes(overlay, finder, changes)?;
     find_changes(
         overlay.alloc,
         &mut overlay.disk,

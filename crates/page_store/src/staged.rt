@@ -28,7 +28,7 @@ use seeded_draw::Draw;
 use std::alloc::Global;
 use std::marker::Model;
 use store_base::{DiskFault, Fault, Label, Params};
-use table_memory::{Boxed, PageMemo, SlotCache, StartMemo, behind, empty, memo_place};
+use table_memory::{Boxed, Finder, PageMemo, SlotCache, behind, empty, memo_place};
 
 /// The pages in the table of an image, with changes that are not settled yet. Contracts see it as one record: the map
 /// of the pages now, that of the pages in the table, the disk, and whether the value is spent.
@@ -53,9 +53,9 @@ impl<D: Disk, W: Draw> Model for Staged<D, W> {
 
     ghost coded = { staged_code D.code W.code };
 
-    ghost view = { λ s. staged_state D.state s.lookup.overlay.params s.lookup.starts.draw s.lookup.overlay.disk s.changes.pages.entries s.lookups s.is_spent };
+    ghost view = { λ s. staged_state D.state s.lookup.overlay.params s.lookup.finder.draw s.lookup.overlay.disk s.changes.pages.entries s.lookups s.is_spent };
 
-    ghost invariant = { λ s. IsStaged (W.drawn s.lookup.starts.draw) s.lookup.overlay.params (D.state s.lookup.overlay.disk) s.lookup.overlay.touched.entries s.changes.pages.entries s.used s.settled s.is_spent };
+    ghost invariant = { λ s. IsStaged (W.drawn s.lookup.finder.draw) s.lookup.overlay.params (D.state s.lookup.overlay.disk) s.lookup.overlay.touched.entries s.changes.pages.entries s.used s.settled s.is_spent };
 }
 
 /// How many pages there are, of so many, once one label was given a page or lost it. A count that would come to 2^32
@@ -109,7 +109,7 @@ impl<D: Disk, W: Draw> Staged<D, W> {
         Staged {
             lookup: Lookup {
                 overlay: Overlay::new(alloc, disk, params, cache),
-                starts: StartMemo::new(alloc, draw),
+                finder: Finder::new(alloc, draw),
                 memo: PageMemo::new(alloc),
             },
             changes: Changes::new(alloc),
@@ -157,7 +157,7 @@ impl<D: Disk, W: Draw> Staged<D, W> {
         } = self;
         let Lookup {
             overlay,
-            starts: _,
+            finder: _,
             memo: _,
         } = lookup;
         overlay.into_disk()
@@ -236,14 +236,21 @@ impl<D: Disk, W: Draw> Staged<D, W> {
         }
         let Lookup {
             overlay,
-            starts,
+            finder,
             memo,
         } = &mut self.lookup;
-        let found = find_slots(overlay, starts, &self.changes);
+        let found = find_slots(overlay, finder, &self.changes);
         // Whatever was found, the slots are the disk's again.
         empty(&mut overlay.touched);
         let changed = found?;
-        match commit_slots(&mut overlay.disk, &mut overlay.cache, &params, changed) {
+        let spares = &mut overlay.spares;
+        match commit_slots(
+            &mut overlay.disk,
+            &mut overlay.cache,
+            &params,
+            changed,
+            spares,
+        ) {
             Ok(()) => {
                 self.changes.hand_to(memo);
                 self.settled = self.used;

@@ -11,7 +11,8 @@ ghost use Rattle.page_store.specs.Committing.{CommitsSlots};
 use disk_model::Disk;
 use gate_journal::Journal;
 use store_base::{DiskFault, Params};
-use table_memory::{ChangedSlots, SlotCache};
+use store_model::Slot;
+use table_memory::{ChangedSlots, SlotCache, Spares};
 
 /// Commits the changed slots of the table of a disk of these parameters, and gives those that are kept their new bytes.
 /// After `DiskFault` the disk may have the old slots or the new ones, and none is kept.
@@ -20,6 +21,7 @@ pub fn commit_slots<D: Disk>(
     cache: &mut SlotCache,
     params: &Params,
     changed: ChangedSlots,
+    spares: &mut Spares<Slot>,
 ) -> Result<(), DiskFault>
     requires size { (D.state disk.old).size ≡ image_len params.now.slots }
     requires changes { AreChanges params.now.slots (changes_of changed.slots.items) }
@@ -30,7 +32,7 @@ pub fn commit_slots<D: Disk>(
 {
     match Journal::commit(disk, params, &changed) {
         Ok(()) => {
-            cache.rewrite_all(changed.slots);
+            cache.rewrite_all(changed.slots, spares);
             Ok(())
         }
         Err(fault) => {

@@ -54,8 +54,8 @@ fn checksum_of_key(key: &[u8; 124], first: u64) -> u64
     sums
 }
 
-/// The checksum of a label, from which its place follows.
-fn checksum_of_label(label: &Label) -> u64
+/// The checksum of a label, from which its places follow, here and in the hints.
+pub fn checksum_of_label(label: &Label) -> u64
     ensures { result ≡ checksum (label_bytes label.now) }
 {
     let first = u64::from(label.level) + 256 * u64::from(label.index);
@@ -150,7 +150,11 @@ impl PageMemo {
     /// Takes over what is staged: under each label of a change what is there behind it, where there is memory for it.
     /// Under each other label nothing more is remembered than was. Pages that gave place are spared.
     // The changes are taken one by one, since so their map keeps its memory.
-    pub fn renew(&mut self, changes: &mut BTreeMap<Label, Option<Boxed<Page>>>, spares: &mut Spares)
+    pub fn renew(
+        &mut self,
+        changes: &mut BTreeMap<Label, Option<Boxed<Page>>>,
+        spares: &mut Spares<Page>,
+    )
         ensures renews { Renews changes.old.entries self.old self.new }
         ensures emptied { changes.new.entries ≡ [] }
     {

@@ -6,6 +6,7 @@ ghost use Rattle.store_model.specs.Parameters.{image_len, slots_limit};
 ghost use Rattle.table_memory.specs.Caches.{kept_at, KeepsAll, KeepsNoMore, KeepsOne, Rewrites, changes_of, RewritesFirst, most_kept, IsSlotCacheOf, ReadsSlot, IsOfKept, TellsOfSlot};
 
 use crate::boxed::Boxed;
+use crate::spares::Spares;
 use crate::told::Told;
 use disk_model::Disk;
 use lru::LruCache;
@@ -109,23 +110,24 @@ impl SlotCache {
         Some(slot)
     }
 
-    /// Gives a slot its new bytes, if it is kept. It takes no memory.
-    fn rewrite(&mut self, at: u32, slot: Boxed<Slot>)
+    /// Gives a slot that is kept its new bytes, and hands out a box that is left over. It takes no memory.
+    fn rewrite(&mut self, at: u32, slot: Boxed<Slot>) -> Option<Boxed<Slot>>
         ensures { Rewrites self.old self.new at slot }
     {
         if !self.slots.contains(&at) {
-            return;
+            return Some(slot);
         }
         // The slot is kept already, so the call takes no memory.
-        let _ = self.slots.put(at, slot);
+        self.slots.put(at, slot).ok().flatten()
     }
 
-    /// Gives the slots that are kept their new bytes. It takes no memory.
-    pub fn rewrite_all(&mut self, changed: Vec<(u32, Boxed<Slot>)>)
+    /// Gives the slots that are kept their new bytes; boxes that are left over are spared. It takes no memory but for
+    /// these.
+    pub fn rewrite_all(&mut self, changed: Vec<(u32, Boxed<Slot>)>, spares: &mut Spares<Slot>)
         ensures { RewritesFirst (length changed.items) (changes_of changed.items) self.old self.new }
     {
         for (at, slot) in changed {
-            self.rewrite(at, slot);
+            spares.take(self.rewrite(at, slot));
         }
     }
 

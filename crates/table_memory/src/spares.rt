@@ -1,4 +1,4 @@
-//! Boxes that were given up, kept for pages that are to come.
+//! Boxes that were given up, kept for values that are to come.
 
 ghost use Rattle.std.specs.Prelude.{◌≡◌, IfOk};
 ghost use Rattle.store_model.specs.Pages.{IsPage};
@@ -15,14 +15,14 @@ const MOST: usize = 8;
 /// A few boxes, so that the value of one that was given up makes room for the next one, and no memory is taken. What is
 /// in them is told to nobody.
 #[derive(Drop)]
-pub struct Spares {
+pub struct Spares<T> {
     alloc: Global,
-    boxes: Vec<Boxed<Page>>,
+    boxes: Vec<Boxed<T>>,
 }
 
-impl Spares {
+impl<T: Copy> Spares<T> {
     /// No box. It takes no memory.
-    pub fn new(alloc: Global) -> Spares {
+    pub fn new(alloc: Global) -> Spares<T> {
         Spares {
             alloc,
             boxes: Vec::new(alloc),
@@ -30,7 +30,7 @@ impl Spares {
     }
 
     /// A copy of the value in a box.
-    pub fn copy(&mut self, value: &Page) -> Result<Boxed<Page>, NoMemory>
+    pub fn copy(&mut self, value: &T) -> Result<Boxed<T>, NoMemory>
         ensures { IfOk result (λ boxed. boxed ≡ value.now) }
     {
         let Some(mut boxed) = self.boxes.pop() else {
@@ -41,7 +41,7 @@ impl Spares {
     }
 
     /// Takes a box that is given up, if there is one, where there is room for it.
-    pub fn take(&mut self, spare: Option<Boxed<Page>>) {
+    pub fn take(&mut self, spare: Option<Boxed<T>>) {
         let Some(boxed) = spare else {
             return;
         };
@@ -49,7 +49,9 @@ impl Spares {
             let _ = self.boxes.push(boxed);
         }
     }
+}
 
+impl Spares<Page> {
     /// The page of a label and so many cells, whose bytes are given, in a box.
     pub fn page(&mut self, label: &Label, count: u8, run: &[u8]) -> Result<Boxed<Page>, NoMemory>
         requires packed { ArePacked label.now.level count run.now }

@@ -8,7 +8,7 @@ use Rattle.page_store.proofs.carry.lay_pages.Goals as goal
 
 pub loop-change-init : goal.loop-change-init
 loop-change-init g c =
-    let d = g.W.Draw.drawn c.args.starts.now.draw in
+    let d = g.W.Draw.drawn c.args.finder.now.draw in
     let slots = g.S.ReadSlots.state c.args.slots.now in
     let all = values c.args.changes.now.pages in
     let start : c.into_iter-change-iterator.result ≡ all = c.into_iter-change-iterator.ensures.into_iter_gives ∙ c.values-change-items.ensures.rest in

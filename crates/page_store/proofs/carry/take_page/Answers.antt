@@ -6,7 +6,7 @@ use Rattle.page_store.proofs.carry.take_page.Goals as goal
 
 pub returns-in-None-clause-call : goal.returns-in-None-clause-call
 returns-in-None-clause-call g c =
-    let d = g.W.Draw.drawn c.args.starts.now.draw in
+    let d = g.W.Draw.drawn c.args.finder.now.draw in
     let old = g.S.ReadSlots.state c.args.slots.now in
     let mid = g.S.ReadSlots.state c.locate.new.slots in
     none_taken d old mid c.args.label.now (subst (λ (o : Option ℕ). Locates d old mid c.args.label.now (Ok o)) c.in-None.is c.in_ok-at.ensures.call)
@@ -28,7 +28,7 @@ returns-in_err-at-clause-call g c = let p = err_from_is_err_and c.from_residual.
 
 pub returns-in-Some-clause-call : goal.returns-in-Some-clause-call
 returns-in-Some-clause-call g c =
-    let d = g.W.Draw.drawn c.args.starts.now.draw in
+    let d = g.W.Draw.drawn c.args.finder.now.draw in
     let old = g.S.ReadSlots.state c.args.slots.now in
     let mid = g.S.ReadSlots.state c.locate.new.slots in
     found_taken d old mid (g.S.ReadSlots.state c.remove.new.slots) c.args.label.now c.in-Some.at c.remove.result (subst (λ (o : Option ℕ). Locates d old mid c.args.label.now (Ok o)) c.in-Some.is c.in_ok-at.ensures.call) (rw c.in_ok-at.ensures.draw at c.remove.ensures.call)

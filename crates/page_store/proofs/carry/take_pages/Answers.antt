@@ -7,7 +7,7 @@ use Rattle.page_store.proofs.carry.take_pages.Goals as goal
 
 pub loop-label-init : goal.loop-label-init
 loop-label-init g c =
-    let d = g.W.Draw.drawn c.args.starts.now.draw in
+    let d = g.W.Draw.drawn c.args.finder.now.draw in
     let slots = g.S.ReadSlots.state c.args.slots.now in
     let all = c.args.changes.now.pages.entries in
     let start : c.into_iter-label-iterator.result ≡ all = c.into_iter-label-iterator.ensures.into_iter_gives.0 in

@@ -11,7 +11,7 @@ returns-clause-call g c =
     let state = g.D.Disk.state in
     let before = c.args.overlay.now in
     let after = c.lay_changes.new.slots in
-    slots_found (g.W.Draw.drawn c.args.starts.now.draw) before.params after.params before.touched.entries after.touched.entries c.args.changes.now.pages.entries (state before.disk) (state after.disk) (state c.find_changes.new.disk) c.in_ok-lay_changes.field-0 c.requires
+    slots_found (g.W.Draw.drawn c.args.finder.now.draw) before.params after.params before.touched.entries after.touched.entries c.args.changes.now.pages.entries (state before.disk) (state after.disk) (state c.find_changes.new.disk) c.in_ok-lay_changes.field-0 c.requires
     c.in_ok-lay_changes.ensures.call c.in_ok-lay_changes.ensures.follows c.find_changes.new.cache c.find_changes.result
     (subst (λ (n : ℕ). FindsChanges n after.touched.entries (state after.disk) (state c.find_changes.new.disk) c.find_changes.new.cache c.find_changes.result) c.slots.ensures.value
     c.find_changes.ensures.call)

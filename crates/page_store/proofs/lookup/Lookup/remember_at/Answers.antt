@@ -9,7 +9,7 @@ use Rattle.page_store.proofs.lookup.Lookup.remember_at.Goals as goal
 pub invariant_of-self-2 : goal.invariant_of-self-2
 invariant_of-self-2 g c =
     let s = c.args.self.now in
-    let d = g.W.Draw.drawn s.starts.draw in
+    let d = g.W.Draw.drawn s.finder.draw in
     let old = slots_of g.D.Disk.state s.overlay in
     let new = slots_of g.D.Disk.state c.get.new.self in
     let read = page_read d old old new c.args.label.now c.args.at c.get.new.into c.decode_page.result c.requires c.in_ok-get.ensures.call c.decode_page.ensures.only in

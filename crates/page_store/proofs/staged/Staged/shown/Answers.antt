@@ -10,7 +10,7 @@ pub returns-in-Some-clause-found : goal.returns-in-Some-clause-found
 returns-in-Some-clause-found g c =
     let s = c.self.inside in
     let state = g.D.Disk.state in
-    let d = g.W.Draw.drawn s.lookup.starts.draw in
+    let d = g.W.Draw.drawn s.lookup.finder.draw in
     let p = s.lookup.overlay.params in
     let label = c.args.label.now in
     let read = known_read d _ s.changes.pages.entries s.lookup.memo label c.in-Some.page.now s.lookup.remembered c.in-Some.ensures.found in
