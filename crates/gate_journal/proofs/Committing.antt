@@ -3,18 +3,26 @@ use Rattle.std.proofs.Common.{◌≡◌, ◌⊎◌, ℕ, zero, suc, ◌+◌, ◌
 use Rattle.std.proofs.lemmas.Bool.{cases_lt, cases_eq}
 use Rattle.std.proofs.lemmas.List.{get_or-replicate}
 use Rattle.store_model.specs.Lists.{zeros}
-use Rattle.store_model.specs.Parameters.{mark_at, shadow_at, table_at, image_len}
+use Rattle.store_model.specs.Parameters.{block_len, mark_at, shadow_at, table_at, image_len}
 use Rattle.store_model.specs.Images.{bytes_at, is_flag_set, is_marked}
 use Rattle.disk_model.specs.DiskCalls.{overwrite}
 use Rattle.disk_model.proofs.Images.{SameOutside-overwrite, take-drop-overwrite}
 use Rattle.gate_journal.specs.Places.{IsApart, SameAt}
-use Rattle.gate_journal.specs.Changes.{Changes, AreChanges, OutsideEntry, OutsideJournal, OutsideTable, AreJournaled, AreErased, with_first, with_slots, RecoversToEither}
-use Rattle.gate_journal.specs.Phases.{table_slot, redo_slot, HasTable, HasRedo, HasEmptyJournal, JournalPhase, InPhase}
-use Rattle.gate_journal.specs.Phases.JournalPhase.{Journaling, Flagging, Redoing, Clearing, Erasing}
+use Rattle.gate_journal.specs.Changes.{Changes, AreChanges, OutsideEntry, AreJournaled, AreErased, with_first, with_slots, RecoversToEither}
+use Rattle.gate_journal.specs.Phases.{table_slot, redo_slot, HasTable, HasEmptyJournal}
+use Rattle.gate_journal.proofs.Phases.JournalPhase.{Journaling, Flagging, Redoing, Clearing, Erasing}
 use Rattle.gate_journal.proofs.Areas.{areas, marks_end, shadow_end, table_end}
 use Rattle.gate_journal.proofs.Places.{SameAt-refl, SameAt-trans, SameAt-outside, bytes_at-same}
 use Rattle.gate_journal.proofs.Entries.{slice_index-overwrite}
-use Rattle.gate_journal.proofs.Phases.{recovered_in_phase, settled_empty, same_settled}
+use Rattle.gate_journal.proofs.Phases.{HasRedo, JournalPhase, InPhase, recovered_in_phase, settled_empty, same_settled}
+
+-- a place outside the marks and the shadow blocks of the changed slots
+abbrev pub OutsideJournal : ℕ → Changes → ℕ → Type 0
+OutsideJournal slots changes place = (k : ℕ) → k < changes.count → OutsideEntry slots (changes.slot k) place
+
+-- a place outside the changed slots of the table
+abbrev pub OutsideTable : ℕ → Changes → ℕ → Type 0
+OutsideTable slots changes place = (k : ℕ) → k < changes.count → IsApart (table_at slots (changes.slot k)) block_len place
 
 -- a slot of the table lies apart from another
 pub table_apart : (slots i other : ℕ) → i < slots → other < slots → (other ≡ i → ⊥) → (place : ℕ) → table_at slots i ≤ place → place < table_at slots i + 4096 → IsApart (table_at slots other) 4096 place

@@ -17,3 +17,4 @@ pub mod Formatting
 pub mod Layouts
 pub mod Wiping
 pub mod Openings
+pub mod SoFar

@@ -1,15 +1,21 @@
 -- What opening an image takes, with a journal and without one.
-use Rattle.std.proofs.Common.{◌≡◌, ℕ, zero, suc, ◌+◌, ◌-◌, ◌*◌, ◌<◌, ◌==◌, ◌⊎◌, Bool, true, false, not, if◌then◌else◌, List, length, drop, slice_index, refl, sym, ap, ◌∙◌, arith, inl, inr}
+use Rattle.std.proofs.Common.{Result, OnOk, ◌≡◌, ℕ, zero, suc, ◌+◌, ◌-◌, ◌*◌, ◌<◌, ◌==◌, ◌⊎◌, Bool, true, false, not, if◌then◌else◌, List, length, drop, slice_index, refl, sym, ap, ◌∙◌, arith, inl, inr}
 use Rattle.std.proofs.lemmas.Bool.{false≢true, cases_Bool, cases_lt}
 use Rattle.std.proofs.lemmas.List.{length-take, get_or-take, get_or-drop, get_or_past}
 use Rattle.store_model.specs.Parameters.{gate_at, mark_blocks, table_at}
 use Rattle.store_model.specs.Images.{bytes_at, is_flag_set, journal_len}
-use Rattle.gate_journal.specs.Places.{IsZeroAt}
+use Rattle.gate_journal.specs.Places.{IsZeroAt, Made}
 use Rattle.gate_journal.specs.Phases.{HasEmptyJournal}
 use Rattle.gate_journal.specs.Recovery.{clear_writes, clear_block_writes, redo_syncs}
 use Rattle.gate_journal.proofs.Areas.{journal_end}
 use Rattle.gate_journal.proofs.Counting.{clear_none, clear_one, clear_blocks_none, clear_blocks_more, redo_when}
-use Rattle.gate_journal.specs.Costs.{has_journal, opening_writes, opening_syncs}
+use Rattle.gate_journal.specs.Costs.{has_journal, opening_writes, opening_syncs, MadeAtMost}
+use Rattle.disk_model.specs.DiskState.{DiskState}
+
+-- opening an image makes just these writes and syncs, and with a fault no more
+pub record CountsOpening {T E : Type 0} (slots : ℕ) (old new : DiskState) (result : Result T E) : Type 0 where
+  pub made : OnOk result (Made (opening_writes slots old.bytes) (opening_syncs slots old.bytes) old new)
+  pub limit : MadeAtMost (opening_writes slots old.bytes) (opening_syncs slots old.bytes) old new
 
 -- a range that is zero, as the bytes that are read of it
 range_zero : (at n : ℕ) (image : List ℕ) → IsZeroAt at n image → IsZeroAt 0 (length (bytes_at image at n)) (bytes_at image at n)

@@ -4,12 +4,37 @@ use Rattle.std.specs.List.{flat_map}
 use Rattle.std.proofs.lemmas.Bool.{cases_Bool}
 use Rattle.std.proofs.lemmas.List.{take_all, drop-drop, ext_get_or, length-replicate, get_or-replicate}
 use Rattle.store_model.specs.Lists.{zeros, numbers_below}
-use Rattle.store_model.specs.Parameters.{shadow_at, table_at, image_len}
+use Rattle.store_model.specs.Parameters.{block_len, shadow_at, table_at, image_len}
 use Rattle.store_model.specs.Images.{bytes_at, is_flag_set, is_marked, recovered_slot, recovered, journal_len}
-use Rattle.gate_journal.specs.Phases.{table_slot, HasTable, HasRedo, HasEmptyJournal, settled, JournalPhase, InPhase}
-use Rattle.gate_journal.specs.Phases.JournalPhase.{Journaling, Flagging, Redoing, Clearing, Erasing}
+use Rattle.gate_journal.specs.Phases.{table_slot, redo_slot, HasTable, HasEmptyJournal, settled}
 use Rattle.gate_journal.proofs.Areas.{areas, journal_end, table_end, shadow_end, marks_end}
 use Rattle.gate_journal.proofs.Slots.{flat_map-blocks, flat_map-same}
+
+-- the image has the header of the target, and its journal leads to the table of the target
+pub record HasRedo (slots : ℕ) (target image : List ℕ) : Type 0 where
+  pub header : take block_len image ≡ take block_len target
+  pub redo : (i : ℕ) → i < slots → redo_slot slots image i ≡ table_slot slots target i
+
+-- what the journal does, one phase after another
+pub data JournalPhase : Type 0 where
+  -- marks and shadow are written; the commit flag is clear
+  Journaling : JournalPhase
+  -- the journal is complete; the commit flag is being set
+  Flagging : JournalPhase
+  -- the commit flag is set; the table is written from the journal
+  Redoing : JournalPhase
+  -- the table is complete; the commit flag is being cleared
+  Clearing : JournalPhase
+  -- the commit flag is clear; marks and shadow are erased
+  Erasing : JournalPhase
+
+-- an image that a crash in this phase may leave, on the way from the one image to the other
+abbrev pub InPhase : ℕ → List ℕ → List ℕ → JournalPhase → List ℕ → Type 0
+InPhase slots old new Journaling image = HasTable slots old image × (is_flag_set image ≡ false)
+InPhase slots old new Flagging image = HasTable slots old image × HasRedo slots new image
+InPhase slots old new Redoing image = HasRedo slots new image × (is_flag_set image ≡ true)
+InPhase slots old new Clearing image = HasTable slots new image × HasRedo slots new image
+InPhase slots old new Erasing image = HasTable slots new image × (is_flag_set image ≡ false)
 
 -- images whose parts are equal
 pub same_parts : (slots : ℕ) (head other_head : List ℕ) (slot other : ℕ → List ℕ) → head ≡ other_head → ((i : ℕ) → i < slots → slot i ≡ other i)

@@ -8,9 +8,9 @@ use Rattle.disk_model.specs.DiskState.{DiskState, IsObservable, IsDurable, IsSou
 use Rattle.disk_model.specs.DiskCalls.{LeavesOnly, overwrite, IsSync}
 use Rattle.disk_model.proofs.Crashes.{LeavesOnly-trans, LeavesOnly-weaken}
 use Rattle.gate_journal.specs.Places.{IsApart, SameAt, Keeps, Reaches, ReadsOnly, IsZeroAt}
-use Rattle.gate_journal.specs.Phases.{HasTable, HasRedo, HasEmptyJournal}
+use Rattle.gate_journal.specs.Phases.{HasTable, HasEmptyJournal}
 use Rattle.gate_journal.specs.Recovery.{OutsideMarked, AreRedone, RecoversAs, SettlesFlag, RecoversDurable, Recovers}
-use Rattle.gate_journal.proofs.Phases.{recovered_empty}
+use Rattle.gate_journal.proofs.Phases.{HasRedo, recovered_empty}
 use Rattle.gate_journal.proofs.Reading.{IsDurable-reads}
 use Rattle.gate_journal.proofs.Entries.{slice_index-overwrite}
 use Rattle.gate_journal.proofs.Committing.{HasTable-same}

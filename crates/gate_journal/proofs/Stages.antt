@@ -6,11 +6,11 @@ use Rattle.disk_model.specs.DiskState.{DiskState, IsObservable, IsDurable, IsSou
 use Rattle.disk_model.specs.DiskCalls.{IsCall, LeavesOnly, overwrite}
 use Rattle.disk_model.proofs.Crashes.{IsObservable-call, LeavesOnly-refl, LeavesOnly-trans, LeavesOnly-weaken, MayLeaveOnly-end, MayLeaveOnly-durable}
 use Rattle.gate_journal.specs.Places.{IsApart, SameAt, Keeps, Reaches}
-use Rattle.gate_journal.specs.Changes.{Changes, AreChanges, OutsideJournal, OutsideTable, AreJournaled, AreErased, with_first, with_slots, RecoversToEither, Commits}
+use Rattle.gate_journal.specs.Changes.{Changes, AreChanges, AreJournaled, AreErased, with_first, with_slots, RecoversToEither, Commits}
 use Rattle.gate_journal.specs.Phases.{HasEmptyJournal}
 use Rattle.gate_journal.proofs.Places.{Keeps-durable}
 use Rattle.gate_journal.proofs.Phases.{recovered_empty}
-use Rattle.gate_journal.proofs.Committing.{Stands, journaling, journaled, flagging, flagged, redoing, redone, clearing, erasing, erased, new_empty}
+use Rattle.gate_journal.proofs.Committing.{OutsideJournal, OutsideTable, Stands, journaling, journaled, flagging, flagged, redoing, redone, clearing, erasing, erased, new_empty}
 
 -- a claim of Ok, where the result is an error
 pub no_claim : {T E : Type 0} (result : Result T E) (P : Type 0) → IsErr result → OnOk result P

@@ -5,7 +5,7 @@ use Rattle.store_model.specs.Parameters.{block_len, image_len, mark_at, slots_li
 use Rattle.store_model.specs.Images.{bytes_at, is_flag_set}
 use Rattle.disk_model.specs.DiskState.{DiskState, IsObservable}
 use Rattle.gate_journal.specs.Places.{AreCalls, ReadsOnly}
-use Rattle.gate_journal.specs.declared.cache.JournalCache.{JournalCache}
+use Rattle.gate_journal.specs.declared.journal_cache.JournalCache.{JournalCache}
 
 -- what the cache has is what the image has in its place
 pub record Agrees (image : List ℕ) (cache : JournalCache) : Type 0 where

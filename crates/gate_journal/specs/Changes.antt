@@ -39,14 +39,6 @@ pub record OutsideEntry (slots slot place : ℕ) : Type 0 where
   pub mark : IsApart (mark_at slot) 1 place
   pub shadow : IsApart (shadow_at slots slot) block_len place
 
--- a place outside the marks and the shadow blocks of the changed slots
-abbrev pub OutsideJournal : ℕ → Changes → ℕ → Type 0
-OutsideJournal slots changes place = (k : ℕ) → k < changes.count → OutsideEntry slots (changes.slot k) place
-
--- a place outside the changed slots of the table
-abbrev pub OutsideTable : ℕ → Changes → ℕ → Type 0
-OutsideTable slots changes place = (k : ℕ) → k < changes.count → IsApart (table_at slots (changes.slot k)) block_len place
-
 -- the mark and the shadow block of a slot
 pub record HasEntry (slots slot mark : ℕ) (shadow : List ℕ) (image : List ℕ) : Type 0 where
   pub mark_is : slice_index image (mark_at slot) ≡ mark

@@ -36,11 +36,6 @@ pub record MadeAtMost (writes syncs : ℕ) (old new : DiskState) : Type 0 where
   pub write_limit : min new.writes (2 ^ 64 - 1) ≤ raised_by old.writes writes
   pub sync_limit : min new.syncs (2 ^ 64 - 1) ≤ raised_by old.syncs syncs
 
--- opening an image makes just these writes and syncs, and with a fault no more
-pub record CountsOpening {T E : Type 0} (slots : ℕ) (old new : DiskState) (result : Result T E) : Type 0 where
-  pub made : OnOk result (Made (opening_writes slots old.bytes) (opening_syncs slots old.bytes) old new)
-  pub limit : MadeAtMost (opening_writes slots old.bytes) (opening_syncs slots old.bytes) old new
-
 -- a commit of so many slots makes just its writes and syncs, and with a fault no more
 pub record CountsCommit {T E : Type 0} (slots : ℕ) (old new : DiskState) (result : Result T E) : Type 0 where
   pub made : OnOk result (Made (commit_writes slots) (commit_syncs slots) old new)

@@ -1,7 +1,6 @@
 -- What writes that spare some places of a disk leave as it was.
-use Rattle.std.specs.Prelude.{◌≡◌, ◌⊎◌, ◌↔◌, ℕ, ◌+◌, ◌-◌, ◌^◌, min, ◌<◌, ◌≤◌, List, length, slice_index, Result, Ok, OnOk}
-use Rattle.store_base.specs.declared.fault.DiskFault.{DiskFault}
-use Rattle.disk_model.specs.DiskState.{DiskState, IsObservable}
+use Rattle.std.specs.Prelude.{◌≡◌, ◌⊎◌, ◌↔◌, ℕ, ◌+◌, ◌-◌, ◌^◌, min, ◌<◌, ◌≤◌, List, length, slice_index, Result, OnOk}
+use Rattle.disk_model.specs.DiskState.{DiskState}
 use Rattle.disk_model.specs.DiskCalls.{raised_by, faults_after, LeavesOnly}
 
 -- a place outside the range of n places from this one on
@@ -57,10 +56,6 @@ pub record Comes (places : ℕ → Type 0) (Done : List ℕ → Type 0) (writes 
   pub done : Done new.bytes
   pub made : Made writes 0 old new
 
--- what such a loop keeps: no call has failed so far, and a disk that tells its bytes has come so far
-abbrev pub ComesSoFar : (ℕ → Type 0) → (List ℕ → Type 0) → ℕ → DiskState → DiskState → Type 0
-ComesSoFar places Done writes old new = record { calls : AreCalls {T = Unit {0}} {E = DiskFault} old new (Ok tt); comes : IsObservable old → Comes places Done writes old new }
-
 -- Calls that read only: the disk reads the same, a crash may leave the same, and nothing was written or synced.
 pub record ReadsOnly (old new : DiskState) : Type 0 where
   pub leaves : LeavesOnly old new old.crash_images
@@ -72,8 +67,3 @@ pub record ReadsOnly (old new : DiskState) : Type 0 where
 -- n bytes of the image, from this place on, are zero
 abbrev pub IsZeroAt : ℕ → ℕ → List ℕ → Type 0
 IsZeroAt at n image = (place : ℕ) → at ≤ place → place < at + n → slice_index image place ≡ 0
-
--- What a loop over reads keeps: no call has failed so far, and a disk that tells its bytes was read only, and what was read
--- shows this of it.
-abbrev pub ReadsSoFar : Type 0 → DiskState → DiskState → Type 0
-ReadsSoFar Holds old new = record { calls : AreCalls {T = Unit {0}} {E = DiskFault} old new (Ok tt); reads : IsObservable old → ReadsOnly old new; holds : IsObservable old → Holds }

@@ -1,4 +1,5 @@
-//! What is written of the journal of an image: the entry of a slot, which is its shadow block and its mark, and the commit flag.
+//! What is written of the journal of an image: the entry of a slot, which is its shadow block and its mark, and the
+//! commit flag.
 ghost use Rattle.std.specs.Prelude.{◌≡◌, ℕ, ◌+◌, ◌<◌, ◌≤◌, [], ◌∷◌, OnOk};
 ghost use Rattle.store_model.specs.Parameters.{image_len, slots_limit, gate_at};
 ghost use Rattle.disk_model.specs.DiskState.{DiskState, IsObservable, IsDurable};

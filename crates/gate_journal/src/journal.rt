@@ -12,12 +12,12 @@ ghost use Rattle.sha2.specs.Sha256.{sha256};
 ghost use Rattle.gate_journal.specs.Wipes.{Wipes, block_count};
 ghost use Rattle.gate_journal.specs.Formats.{IsEmptyOrNone, Formats, faults_after_format};
 
-use crate::cache::JournalCache;
 use crate::changes::SlotChanges;
 use crate::commit::commit_changes;
 use crate::digest::digest_disk;
 use crate::fault::JournalFault;
 use crate::format::{is_image, write_image};
+use crate::journal_cache::JournalCache;
 use crate::recover::recover_durable;
 use crate::view::read_recovered;
 use crate::wipe::overwrite_disk;
@@ -63,13 +63,13 @@ impl Journal {
 
     /// Makes the image that a crash left what it recovers to.
     ///
-    /// It serves any disk of the length of the parameters, whether or not writes are pending. Each image that a crash at
-    /// any moment of the call may leave is one that a crash before it might have left, or has the disk's length and
+    /// It serves any disk of the length of the parameters, whether or not writes are pending. Each image that a crash
+    /// at any moment of the call may leave is one that a crash before it might have left, or has the disk's length and
     /// recovers to the same; what the disk reads recovers to the same, after `DiskFault` too, and then it is recovered
     /// again before it is used. After Ok the disk is durable and reads what it recovers to.
     ///
-    /// With an empty journal it makes one sync and no write. Otherwise it writes each marked slot and the flag, where the
-    /// flag is set, and each block of the journal that is not zero, once.
+    /// With an empty journal it makes one sync and no write. Otherwise it writes each marked slot and the flag, where
+    /// the flag is set, and each block of the journal that is not zero, once.
     pub fn recover<D: Disk>(disk: &mut D, params: &Params) -> Result<(), DiskFault>
         requires { (D.state disk.old).size ≡ image_len params.now.slots }
         ensures calls { AreCalls (D.state disk.old) (D.state disk.new) result }
@@ -152,11 +152,12 @@ impl Journal {
     {
         read_recovered(disk, &mut JournalCache::new(), params.slots(), at, into)
     }
+
     /// Fills the disk with zeros, however long it is, and the first byte before all others.
     ///
-    /// What the disk reads is then as it was with any first byte, or begins with zero, after `DiskFault` too. If nothing
-    /// was pending before, so is each image that a crash at any moment of the call may leave. After Ok every byte is zero
-    /// and durable, whatever was pending before. On a disk of no byte nothing is called.
+    /// What the disk reads is then as it was with any first byte, or begins with zero, after `DiskFault` too. If
+    /// nothing was pending before, so is each image that a crash at any moment of the call may leave. After Ok every
+    /// byte is zero and durable, whatever was pending before. On a disk of no byte nothing is called.
     pub fn wipe<D: Disk>(disk: &mut D) -> Result<(), DiskFault>
         ensures calls { AreCalls (D.state disk.old) (D.state disk.new) result }
         ensures wipes { IsObservable (D.state disk.old) → Wipes (D.state disk.old) (D.state disk.new) result }

@@ -6,7 +6,7 @@ ghost use Rattle.disk_model.specs.DiskState.{DiskState, IsObservable};
 ghost use Rattle.gate_journal.specs.Caches.{IsJournalCacheOf, HasSlot, ReadsJournal};
 ghost use Rattle.gate_journal.specs.ViewState.{viewed, viewed_count, viewed_whole, KeepsView, KeepsView-refl, KeepsView-trans};
 
-use crate::cache::JournalCache;
+use crate::journal_cache::JournalCache;
 use disk_model::Disk;
 use store_base::{DiskFault, Fault, Params, ReadSlots, shadow_at, table_at};
 use store_model::Slot;

@@ -64,6 +64,15 @@ impl Ord for Ranked<'_> {
     }
 }
 
+/// Says what the types of a key and of a value know, that the two are a pair. It costs nothing: a proof has it only
+/// from calls that promise it, and none of the bytes is read.
+fn reveal(pair: &(Key, Value))
+    ensures { IsPair pair.now }
+{
+    let _ = pair.0.as_bytes();
+    let _ = pair.1.as_slice();
+}
+
 /// The pairs as they come, each with the level of its key.
 fn ranked_pairs<'a, W: Draw>(
     alloc: Global,
@@ -76,8 +85,7 @@ fn ranked_pairs<'a, W: Draw>(
 {
     let mut ranked = Vec::with_capacity(alloc, pairs.len() as usize)?;
     for pair in pairs.as_slice() {
-        let _ = pair.0.as_bytes();
-        let _ = pair.1.as_slice();
+        reveal(pair);
         ranked.push(Ranked {
             pair,
             level: draw.level(&pair.0),

@@ -12,8 +12,8 @@ const LABEL_AT: usize = 1;
 
 const LABEL_END: usize = 131;
 
-/// How the label of the page in a slot stands to the one of these bytes; `None` for a free slot. No label is decoded, and
-/// the cells are not looked at.
+/// How the label of the page in a slot stands to the one of these bytes; `None` for a free slot. No label is decoded,
+/// and the cells are not looked at.
 pub fn order_of(slot: &Slot, wanted: &[u8]) -> Option<Ordering>
     ensures { TellsOrder slot.now wanted.now result }
 {
@@ -25,8 +25,8 @@ pub fn order_of(slot: &Slot, wanted: &[u8]) -> Option<Ordering>
 
 /// Slots whose labels can be compared.
 pub trait OrderSlots: ReadSlots + Sized {
-    /// How the label of the page in slot `at` stands to the one of these bytes; `None` for a free slot. After a fault the
-    /// slots are as they were.
+    /// How the label of the page in slot `at` stands to the one of these bytes; `None` for a free slot. After a fault
+    /// the slots are as they were.
     ///
     /// Slots that lie in memory need not copy theirs for it.
     fn order(&mut self, at: u32, wanted: &[u8; 130]) -> Result<Option<Ordering>, Fault>

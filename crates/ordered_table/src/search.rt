@@ -13,8 +13,8 @@ use store_base::{Fault, Label, ReadSlots};
 
 /// Whether slot `at` holds the page of the label. A fault of the slots ends the call; it writes nothing.
 ///
-/// Nothing is drawn: the draw is there for the contract, which tells of a table that is placed by it, and so rests on its
-/// law. There have to be as many slots as the draw's.
+/// Nothing is drawn: the draw is there for the contract, which tells of a table that is placed by it, and so rests on
+/// its law. There have to be as many slots as the draw's.
 pub fn holds<S: OrderSlots, W: Draw>(
     slots: &mut S,
     _draw: &W,

@@ -9,12 +9,12 @@ use Rattle.store_model.specs.Draws.{Draw}
 use Rattle.store_model.specs.Pages.{Page}
 use Rattle.store_model.specs.PageMaps.{PageMap, page_at, without_page, HoldsPages}
 use Rattle.store_base.specs.declared.store_fault.Fault.{Fault}
-use Rattle.store_base.specs.SlotsState.{SlotsState}
+use Rattle.store_base.specs.SlotsState.{SlotsState, IsObservable, AreSlotCalls}
 use Rattle.store_base.proofs.SlotsCalls.{AreSlotCalls-none, AreSlotCalls-then, AreSlotCalls-value, AreSlotCalls-fault, IsObservable-later}
 use Rattle.ordered_table.specs.Tables.{IsSlotWith, Removes}
 use Rattle.page_store.specs.Lookups.{Locates}
 use Rattle.table_memory.specs.Staging.{StagedPages}
-use Rattle.page_store.specs.Carrying.{TakesPage, taken_by, TakesPages, TakingPages}
+use Rattle.page_store.specs.Carrying.{TakesPage, taken_by, TakesPages}
 use Rattle.table_memory.proofs.ChangeLemmas.{same_when_tied}
 
 -- where there is no page under a label nothing is taken out
@@ -53,6 +53,17 @@ pub failed_taken : (d : Draw) (old mid : SlotsState) (l : Label) (fault : Fault)
 failed_taken d old mid l fault located = record { calls = AreSlotCalls-fault old mid fault located.calls; taken = λ m observable holds. tt }
 
 -- ---- the loop that takes pages away
+
+-- slots that hold a map from which the changes that are left lead to where all of them lead from the first one
+pub record LeadsOn (d : Draw) (slots : List (List ℕ)) (m : PageMap) (all rest : StagedPages) : Type 0 where
+  pub now : PageMap
+  pub holds : HoldsPages d slots now
+  pub leads : taken_by now rest ≡ taken_by m all
+
+-- a loop that takes them away has come so far
+pub record TakingPages (d : Draw) (old now : SlotsState) (all rest : StagedPages) : Type 0 where
+  pub calls : AreSlotCalls {T = Unit {0}} old now (Ok tt)
+  pub leads : (m : PageMap) → IsObservable old → HoldsPages d old.slots m → LeadsOn d now.slots m all rest
 
 pub some_of : (o : Option Page) → is_some o ≡ true → (page : Page) × (o ≡ Some page)
 some_of None e = absurd (cc)

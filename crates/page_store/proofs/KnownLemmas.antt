@@ -7,17 +7,16 @@ use Rattle.store_model.specs.Pages.{Page}
 use Rattle.store_model.specs.PageMaps.{HoldsPages}
 use Rattle.store_base.specs.SlotsState.{SlotsState, IsObservable}
 use Rattle.store_base.proofs.SlotsCalls.{AreSlotCalls-none}
-use Rattle.table_memory.specs.Memos.{Remembered, IsRemembered, IsRemembered, IsMemoOf, RemembersMore}
+use Rattle.table_memory.specs.Memos.{Remembered, IsRemembered, IsKnownPage, IsMemoOf, RemembersMore}
 use Rattle.table_memory.specs.Staging.{StagedPages}
-use Rattle.page_store.specs.Lookups.{Reads, ReadsChanged}
-use Rattle.page_store.proofs.LookupLemmas.{staged_read, settled_read}
+use Rattle.page_store.proofs.LookupLemmas.{Reads, ReadsChanged, staged_read, settled_read}
 
 -- what is remembered of a label needs no read
 pub recalled : (d : Draw) (slots : SlotsState) (memo : Remembered) (l : Label) (page : Option Page) → IsMemoOf d slots memo → IsRemembered memo l page → Reads d slots slots l (Ok page)
 recalled d slots memo l page of is = record { calls = AreSlotCalls-none slots page; reads = λ observable. refl; found = λ m observable holds. of.tells m observable holds l page is }
 
 -- nor does what is known of it
-pub known_read : (d : Draw) (slots : SlotsState) (changes : StagedPages) (memo : Remembered) (l : Label) (page : Option Page) → IsMemoOf d slots memo → IsRemembered changes memo l page → ReadsChanged d slots slots changes l (Ok page)
+pub known_read : (d : Draw) (slots : SlotsState) (changes : StagedPages) (memo : Remembered) (l : Label) (page : Option Page) → IsMemoOf d slots memo → IsKnownPage changes memo l page → ReadsChanged d slots slots changes l (Ok page)
 known_read d slots changes memo l page of known = elim known [
   | inl staged ↦ staged_read d slots changes l page (sym staged)
   | inr before ↦ settled_read d slots slots changes l (Ok page) (sym before.0) (recalled d slots memo l page of before.1)

@@ -8,11 +8,11 @@ use Rattle.store_model.specs.Draws.{Draw}
 use Rattle.store_model.specs.Pages.{Page}
 use Rattle.store_model.specs.PageMaps.{PageMap, page_at, with_page, HoldsPages}
 use Rattle.store_base.specs.declared.store_fault.Fault.{Fault}
-use Rattle.store_base.specs.SlotsState.{SlotsState}
+use Rattle.store_base.specs.SlotsState.{SlotsState, IsObservable, AreSlotCalls}
 use Rattle.store_base.proofs.SlotsCalls.{AreSlotCalls-none, AreSlotCalls-then, AreSlotCalls-fault, IsObservable-later}
 use Rattle.ordered_table.specs.Tables.{IsSlotWith, Overwrites, Inserts}
 use Rattle.page_store.specs.Lookups.{Locates}
-use Rattle.page_store.specs.Carrying.{LaysPage, laid_by, LaysPages, LayingPages}
+use Rattle.page_store.specs.Carrying.{LaysPage, laid_by, LaysPages}
 
 -- ---- one page
 
@@ -62,6 +62,17 @@ laid_grows m (Some page ∷ pages) = let rest = laid_grows (with_page m page) pa
 
 new_grows : (m : PageMap) (page : Page) → page_at m page.label ≡ None → maps.len (with_page m page) ≡ maps.len m + 1
 new_grows m page none = len-insert nat_list_cmp_total m (label_bytes page.label) page ∙ ap (λ (o : Option Page). cond (is_some o) (maps.len m) (maps.len m + 1)) none
+
+-- slots that hold a map from which the pages that are left lead to where all of them lead from the first one
+pub record LeadsIn (d : Draw) (slots : List (List ℕ)) (m : PageMap) (all rest : List (Option Page)) : Type 0 where
+  pub now : PageMap
+  pub holds : HoldsPages d slots now
+  pub leads : laid_by now rest ≡ laid_by m all
+
+-- a loop that lays them in has come so far
+pub record LayingPages (d : Draw) (old now : SlotsState) (all rest : List (Option Page)) : Type 0 where
+  pub calls : AreSlotCalls {T = Unit {0}} old now (Ok tt)
+  pub leads : (m : PageMap) → IsObservable old → HoldsPages d old.slots m → maps.len (laid_by m all) ≤ d.slots → LeadsIn d now.slots m all rest
 
 pub laying_begins : (d : Draw) (slots : SlotsState) (all : List (Option Page)) → LayingPages d slots slots all all
 laying_begins d slots all = record { calls = AreSlotCalls-none slots tt; leads = λ m observable holds room. record { now = m; holds = holds; leads = refl } }

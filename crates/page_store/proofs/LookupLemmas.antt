@@ -1,5 +1,5 @@
 -- Lemmas on what is found of a label.
-use Rattle.std.proofs.Common.{◌≡◌, ◌↔◌, ℕ, ◌<◌, Bool, true, false, List, Option, Some, None, IsNone, IfSome, Result, Ok, Err, is_some, slice_get, refl, sym, ap, subst, ◌∙◌}
+use Rattle.std.proofs.Common.{◌≡◌, ◌↔◌, ℕ, ◌<◌, Bool, true, false, List, Option, Some, None, IsNone, IfSome, IfOk, Result, Ok, Err, is_some, slice_get, refl, sym, ap, subst, ◌∙◌}
 use Rattle.std.proofs.lemmas.Option.{same_Some, none-some}
 use Rattle.std.specs.Map.{lookup}
 use Rattle.std.specs.BTreeMap.{is_at}
@@ -9,12 +9,24 @@ use Rattle.store_model.specs.Pages.{Page, IsPage}
 use Rattle.store_model.specs.Images.{page_bytes, slot_bytes}
 use Rattle.store_model.specs.PageMaps.{PageMap, page_at, HoldsPages}
 use Rattle.store_base.specs.declared.store_fault.Fault.{Fault}
-use Rattle.store_base.specs.SlotsState.{SlotsState, IsObservable, IsGet}
+use Rattle.store_base.specs.SlotsState.{SlotsState, IsObservable, AreSlotCalls, IsGet}
 use Rattle.store_base.proofs.SlotsCalls.{AreSlotCalls-none, AreSlotCalls-then, AreSlotCalls-value, AreSlotCalls-fault, IsObservable-later}
 use Rattle.ordered_table.specs.Tables.{IsSlotWith, Looks}
 use Rattle.table_memory.specs.Staging.{StagedPages, with_changes}
-use Rattle.page_store.specs.Lookups.{Consults, Locates, LocatesAgain, Reads, ReadsChanged, LooksUp}
+use Rattle.page_store.specs.Lookups.{Consults, Locates, LocatesAgain, LooksUp}
 use Rattle.table_memory.proofs.ChangeLemmas.{page_or, page_at-with_changes}
+
+-- a read of the page of a label
+pub record Reads (d : Draw) (old new : SlotsState) (l : Label) (result : Result (Option Page) Fault) : Type 0 where
+  pub calls : AreSlotCalls old new result
+  pub reads : IsObservable old → new.slots ≡ old.slots
+  pub found : (m : PageMap) → IsObservable old → HoldsPages d old.slots m → IfOk result (λ page. page ≡ page_at m l)
+
+-- a read of the page of a label, with changes
+pub record ReadsChanged (d : Draw) (old new : SlotsState) (changes : StagedPages) (l : Label) (result : Result (Option Page) Fault) : Type 0 where
+  pub calls : AreSlotCalls old new result
+  pub reads : IsObservable old → new.slots ≡ old.slots
+  pub found : (m : PageMap) → IsObservable old → HoldsPages d old.slots m → IfOk result (λ page. page ≡ page_at (with_changes m changes) l)
 
 -- the page in the slot that was found
 pub page_read : (d : Draw) (old mid new : SlotsState) (l : Label) (at : ℕ) (buffer : List ℕ) (page : Option Page) → Locates d old mid l (Ok (Some at)) → IsGet {T = Unit {0}} mid new at buffer (Ok tt)

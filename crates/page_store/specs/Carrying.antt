@@ -1,5 +1,5 @@
 -- How changes are carried out on slots.
-use Rattle.std.specs.Prelude.{◌≡◌, ◌<◌, ◌≤◌, ℕ, List, [], ◌∷◌, Option, Some, None, Result, Ok, OnOk}
+use Rattle.std.specs.Prelude.{◌≡◌, ◌<◌, ◌≤◌, ℕ, List, [], ◌∷◌, Option, Some, None, Result, OnOk}
 use Rattle.std.specs.FinMap as maps
 use Rattle.store_model.specs.Labels.{Label}
 use Rattle.store_model.specs.Draws.{Draw}
@@ -29,21 +29,10 @@ abbrev pub taken_by : PageMap → StagedPages → PageMap
 taken_by m [] = m
 taken_by m (change ∷ changes) = taken_by (taken_one m change.0 change.1) changes
 
--- slots that hold a map from which the changes that are left lead to where all of them lead from the first one
-pub record LeadsOn (d : Draw) (slots : List (List ℕ)) (m : PageMap) (all rest : StagedPages) : Type 0 where
-  pub now : PageMap
-  pub holds : HoldsPages d slots now
-  pub leads : taken_by now rest ≡ taken_by m all
-
 -- the pages of labels that changes leave without one are taken away
 pub record TakesPages {T : Type 0} (d : Draw) (old new : SlotsState) (changes : StagedPages) (result : Result T Fault) : Type 0 where
   pub calls : AreSlotCalls old new result
   pub taken : (m : PageMap) → IsObservable old → HoldsPages d old.slots m → OnOk result (HoldsPages d new.slots (taken_by m changes))
-
--- a loop that takes them away has come so far
-pub record TakingPages (d : Draw) (old now : SlotsState) (all rest : StagedPages) : Type 0 where
-  pub calls : AreSlotCalls {T = Unit {0}} old now (Ok tt)
-  pub leads : (m : PageMap) → IsObservable old → HoldsPages d old.slots m → LeadsOn d now.slots m all rest
 
 -- what a change has under its label, a page or none, put into the map
 abbrev pub laid_one : PageMap → Option Page → PageMap
@@ -55,21 +44,10 @@ abbrev pub laid_by : PageMap → List (Option Page) → PageMap
 laid_by m [] = m
 laid_by m (page ∷ pages) = laid_by (laid_one m page) pages
 
--- slots that hold a map from which the pages that are left lead to where all of them lead from the first one
-pub record LeadsIn (d : Draw) (slots : List (List ℕ)) (m : PageMap) (all rest : List (Option Page)) : Type 0 where
-  pub now : PageMap
-  pub holds : HoldsPages d slots now
-  pub leads : laid_by now rest ≡ laid_by m all
-
 -- pages are laid in; with all of them there have to be no more pages than slots
 pub record LaysPages {T : Type 0} (d : Draw) (old new : SlotsState) (pages : List (Option Page)) (result : Result T Fault) : Type 0 where
   pub calls : AreSlotCalls old new result
   pub laid : (m : PageMap) → IsObservable old → HoldsPages d old.slots m → maps.len (laid_by m pages) ≤ d.slots → OnOk result (HoldsPages d new.slots (laid_by m pages))
-
--- a loop that lays them in has come so far
-pub record LayingPages (d : Draw) (old now : SlotsState) (all rest : List (Option Page)) : Type 0 where
-  pub calls : AreSlotCalls {T = Unit {0}} old now (Ok tt)
-  pub leads : (m : PageMap) → IsObservable old → HoldsPages d old.slots m → maps.len (laid_by m all) ≤ d.slots → LeadsIn d now.slots m all rest
 
 -- changes are carried out on slots; with them the map has to have each page under its label, and no more pages than slots
 pub record LaysChanges {T : Type 0} (d : Draw) (old new : SlotsState) (changes : StagedPages) (result : Result T Fault) : Type 0 where

@@ -1,5 +1,5 @@
 -- The codes of a map of pages and of staged pages, by which proofs tell them apart.
-use Rattle.std.specs.Prelude.{◌≡◌, ℕ, Bool, true, false, List, refl}
+use Rattle.std.specs.Prelude.{◌≡◌, ℕ, Bool, List, [], ◌∷◌, slice_index_or, refl}
 use Rattle.std.specs.Coded.{Coded, code_by, coded×, coded_ℕ, coded_bool, coded_list}
 use Rattle.std.specs.FinMap as maps
 use Rattle.store_model.specs.declared.draw_kind.DrawKind.{DrawKind}
@@ -12,20 +12,23 @@ use Rattle.page_store.specs.StagedState.{StagedState}
 abbrev pub page_map_code : Coded PageMap
 page_map_code = maps.code (coded_list coded_ℕ) page_code
 
-abbrev pub bit_of_kind : DrawKind → Bool
-bit_of_kind Ruler = false
-bit_of_kind Sha256 = true
+-- every kind of draw; its number is its place here, so that a kind more is a line more in each of these
+abbrev pub kinds : List DrawKind
+kinds = Ruler ∷ Sha256 ∷ []
 
-abbrev pub kind_of_bit : Bool → DrawKind
-kind_of_bit false = Ruler
-kind_of_bit true = Sha256
+abbrev pub number_of_kind : DrawKind → ℕ
+number_of_kind Ruler = 0
+number_of_kind Sha256 = 1
 
-abbrev pub kind_again : (kind : DrawKind) → kind_of_bit (bit_of_kind kind) ≡ kind
+abbrev pub kind_of_number : ℕ → DrawKind
+kind_of_number n = slice_index_or kinds n Ruler
+
+abbrev pub kind_again : (kind : DrawKind) → kind_of_number (number_of_kind kind) ≡ kind
 kind_again Ruler = refl
 kind_again Sha256 = refl
 
 abbrev pub kind_code : Coded DrawKind
-kind_code = code_by Bool coded_bool bit_of_kind kind_of_bit kind_again
+kind_code = code_by ℕ coded_ℕ number_of_kind kind_of_number kind_again
 
 abbrev pub parameters_code : Coded Parameters
 parameters_code =

@@ -34,18 +34,6 @@ pub record LocatesAgain (d : Draw) (old new : SlotsState) (l : Label) (result : 
   pub within : IfOk result (λ found. IfSome found (λ at. at < old.count))
   pub found : (m : PageMap) → IsObservable old → HoldsPages d old.slots m → IfOk result (λ found. IfSome found (IsSlotWith old.slots m l))
 
--- a read of the page of a label
-pub record Reads (d : Draw) (old new : SlotsState) (l : Label) (result : Result (Option Page) Fault) : Type 0 where
-  pub calls : AreSlotCalls old new result
-  pub reads : IsObservable old → new.slots ≡ old.slots
-  pub found : (m : PageMap) → IsObservable old → HoldsPages d old.slots m → IfOk result (λ page. page ≡ page_at m l)
-
--- a read of the page of a label, with changes
-pub record ReadsChanged (d : Draw) (old new : SlotsState) (changes : StagedPages) (l : Label) (result : Result (Option Page) Fault) : Type 0 where
-  pub calls : AreSlotCalls old new result
-  pub reads : IsObservable old → new.slots ≡ old.slots
-  pub found : (m : PageMap) → IsObservable old → HoldsPages d old.slots m → IfOk result (λ page. page ≡ page_at (with_changes m changes) l)
-
 -- a search that tells whether there is a page under a label, with changes
 pub record LooksUp (d : Draw) (old new : SlotsState) (changes : StagedPages) (l : Label) (result : Result Bool Fault) : Type 0 where
   pub calls : AreSlotCalls old new result

@@ -7,7 +7,7 @@ use Rattle.store_model.specs.Pages.{Cell, Page}
 use Rattle.store_model.specs.PageMaps.{PageMap}
 use Rattle.node_pages.specs.Insertions.{TakesCell, with_cell}
 use Rattle.node_pages.specs.PagesState.{PagesState, IsObservable}
-use Rattle.table_memory.specs.Memos.{Remembered, IsRemembered}
+use Rattle.table_memory.specs.Memos.{Remembered, IsKnownPage}
 use Rattle.table_memory.specs.Staging.{StagedPages, with_change, with_changes}
 
 -- what it does to observable pages; one that fails leaves them
@@ -33,6 +33,6 @@ pub record InsertsCell (old new : Option Page) (at : ℕ) (cell : Cell) : Type 0
 -- a page is known of the label, and over each map that page with one cell more is staged under it
 pub record StagesCell (old new : StagedPages) (memo : Remembered) (l : Label) (at : ℕ) (cell : Cell) : Type 0 where
   pub page : Page
-  pub known : IsRemembered old memo l (Some page)
+  pub known : IsKnownPage old memo l (Some page)
   pub takes : TakesCell page at cell
   pub staged : (m : PageMap) → with_changes m new ≡ with_change (with_changes m old) l (Some (with_cell page at cell))

@@ -4,33 +4,30 @@ ghost use Rattle.std.specs.Prelude.{◌≡◌};
 ghost use Rattle.std.specs.BTreeMap.{IsOrdered, values};
 ghost use Rattle.store_model.specs.Labels.{label_cmp};
 ghost use Rattle.page_store.specs.Carrying.{TakesPage, LaysPage, TakesPages, LaysPages, LaysChanges};
-ghost use Rattle.table_memory.specs.Starts.{AreStarts};
 
-use crate::search::locate;
+use crate::changes::Changes;
+use crate::locate::locate;
 use node_pages::Page;
 use ordered_table::{OrderSlots, insert_from, overwrite};
 use seeded_draw::Draw;
 use shift_remove::remove;
-use std::collections::BTreeMap;
 use store_base::{Fault, Label, Slots};
-use table_memory::{Boxed, Hints};
+use table_memory::Finder;
 
 /// Takes the page of the label away from the slots, if they hold one. A fault of the slots ends the call; nothing is
 /// promised of the slots after it.
 fn take_page<S: Slots + OrderSlots, W: Draw>(
     slots: &mut S,
-    draw: &W,
-    hints: &mut Hints,
+    finder: &mut Finder<W>,
     label: &Label,
 ) -> Result<(), Fault>
-    requires count { (S.ReadSlots.state slots.old).count ≡ (W.drawn draw.now).slots }
-    requires starts { AreStarts (W.drawn draw.now) hints.old }
-    ensures call { TakesPage (W.drawn draw.now) (S.ReadSlots.state slots.old) (S.ReadSlots.state slots.new) label.now result }
+    requires { (S.ReadSlots.state slots.old).count ≡ (W.drawn finder.old.draw).slots }
+    ensures call { TakesPage (W.drawn finder.old.draw) (S.ReadSlots.state slots.old) (S.ReadSlots.state slots.new) label.now result }
     ensures follows { S.ReadSlots.follows slots.old slots.new }
-    ensures starts { AreStarts (W.drawn draw.now) hints.new }
+    ensures draw { finder.new.draw ≡ finder.old.draw }
 {
-    match locate(slots, draw, hints, label)? {
-        Some(at) => remove(slots, draw, at),
+    match locate(slots, finder, label)? {
+        Some(at) => remove(slots, &finder.draw, at),
         None => Ok(()),
     }
 }
@@ -39,46 +36,42 @@ fn take_page<S: Slots + OrderSlots, W: Draw>(
 /// slot. A fault of the slots ends the call; nothing is promised of the slots after it.
 fn lay_page<S: Slots + OrderSlots, W: Draw>(
     slots: &mut S,
-    draw: &W,
-    hints: &mut Hints,
+    finder: &mut Finder<W>,
     page: &Page,
 ) -> Result<(), Fault>
-    requires count { (S.ReadSlots.state slots.old).count ≡ (W.drawn draw.now).slots }
-    requires starts { AreStarts (W.drawn draw.now) hints.old }
-    ensures call { LaysPage (W.drawn draw.now) (S.ReadSlots.state slots.old) (S.ReadSlots.state slots.new) page.now result }
+    requires { (S.ReadSlots.state slots.old).count ≡ (W.drawn finder.old.draw).slots }
+    ensures call { LaysPage (W.drawn finder.old.draw) (S.ReadSlots.state slots.old) (S.ReadSlots.state slots.new) page.now result }
     ensures follows { S.ReadSlots.follows slots.old slots.new }
-    ensures starts { AreStarts (W.drawn draw.now) hints.new }
+    ensures draw { finder.new.draw ≡ finder.old.draw }
 {
     let label = page.label();
-    match locate(slots, draw, hints, &label)? {
-        Some(at) => overwrite(slots, draw, at, page),
+    match locate(slots, finder, &label)? {
+        Some(at) => overwrite(slots, &finder.draw, at, page),
         None => {
-            let start = hints.start(draw, &label);
+            let start = finder.start(&label);
             // A new page mostly comes to its start.
-            hints.keep(&label, Some(start));
-            insert_from(slots, draw, start, page)
+            finder.keep(&label, Some(start));
+            insert_from(slots, &finder.draw, start, page)
         }
     }
 }
 
-/// Takes the pages of the labels away that the changes leave without one. A fault of the slots ends the call; nothing is
-/// promised of the slots after it.
+/// Takes the pages of the labels away that the changes leave without one. A fault of the slots ends the call; nothing
+/// is promised of the slots after it.
 fn take_pages<S: Slots + OrderSlots, W: Draw>(
     slots: &mut S,
-    draw: &W,
-    hints: &mut Hints,
-    changes: &BTreeMap<Label, Option<Boxed<Page>>>,
+    finder: &mut Finder<W>,
+    changes: &Changes,
 ) -> Result<(), Fault>
-    requires count { (S.ReadSlots.state slots.old).count ≡ (W.drawn draw.now).slots }
-    requires starts { AreStarts (W.drawn draw.now) hints.old }
-    ensures call { TakesPages (W.drawn draw.now) (S.ReadSlots.state slots.old) (S.ReadSlots.state slots.new) changes.now.entries result }
-    ensures ordered { IsOrdered label_cmp changes.now }
+    requires { (S.ReadSlots.state slots.old).count ≡ (W.drawn finder.old.draw).slots }
+    ensures call { TakesPages (W.drawn finder.old.draw) (S.ReadSlots.state slots.old) (S.ReadSlots.state slots.new) changes.now.pages.entries result }
+    ensures ordered { IsOrdered label_cmp changes.now.pages }
     ensures follows { S.ReadSlots.follows slots.old slots.new }
-    ensures starts { AreStarts (W.drawn draw.now) hints.new }
+    ensures draw { finder.new.draw ≡ finder.old.draw }
 {
-    for (label, change) in changes {
+    for (label, change) in &changes.pages {
         if change.is_none() {
-            take_page(slots, draw, hints, label)?;
+            take_page(slots, finder, label)?;
         }
     }
     Ok(())
@@ -88,39 +81,35 @@ fn take_pages<S: Slots + OrderSlots, W: Draw>(
 /// the slots ends the call; nothing is promised of the slots after it.
 fn lay_pages<S: Slots + OrderSlots, W: Draw>(
     slots: &mut S,
-    draw: &W,
-    hints: &mut Hints,
-    changes: &BTreeMap<Label, Option<Boxed<Page>>>,
+    finder: &mut Finder<W>,
+    changes: &Changes,
 ) -> Result<(), Fault>
-    requires count { (S.ReadSlots.state slots.old).count ≡ (W.drawn draw.now).slots }
-    requires starts { AreStarts (W.drawn draw.now) hints.old }
-    ensures call { LaysPages (W.drawn draw.now) (S.ReadSlots.state slots.old) (S.ReadSlots.state slots.new) (values changes.now) result }
+    requires { (S.ReadSlots.state slots.old).count ≡ (W.drawn finder.old.draw).slots }
+    ensures call { LaysPages (W.drawn finder.old.draw) (S.ReadSlots.state slots.old) (S.ReadSlots.state slots.new) (values changes.now.pages) result }
     ensures follows { S.ReadSlots.follows slots.old slots.new }
-    ensures starts { AreStarts (W.drawn draw.now) hints.new }
+    ensures draw { finder.new.draw ≡ finder.old.draw }
 {
-    for change in changes.values() {
+    for change in changes.pages.values() {
         if let Some(page) = change {
-            lay_page(slots, draw, hints, page.get())?;
+            lay_page(slots, finder, page.get())?;
         }
     }
     Ok(())
 }
 
-/// Carries the changes out: takes away the pages that go, and then lays in those that come, so that the slots never hold
-/// more pages than before the call or after it. A fault of the slots ends the call; nothing is promised of the slots after
-/// it.
+/// Carries the changes out: takes away the pages that go, and then lays in those that come, so that the slots never
+/// hold more pages than before the call or after it. A fault of the slots ends the call; nothing is promised of the
+/// slots after it.
 pub fn lay_changes<S: Slots + OrderSlots, W: Draw>(
     slots: &mut S,
-    draw: &W,
-    hints: &mut Hints,
-    changes: &BTreeMap<Label, Option<Boxed<Page>>>,
+    finder: &mut Finder<W>,
+    changes: &Changes,
 ) -> Result<(), Fault>
-    requires count { (S.ReadSlots.state slots.old).count ≡ (W.drawn draw.now).slots }
-    requires starts { AreStarts (W.drawn draw.now) hints.old }
-    ensures call { LaysChanges (W.drawn draw.now) (S.ReadSlots.state slots.old) (S.ReadSlots.state slots.new) changes.now.entries result }
+    requires { (S.ReadSlots.state slots.old).count ≡ (W.drawn finder.old.draw).slots }
+    ensures call { LaysChanges (W.drawn finder.old.draw) (S.ReadSlots.state slots.old) (S.ReadSlots.state slots.new) changes.now.pages.entries result }
     ensures follows { S.ReadSlots.follows slots.old slots.new }
-    ensures starts { AreStarts (W.drawn draw.now) hints.new }
+    ensures draw { finder.new.draw ≡ finder.old.draw }
 {
-    take_pages(slots, draw, hints, changes)?;
-    lay_pages(slots, draw, hints, changes)
+    take_pages(slots, finder, changes)?;
+    lay_pages(slots, finder, changes)
 }

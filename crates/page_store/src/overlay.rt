@@ -17,8 +17,8 @@ use store_base::{Fault, Params, ReadSlots, Slots};
 use store_model::Slot;
 use table_memory::{Boxed, SlotCache, Spares, read_slot, tell_slot};
 
-/// The slots of the table of a disk, of which those that were written are kept in memory, and those that were read last.
-/// The disk is only read.
+/// The slots of the table of a disk, of which those that were written are kept in memory, and those that were read
+/// last. The disk is only read.
 #[derive(Drop)]
 pub struct Overlay<D: Disk> {
     /// Where memory is taken.
@@ -42,8 +42,8 @@ pub struct Overlay<D: Disk> {
 impl<D: Disk> Overlay<D> {
     ghost use Rattle.page_store.specs.Overlays.{disk_of, params_of, touched_of};
 
-    /// The slots as the disk has them. The disk has the length of these parameters, and what the cache keeps are slots of
-    /// its table.
+    /// The slots as the disk has them. The disk has the length of these parameters, and what the cache keeps are slots
+    /// of its table.
     pub fn new(alloc: Global, disk: D, params: &Params, cache: SlotCache) -> Overlay<D>
         requires size { (D.state disk).size ≡ image_len params.now.slots }
         requires cached { IsSlotCacheOf params.now.slots (D.state disk) cache }

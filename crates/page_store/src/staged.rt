@@ -1,62 +1,48 @@
 //! The staged pages.
 
 ghost use Rattle.std.specs.Prelude.{[], ◌≡◌, ◌≢◌, ◌↔◌, ◌≤◌, ◌<◌, ℕ, Bool, true, false, min, None, Some, IsSome, IfOk, Ok, OnOk, OnErr};
-ghost use Rattle.std.specs.BTreeMap.{insert_entry};
 ghost use Rattle.std.specs.FinMap as maps;
 ghost use Rattle.store_base.specs.Faults.{disk_faults_after};
-ghost use Rattle.store_model.specs.Labels.{label_bytes, label_cmp};
+ghost use Rattle.store_model.specs.Labels.{label_bytes};
 ghost use Rattle.store_model.specs.Parameters.{image_len};
 ghost use Rattle.disk_model.specs.DiskState.{IsObservable};
 ghost use Rattle.sha2.specs.Sha256.{sha256};
 ghost use Rattle.gate_journal.specs.Places.{AreCalls, ReadsOnly};
-ghost use Rattle.store_model.specs.Pages as model;
 ghost use Rattle.store_model.specs.PageMaps.{PageMap, IsPageMap, page_at};
-ghost use Rattle.node_pages.specs.Insertions.{TakesCell};
 ghost use Rattle.node_pages.specs.PagesState.{IsPageGet, IsPagePut, IsPageDrop, looked_at, most_pages};
-ghost use Rattle.table_memory.specs.Memos.{Remembered, memo_place, staged_at, IsMemoOf};
-ghost use Rattle.table_memory.specs.Starts.{AreStarts};
-ghost use Rattle.table_memory.specs.OverlayState.{overlaid};
+ghost use Rattle.table_memory.specs.Memos.{memo_place};
 ghost use Rattle.page_store.specs.PageImages.{pages_in_table, SlotStandsAt};
 ghost use Rattle.table_memory.specs.Staging.{with_change, used_after};
-ghost use Rattle.page_store.specs.Stagings.{InsertsCell, StagesCell};
 ghost use Rattle.page_store.specs.Settling.{Settles};
 
-use crate::commit::commit_slots;
-use crate::compare::find_slots;
+use crate::changes::Changes;
 use crate::fault::SettleFault;
+use crate::lookup::Lookup;
 use crate::overlay::Overlay;
-use crate::search::{has_page, known, learn};
+use crate::prepare::find_slots;
+use crate::write_back::commit_slots;
 use disk_model::Disk;
 use gate_journal::Journal;
 use node_pages::{Cell, Page, Pages};
 use seeded_draw::Draw;
 use std::alloc::Global;
-use std::collections::BTreeMap;
 use std::marker::Model;
-use store_base::{DiskFault, Fault, Label, NoMemory, Params};
-use table_memory::{Boxed, Hints, PageMemo, SlotCache, Spares, behind, empty, memo_place};
+use store_base::{DiskFault, Fault, Label, Params};
+use table_memory::{Boxed, Finder, PageMemo, SlotCache, behind, empty, memo_place};
 
-/// The pages in the table of an image, with changes that are not settled yet. Contracts see it as one record: the map of
-/// the pages now, that of the pages in the table, the disk, and whether the value is spent.
+/// The pages in the table of an image, with changes that are not settled yet. Contracts see it as one record: the map
+/// of the pages now, that of the pages in the table, the disk, and whether the value is spent.
 ///
 /// An observable disk under a value that is not spent reads the layout of the table's pages, and nothing is pending.
 #[derive(Drop)]
 pub struct Staged<D: Disk, W: Draw> {
-    overlay: Overlay<D>,
-    draw: W,
-    changes: BTreeMap<Label, Option<Boxed<Page>>>,
-    /// What was found in the table.
-    memo: PageMemo,
-    /// Where it was found.
-    hints: Hints,
-    spares: Spares<Page>,
+    lookup: Lookup<D, W>,
+    changes: Changes,
     /// How many pages there are now, and how many of them the table has.
     used: u32,
     settled: u32,
     lookups: u64,
     is_spent: bool,
-    ghost started: { AreStarts (W.drawn draw) hints },
-    ghost remembered: { IsMemoOf (W.drawn draw) (overlaid overlay.params.slots overlay.touched.entries (D.state overlay.disk)) memo },
 }
 
 impl<D: Disk, W: Draw> Model for Staged<D, W> {
@@ -67,9 +53,9 @@ impl<D: Disk, W: Draw> Model for Staged<D, W> {
 
     ghost coded = { staged_code D.code W.code };
 
-    ghost view = { λ s. staged_state D.state s.overlay.params s.draw s.overlay.disk s.changes.entries s.lookups s.is_spent };
+    ghost view = { λ s. staged_state D.state s.lookup.overlay.params s.lookup.finder.draw s.lookup.overlay.disk s.changes.pages.entries s.lookups s.is_spent };
 
-    ghost invariant = { λ s. IsStaged (W.drawn s.draw) s.overlay.params (D.state s.overlay.disk) s.overlay.touched.entries s.changes.entries s.used s.settled s.is_spent };
+    ghost invariant = { λ s. IsStaged (W.drawn s.lookup.finder.draw) s.lookup.overlay.params (D.state s.lookup.overlay.disk) s.lookup.overlay.touched.entries s.changes.pages.entries s.used s.settled s.is_spent };
 }
 
 /// How many pages there are, of so many, once one label was given a page or lost it. A count that would come to 2^32
@@ -84,96 +70,11 @@ fn count_after(used: u32, was_there: bool, is_there: bool) -> u32
     }
 }
 
-/// Keeps a change under its label, in the place of the one that was kept. After want of memory the changes are as they were.
-fn keep_change(
-    changes: &mut BTreeMap<Label, Option<Boxed<Page>>>,
-    spares: &mut Spares<Page>,
-    label: Label,
-    change: Option<Boxed<Page>>,
-) -> Result<(), NoMemory>
-    ensures ok { OnOk result (changes.new.entries ≡ insert_entry label_cmp changes.old.entries label change) }
-    ensures err { OnErr result (changes.new.entries ≡ changes.old.entries) }
+/// The answer where a page was looked up and is not known all the same: there was no memory to remember it.
+fn not_remembered() -> Fault
+    ensures { result ≡ Fault.NoMemory }
 {
-    spares.take(changes.insert(label, change)?.flatten());
-    Ok(())
-}
-
-/// Inserts a cell into the page that a change is, where it lies, and answers whether it did. A change that does not take it is
-/// as it was. It takes no memory.
-fn insert_into(change: &mut Option<Boxed<Page>>, at: u32, cell: &Cell) -> bool
-    ensures done { result ≡ true → InsertsCell change.old change.new at cell.now }
-    ensures kept { result ≡ false → change.new ≡ change.old }
-    ensures takes { (page : model.Page) → change.old ≡ Some page → TakesCell page at cell.now → result ≡ true }
-{
-    match change {
-        Some(page) => page.insert(at, cell),
-        None => false,
-    }
-}
-
-/// Inserts a cell into the page that is staged under the label, where it lies, and answers whether it did, or that nothing is
-/// staged there. Where it did not the changes are as they were. It takes no memory.
-fn insert_staged(
-    changes: &mut BTreeMap<Label, Option<Boxed<Page>>>,
-    label: &Label,
-    at: u32,
-    cell: &Cell,
-) -> Option<bool>
-    ensures done { (memo : Remembered) → result ≡ Some true → StagesCell changes.old.entries changes.new.entries memo label.now at cell.now }
-    ensures kept { result ≢ Some true → changes.new.entries ≡ changes.old.entries }
-    ensures absent { result ≡ None ↔ staged_at changes.old.entries label.now ≡ None }
-    ensures takes { (page : model.Page) → staged_at changes.old.entries label.now ≡ Some (Some page) → TakesCell page at cell.now → result ≡ Some true }
-{
-    match changes.get_mut(label) {
-        Some(change) => Some(insert_into(change, at, cell)),
-        None => None,
-    }
-}
-
-/// Inserts a cell into a copy of the page that is remembered of the label, under which nothing is staged, and stages it.
-/// After want of memory the changes are as they were.
-fn insert_remembered(
-    changes: &mut BTreeMap<Label, Option<Boxed<Page>>>,
-    memo: &PageMemo,
-    spares: &mut Spares<Page>,
-    label: &Label,
-    at: u32,
-    cell: &Cell,
-) -> Result<(), NoMemory>
-    requires { staged_at changes.old.entries label.now ≡ None }
-    ensures ok { OnOk result (StagesCell changes.old.entries changes.new.entries memo.now label.now at cell.now) }
-    ensures err { OnErr result (changes.new.entries ≡ changes.old.entries) }
-{
-    let Some(Some(page)) = memo.recall(memo_place(label), label) else {
-        return Err(NoMemory);
-    };
-    let mut kept = spares.copy(page.get())?;
-    if !kept.insert(at, cell) {
-        spares.take(Some(kept));
-        return Err(NoMemory);
-    }
-    keep_change(changes, spares, *label, Some(kept))
-}
-
-/// Inserts a cell into the page that is known of the label, and stages it: where it lies, if it is staged, which takes no
-/// memory. After want of memory the changes are as they were.
-fn insert_known(
-    changes: &mut BTreeMap<Label, Option<Boxed<Page>>>,
-    memo: &PageMemo,
-    spares: &mut Spares<Page>,
-    label: &Label,
-    at: u32,
-    cell: &Cell,
-) -> Result<(), NoMemory>
-    ensures ok { OnOk result (StagesCell changes.old.entries changes.new.entries memo.now label.now at cell.now) }
-    ensures err { OnErr result (changes.new.entries ≡ changes.old.entries) }
-    ensures takes { (page : model.Page) → staged_at changes.old.entries label.now ≡ Some (Some page) → TakesCell page at cell.now → result ≡ Ok tt }
-{
-    match insert_staged(changes, label, at, cell) {
-        Some(true) => Ok(()),
-        Some(false) => Err(NoMemory),
-        None => insert_remembered(changes, memo, spares, label, at, cell),
-    }
+    Fault::NoMemory
 }
 
 impl<D: Disk, W: Draw> Staged<D, W> {
@@ -206,12 +107,12 @@ impl<D: Disk, W: Draw> Staged<D, W> {
         ensures lookups { result.lookups ≡ 0 }
     {
         Staged {
-            overlay: Overlay::new(alloc, disk, params, cache),
-            draw,
-            changes: BTreeMap::new(alloc),
-            memo: PageMemo::new(alloc),
-            hints: Hints::new(alloc),
-            spares: Spares::new(alloc),
+            lookup: Lookup {
+                overlay: Overlay::new(alloc, disk, params, cache),
+                finder: Finder::new(alloc, draw),
+                memo: PageMemo::new(alloc),
+            },
+            changes: Changes::new(alloc),
             used: pages,
             settled: pages,
             lookups: 0,
@@ -237,7 +138,7 @@ impl<D: Disk, W: Draw> Staged<D, W> {
     pub fn disk(&self) -> &D
         ensures { result.now ≡ self.now.disk }
     {
-        &self.overlay.disk
+        &self.lookup.overlay.disk
     }
 
     /// Gives the disk back. It takes no memory.
@@ -247,17 +148,18 @@ impl<D: Disk, W: Draw> Staged<D, W> {
         ensures { result ≡ self.disk }
     {
         let Staged {
-            overlay,
-            draw: _,
+            lookup,
             changes: _,
-            memo: _,
-            hints: _,
-            spares: _,
             used: _,
             settled: _,
             lookups: _,
             is_spent: _,
         } = self;
+        let Lookup {
+            overlay,
+            finder: _,
+            memo: _,
+        } = lookup;
         overlay.into_disk()
     }
 
@@ -265,7 +167,7 @@ impl<D: Disk, W: Draw> Staged<D, W> {
     pub fn discard(&mut self)
         ensures { self.new ≡ record self.old { map = self.old.table } }
     {
-        empty(&mut self.changes);
+        self.changes.clear();
         self.used = self.settled;
     }
 
@@ -279,58 +181,52 @@ impl<D: Disk, W: Draw> Staged<D, W> {
         ensures runs { self.new.is_spent ≡ self.old.is_spent }
         ensures follows { Follows D.state self.old self.new }
     {
-        Journal::digest(&mut self.overlay.disk)
+        Journal::digest(&mut self.lookup.overlay.disk)
     }
 
-    /// The page under the label, whose place in the memo this is, as far as it is known; what is not known was left out for
-    /// want of memory. It takes no memory.
+    /// The page under the label, whose place in the memo this is, as far as it is known; what is not known was left out
+    /// for want of memory. It takes no memory.
     fn shown(&self, place: usize, label: &Label) -> Result<Option<&Page>, Fault>
         requires { place ≡ memo_place (label_bytes label.now) }
         ensures found { IsTold D.state self.now → IfOk (looked_at result) (λ page. page ≡ page_at self.now.map label.now) }
         ensures faults { (count : ℕ) → disk_faults_after count (looked_at result) ≡ count }
     {
-        match known(&self.changes, &self.memo, place, label) {
+        match self.changes.known(&self.lookup.memo, place, label) {
             Some(page) => Ok(behind(page)),
-            None => Err(Fault::NoMemory),
+            None => Err(not_remembered()),
         }
     }
 
-    /// Stages what is under the label from now on, a page of this label or none. To add a page there have to be fewer than
-    /// 2^32 - 1 of them. After a fault the pages are as they were.
+    /// Stages what is under the label from now on, a page of this label or none. To add a page there have to be fewer
+    /// than 2^32 - 1 of them. After a fault the pages are as they were.
     fn stage(&mut self, label: Label, change: Option<Boxed<Page>>) -> Result<(), Fault>
         requires fits { (m : PageMap) → IsPageMap m → IsPageMap (with_change m label change) }
         requires few { IsSome change → IsTold D.state self.old → maps.len self.old.map < most_pages }
         ensures call { Stages (pages_state D.state self.old) (pages_state D.state self.new) label change result }
         ensures follows { Follows D.state self.old self.new }
     {
-        let is_there = has_page(
-            &mut self.overlay,
-            &self.draw,
-            &mut self.hints,
-            &self.changes,
-            &self.memo,
-            &label,
-        )?;
+        let is_there = self.lookup.has_page(&self.changes, &label)?;
         let used = count_after(self.used, is_there, change.is_some());
-        keep_change(&mut self.changes, &mut self.spares, label, change)?;
+        self.changes.keep(label, change)?;
         self.used = used;
         Ok(())
     }
 
     /// Settles the pages: the changed slots of the table are written together, and are durable at the return.
     ///
-    /// Each image that a crash at any moment of the call may leave holds the pages that the table had or those that there
-    /// are now. A settle that changes d slots makes 5d + 2 writes and 5 syncs, and one that changes none makes none.
+    /// Each image that a crash at any moment of the call may leave holds the pages that the table had or those that
+    /// there are now. A settle that changes d slots makes 5d + 2 writes and 5 syncs, and one that changes none makes
+    /// none.
     ///
-    /// `Full` comes exactly where there are more pages than slots. After `Full` and `NoMemory` nothing was written. `Disk`:
-    /// the disk failed; where that came at a write or a sync, or behind one, the value is spent, and the disk has the pages
-    /// that the table had or those that there were. After each of them a value that is not spent has the map and the table
-    /// that it had. A value that is spent is settled no more.
+    /// `Full` comes exactly where there are more pages than slots. After `Full` and `NoMemory` nothing was written.
+    /// `Disk`: the disk failed; where that came at a write or a sync, or behind one, the value is spent, and the disk
+    /// has the pages that the table had or those that there were. After each of them a value that is not spent has the
+    /// map and the table that it had. A value that is spent is settled no more.
     pub fn settle(&mut self) -> Result<(), SettleFault>
         requires { self.old.is_spent ≡ false }
         ensures call { Settles D.state W.drawn self.old self.new result }
     {
-        let params = self.overlay.params;
+        let params = self.lookup.overlay.params;
         let slots = params.slots();
         if self.used > slots {
             return Err(SettleFault::Full {
@@ -338,16 +234,15 @@ impl<D: Disk, W: Draw> Staged<D, W> {
                 slots,
             });
         }
-        let found = find_slots(
-            &mut self.overlay,
-            &self.draw,
-            &mut self.hints,
-            &self.changes,
-        );
+        let Lookup {
+            overlay,
+            finder,
+            memo,
+        } = &mut self.lookup;
+        let found = find_slots(overlay, finder, &self.changes);
         // Whatever was found, the slots are the disk's again.
-        empty(&mut self.overlay.touched);
+        empty(&mut overlay.touched);
         let changed = found?;
-        let overlay = &mut self.overlay;
         let spares = &mut overlay.spares;
         match commit_slots(
             &mut overlay.disk,
@@ -357,13 +252,13 @@ impl<D: Disk, W: Draw> Staged<D, W> {
             spares,
         ) {
             Ok(()) => {
-                self.memo.renew(&mut self.changes, &mut self.spares);
+                self.changes.hand_to(memo);
                 self.settled = self.used;
                 Ok(())
             }
             // It came at a write or behind one, so the disk may have the old pages or the new ones.
             Err(_) => {
-                self.memo.clear();
+                memo.clear();
                 self.is_spent = true;
                 Err(SettleFault::Disk)
             }
@@ -391,32 +286,24 @@ impl<D: Disk, W: Draw> Pages for Staged<D, W> {
     fn look(&mut self, label: &Label) -> Result<Option<&Page>, Fault> {
         self.lookups = self.lookups.saturating_add(1);
         let place = memo_place(label);
-        learn(
-            &mut self.overlay,
-            &self.draw,
-            &mut self.hints,
-            &self.changes,
-            &mut self.memo,
-            place,
-            label,
-        )?;
+        self.lookup.learn(&self.changes, place, label)?;
         self.shown(place, label)
     }
 
     fn put(&mut self, page: Page) -> Result<(), Fault> {
         let label = page.label();
-        let kept = self.spares.copy(&page)?;
+        let kept = self.changes.spares.copy(&page)?;
         self.stage(label, Some(kept))
     }
 
     fn put_run(&mut self, label: &Label, count: u8, run: &[u8]) -> Result<(), Fault> {
-        let kept = self.spares.page(label, count, run)?;
+        let kept = self.changes.spares.page(label, count, run)?;
         self.stage(*label, Some(kept))
     }
 
     fn insert_cell(&mut self, label: &Label, at: u32, cell: &Cell) -> Result<(), Fault> {
-        let changes = &mut self.changes;
-        insert_known(changes, &self.memo, &mut self.spares, label, at, cell)?;
+        self.changes
+            .insert_cell(&self.lookup.memo, label, at, cell)?;
         Ok(())
     }
 

@@ -7,10 +7,10 @@ use Rattle.gate_journal.specs.Places.{Made, Makes, ReadsOnly}
 use Rattle.store_base.specs.Counts.{raised}
 use Rattle.store_core.specs.Changes.{slots_between}
 use Rattle.image_check.specs.Contents.{table_of}
-use Rattle.gate_journal.specs.Costs.{MadeAtMost, opening_writes, opening_syncs, CountsOpening, CountsCommit}
+use Rattle.gate_journal.specs.Costs.{MadeAtMost, opening_writes, opening_syncs, CountsCommit}
 use Rattle.gate_journal.specs.Phases.{HasEmptyJournal}
 use Rattle.gate_journal.specs.Recovery.{redo_writes, redo_syncs, erase_writes}
-use Rattle.gate_journal.proofs.Openings.{opening_of_empty, opening_of_journal, one_or_other}
+use Rattle.gate_journal.proofs.Openings.{CountsOpening, opening_of_empty, opening_of_journal, one_or_other}
 use Rattle.store_core.proofs.DifferLemmas.{differing-itself}
 
 pub made_none : (disk : DiskState) → Made 0 0 disk disk

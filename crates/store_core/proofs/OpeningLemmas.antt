@@ -13,7 +13,8 @@ use Rattle.disk_model.specs.DiskState.{DiskState, IsObservable, IsDurable, IsSou
 use Rattle.disk_model.specs.DiskCalls.{LeavesOnly, IsSync}
 use Rattle.disk_model.proofs.Crashes.{LeavesOnly-sync, LeavesOnly-trans, LeavesOnly-weaken, MayLeaveOnly-end}
 use Rattle.gate_journal.specs.Disks.{KeepsDisk}
-use Rattle.gate_journal.specs.Costs.{opening_writes, opening_syncs, CountsOpening}
+use Rattle.gate_journal.specs.Costs.{opening_writes, opening_syncs}
+use Rattle.gate_journal.proofs.Openings.{CountsOpening}
 use Rattle.gate_journal.specs.Phases.{HasEmptyJournal}
 use Rattle.gate_journal.specs.Places.{AreCalls, Made, Makes, ReadsOnly}
 use Rattle.gate_journal.specs.Recovery.{Recovers, RecoversAs, redo_writes, redo_syncs, erase_writes}

@@ -16,7 +16,7 @@ use Rattle.store_model.specs.Pages.{Page}
 use Rattle.store_model.specs.PageMaps.{PageMap, page_at, HoldsPages}
 use Rattle.store_base.specs.declared.store_fault.Fault.{Fault}
 use Rattle.store_base.specs.SlotsState.{SlotsState, IsObservable, AreSlotCalls}
-use Rattle.table_memory.specs.Memos.{wrapped, checked, checksum_from, checksum_of, checksum, memo_place, Remembered, IsRemembered, KeepsPlaces, IsMemoOf, Remembers, RemembersMore, staged_at, Renews, IsRenewing}
+use Rattle.table_memory.specs.Memos.{wrapped, checked, checksum_from, checksum_of, checksum, memo_place, Remembered, IsRemembered, KeepsPlaces, IsMemoOf, Remembers, RemembersMore, staged_at, Renews}
 use Rattle.table_memory.specs.Staging.{StagedPages, with_changes}
 use Rattle.table_memory.proofs.SpelledLemmas.{label_in-label_bytes}
 use Rattle.table_memory.proofs.ChangeLemmas.{page_or, page_at-with_changes, same_when_tied}
@@ -130,6 +130,12 @@ memo_read d old new memo result calls reads of = record {
 }
 
 -- ---- the loop that renews a memo
+
+-- a loop that renews it has come so far
+pub record IsRenewing (old now : Remembered) (all rest : StagedPages) : Type 0 where
+  pub within : (l : Label) (page : Option Page) → staged_at rest l ≡ Some page → staged_at all l ≡ Some page
+  pub renews : (l : Label) (page : Option Page) → IsRemembered now l page
+      → (staged_at all l ≡ Some page) ⊎ ((staged_at all l ≡ staged_at rest l) × IsRemembered old l page)
 
 pub renewing_begins : (memo : Remembered) (all : StagedPages) → IsRenewing memo memo all all
 renewing_begins memo all = record { within = λ l page is. is; renews = λ l page is. inr (refl, is) }

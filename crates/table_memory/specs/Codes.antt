@@ -1,11 +1,10 @@
--- The codes of a memo and of starts, by which proofs tell them apart.
+-- The code of a memo, by which proofs tell two of them apart.
 use Rattle.std.specs.Prelude.{◌≡◌, ℕ, List, Option, Some, None, refl}
 use Rattle.std.specs.Coded.{Coded, code_by, coded×, coded_ℕ, coded_list, coded_option}
 use Rattle.store_model.specs.Labels.{Lead, Label}
 use Rattle.store_model.specs.Labels.Lead.{Start, Leader}
 use Rattle.store_model.specs.Pages.{Cell, Page}
 use Rattle.table_memory.specs.Memos.{Remembered}
-use Rattle.table_memory.specs.Starts.{Starts}
 
 abbrev pub key_of_lead : Lead → Option (List ℕ)
 key_of_lead Start = None
@@ -33,6 +32,3 @@ page_code = code_by (Label × List Cell) (coded× label_code (coded_list cell_co
 
 abbrev pub remembered_code : Coded Remembered
 remembered_code = coded_list (coded_option (coded× label_code (coded_option page_code)))
-
-abbrev pub starts_code : Coded Starts
-starts_code = coded_list (coded× label_code coded_ℕ)

@@ -81,15 +81,9 @@ abbrev pub staged_at : StagedPages → Label → Option (Option Page)
 staged_at changes l = lookup (is_at (label_cmp l)) changes
 
 -- this is known of the label: it is staged under it, or nothing is, and it is remembered of it
-abbrev pub IsRemembered : StagedPages → Remembered → Label → Option Page → Type 0
-IsRemembered changes memo l page = (staged_at changes l ≡ Some page) ⊎ ((staged_at changes l ≡ None) × IsRemembered memo l page)
+abbrev pub IsKnownPage : StagedPages → Remembered → Label → Option Page → Type 0
+IsKnownPage changes memo l page = (staged_at changes l ≡ Some page) ⊎ ((staged_at changes l ≡ None) × IsRemembered memo l page)
 
 -- behind changes that is remembered of a label which was known of it with them
 abbrev pub Renews : StagedPages → Remembered → Remembered → Type 0
-Renews changes old new = (l : Label) (page : Option Page) → IsRemembered new l page → IsRemembered changes old l page
-
--- a loop that renews it has come so far
-pub record IsRenewing (old now : Remembered) (all rest : StagedPages) : Type 0 where
-  pub within : (l : Label) (page : Option Page) → staged_at rest l ≡ Some page → staged_at all l ≡ Some page
-  pub renews : (l : Label) (page : Option Page) → IsRemembered now l page
-      → (staged_at all l ≡ Some page) ⊎ ((staged_at all l ≡ staged_at rest l) × IsRemembered old l page)
+Renews changes old new = (l : Label) (page : Option Page) → IsRemembered new l page → IsKnownPage changes old l page

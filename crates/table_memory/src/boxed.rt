@@ -78,8 +78,8 @@ impl Boxed<Page> {
         self.inside.refill(label, count, run);
     }
 
-    /// Inserts a cell before that of number `at`, or behind all, and answers whether it did. A page that does not take it is
-    /// as it was. It takes no memory.
+    /// Inserts a cell before that of number `at`, or behind all, and answers whether it did. A page that does not take
+    /// it is as it was. It takes no memory.
     pub fn insert(&mut self, at: u32, cell: &Cell) -> bool
         ensures takes { IsTrue result ↔ TakesCell self.old at cell.now }
         ensures value { result ≡ true → self.new ≡ with_cell self.old at cell.now }

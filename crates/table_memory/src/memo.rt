@@ -14,12 +14,12 @@ use std::marker::Model;
 use std::mem;
 use store_base::{Label, NoMemory};
 
-/// How many places there are: a prime, so that each byte of a checksum counts, and one by which 256 leaves a remainder of 29,
-/// so that names that differ in two digits side by side have different places.
+/// How many places there are: a prime, so that each byte of a checksum counts, and one by which 256 leaves a remainder
+/// of 29, so that names that differ in two digits side by side have different places.
 const PLACES: usize = 227;
 
-/// What was found under labels: a page, or that there is none. Each label has a place, by its checksum, and of the labels
-/// of one place the last one is remembered. Contracts see what is at each place, with its label.
+/// What was found under labels: a page, or that there is none. Each label has a place, by its checksum, and of the
+/// labels of one place the last one is remembered. Contracts see what is at each place, with its label.
 #[derive(Drop)]
 pub struct PageMemo {
     alloc: Global,
@@ -118,8 +118,8 @@ impl PageMemo {
         None
     }
 
-    /// Remembers this of the label, in the place of what was, where there is memory for it, and hands out a page that had
-    /// this place.
+    /// Remembers this of the label, in the place of what was, where there is memory for it, and hands out a page that
+    /// had this place.
     fn keep(&mut self, label: Label, found: Option<Boxed<Page>>) -> Option<Boxed<Page>>
         ensures { Remembers self.old self.new label found }
     {
@@ -147,8 +147,8 @@ impl PageMemo {
         let _ = self.keep(*label, None);
     }
 
-    /// Takes over what is staged: under each label of a change what is there behind it, where there is memory for it. Under each
-    /// other label nothing more is remembered than was. Pages that gave place are spared.
+    /// Takes over what is staged: under each label of a change what is there behind it, where there is memory for it.
+    /// Under each other label nothing more is remembered than was. Pages that gave place are spared.
     // The changes are taken one by one, since so their map keeps its memory.
     pub fn renew(
         &mut self,

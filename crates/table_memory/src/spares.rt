@@ -12,8 +12,8 @@ use store_base::{Label, NoMemory};
 /// How many boxes are kept.
 const MOST: usize = 8;
 
-/// A few boxes, so that the value of one that was given up makes room for the next one, and no memory is taken. What is in
-/// them is told to nobody.
+/// A few boxes, so that the value of one that was given up makes room for the next one, and no memory is taken. What is
+/// in them is told to nobody.
 #[derive(Drop)]
 pub struct Spares<T> {
     alloc: Global,

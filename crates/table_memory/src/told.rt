@@ -4,8 +4,8 @@ ghost use Rattle.std.specs.Prelude.{◌≡◌, ◌↔◌, ℕ, List, IsTrue};
 
 use store_model::Slot;
 
-/// What a slot is asked for by other bytes, so that it need not be copied: how the label in it stands to theirs, or whether
-/// they are its own.
+/// What a slot is asked for by other bytes, so that it need not be copied: how the label in it stands to theirs, or
+/// whether they are its own.
 pub trait Told {
     /// What is told of a slot by other bytes.
     ghost of: { List ℕ → List ℕ → Self → Type 0 };

@@ -1,5 +1,5 @@
 use Rattle.std.proofs.Common.{◌*◌}
-use Rattle.gate_journal.specs.Places.{ComesSoFar}
+use Rattle.gate_journal.proofs.SoFar.{ComesSoFar}
 use Rattle.gate_journal.specs.Passes.{slot_writes, OutsidePass, HasPassed}
 use Rattle.gate_journal.proofs.commit.write_slots.Given as goal
 

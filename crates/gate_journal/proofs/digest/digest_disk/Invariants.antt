@@ -1,6 +1,6 @@
 use Rattle.std.proofs.Common.{◌*◌, take}
 use Rattle.sha2.specs.Hashers.{Holds256}
-use Rattle.gate_journal.specs.Places.{ReadsSoFar}
+use Rattle.gate_journal.proofs.SoFar.{ReadsSoFar}
 use Rattle.gate_journal.proofs.digest.digest_disk.Given as goal
 
 abbrev pub invariant-loop-block : goal.invariant-loop-block

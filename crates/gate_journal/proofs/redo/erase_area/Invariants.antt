@@ -1,5 +1,6 @@
 use Rattle.std.proofs.Common.{◌+◌, ◌-◌, ◌*◌}
-use Rattle.gate_journal.specs.Places.{IsApart, ComesSoFar, IsZeroAt}
+use Rattle.gate_journal.specs.Places.{IsApart, IsZeroAt}
+use Rattle.gate_journal.proofs.SoFar.{ComesSoFar}
 use Rattle.gate_journal.specs.Recovery.{clear_writes, clear_block_writes}
 use Rattle.gate_journal.proofs.redo.erase_area.Given as goal
 

@@ -1,5 +1,6 @@
 use Rattle.std.proofs.Common.{◌-◌, ◌*◌}
-use Rattle.gate_journal.specs.Places.{ReadsSoFar, IsZeroAt}
+use Rattle.gate_journal.specs.Places.{IsZeroAt}
+use Rattle.gate_journal.proofs.SoFar.{ReadsSoFar}
 use Rattle.gate_journal.proofs.redo.is_journal_zero.Given as goal
 
 abbrev pub invariant-loop-block : goal.invariant-loop-block

@@ -1,5 +1,5 @@
 use Rattle.std.proofs.Common.{◌*◌, min}
-use Rattle.gate_journal.specs.Places.{ComesSoFar}
+use Rattle.gate_journal.proofs.SoFar.{ComesSoFar}
 use Rattle.gate_journal.specs.Recovery.{OutsideMarked, AreRedone, marked_count}
 use Rattle.gate_journal.proofs.redo.redo_table.Given as goal
 

@@ -1,5 +1,6 @@
 use Rattle.std.proofs.Common.{◌-◌, ◌*◌, min}
-use Rattle.gate_journal.specs.Places.{IsApart, ComesSoFar, IsZeroAt}
+use Rattle.gate_journal.specs.Places.{IsApart, IsZeroAt}
+use Rattle.gate_journal.proofs.SoFar.{ComesSoFar}
 use Rattle.gate_journal.proofs.wipe.wipe_rest.Given as goal
 
 abbrev pub invariant-loop-block : goal.invariant-loop-block

@@ -1,4 +1,4 @@
-use Rattle.gate_journal.specs.Places.{ComesSoFar}
+use Rattle.gate_journal.proofs.SoFar.{ComesSoFar}
 use Rattle.gate_journal.specs.Phases.{table_slot}
 use Rattle.scrub_free.specs.FreeSlots.{OutsideFree, AreScrubbed, scrub_writes}
 use Rattle.scrub_free.proofs.slots.scrub_slots.Given as goal

@@ -1,4 +1,4 @@
-use Rattle.std.proofs.Common.{Option, Err, refl, sym, ◌∙◌, arith}
+use Rattle.std.proofs.Common.{subst, Option, Err, refl, sym, ◌∙◌, arith}
 use Rattle.std.proofs.lemmas.Result.{err_from_is_err_and}
 use Rattle.store_base.proofs.SlotsCalls.{AreSlotCalls-fault}
 use Rattle.store_model.specs.Pages.{Page}
@@ -10,32 +10,36 @@ use Rattle.page_store.proofs.staged.StagedPages.look.Goals as goal
 pub invariant_of-self : goal.invariant_of-self
 invariant_of-self g c =
     let s = c.self.inside in
-    let slots = c.learn.new.slots in
-    read_staged g.D.Disk.state s.draw (g.W.Draw.drawn s.draw) s.overlay.params slots.params s.overlay.disk slots.disk s.overlay.touched.entries slots.touched.entries s.changes.entries s.used s.settled s.lookups s.is_spent c.self.invariant c.learn.ensures.follows c.learn.ensures.call.reads _ c.self.view_is s.changes.entries refl
+    let slots = c.learn.new.self.overlay in
+    rw c.learn.ensures.draw (read_staged g.D.Disk.state s.lookup.finder.draw (g.W.Draw.drawn s.lookup.finder.draw) s.lookup.overlay.params slots.params s.lookup.overlay.disk slots.disk s.lookup.overlay.touched.entries slots.touched.entries s.changes.pages.entries s.used s.settled s.lookups s.is_spent c.self.invariant c.learn.ensures.follows c.learn.ensures.call.reads _ c.self.view_is s.changes.pages.entries refl)
 
 pub invariant_of-self-2 : goal.invariant_of-self-2
 invariant_of-self-2 g c =
     let s = c.self.inside in
-    let slots = c.learn.new.slots in
-    read_staged g.D.Disk.state s.draw (g.W.Draw.drawn s.draw) s.overlay.params slots.params s.overlay.disk slots.disk s.overlay.touched.entries slots.touched.entries s.changes.entries s.used s.settled s.lookups s.is_spent c.self.invariant c.learn.ensures.follows c.learn.ensures.call.reads _ c.self.view_is s.changes.entries refl
+    let slots = c.learn.new.self.overlay in
+    rw c.learn.ensures.draw (read_staged g.D.Disk.state s.lookup.finder.draw (g.W.Draw.drawn s.lookup.finder.draw) s.lookup.overlay.params slots.params s.lookup.overlay.disk slots.disk s.lookup.overlay.touched.entries slots.touched.entries s.changes.pages.entries s.used s.settled s.lookups s.is_spent c.self.invariant c.learn.ensures.follows c.learn.ensures.call.reads _ c.self.view_is s.changes.pages.entries refl)
 
 pub returns-in_err-learn : goal.returns-in_err-learn
 returns-in_err-learn g c =
     let s = c.self.inside in
-    let slots = c.learn.new.slots in
+    let slots = c.learn.new.self.overlay in
     let n = c.saturating_add-self-inside.result in
     let fault = c.in_err-learn.field-0.0 in
     let calls = AreSlotCalls-fault {U = Option Page} _ _ fault c.in_err-learn.ensures.call.calls in
-    let looked = page_looked g.D.Disk.state s.draw (g.W.Draw.drawn s.draw) s.overlay.params slots.params s.overlay.disk slots.disk s.overlay.touched.entries slots.touched.entries s.changes.entries s.used s.settled s.lookups s.is_spent c.self.invariant c.learn.ensures.follows c.learn.ensures.call.reads _ c.self.view_is c.args.label.now n (Err fault) (omega arith) (omega arith) calls.faults (λ told. tt) in
+    let looked = page_looked g.D.Disk.state s.lookup.finder.draw (g.W.Draw.drawn s.lookup.finder.draw) s.lookup.overlay.params slots.params s.lookup.overlay.disk slots.disk s.lookup.overlay.touched.entries slots.touched.entries s.changes.pages.entries s.used s.settled s.lookups s.is_spent c.self.invariant c.learn.ensures.follows c.learn.ensures.call.reads _ c.self.view_is c.args.label.now n (Err fault) (omega arith) (omega arith) calls.faults (λ told. tt) in
     let p = err_from_is_err_and c.from_residual.result c.from_residual.ensures.1 in
-    let new = staged_state g.D.Disk.state slots.params s.draw slots.disk s.changes.entries n s.is_spent in
+    let new = staged_state g.D.Disk.state slots.params s.lookup.finder.draw slots.disk s.changes.pages.entries n s.is_spent in
     let at_last : IsPageGet (pages_state g.D.Disk.state c.args.self.now) (pages_state g.D.Disk.state new) c.args.label.now (looked_at c.from_residual.result) × Follows g.D.Disk.state c.args.self.now new = rw (p.1, p.2) looked in
-    ((refl, λ _. tt, at_last), record { after_borrow = tt })
+    let seen = λ (w : g.row.W.Denot). staged_state g.D.Disk.state slots.params w slots.disk s.changes.pages.entries n s.is_spent in
+    let now = subst (λ (w : g.row.W.Denot). IsPageGet (pages_state g.D.Disk.state c.args.self.now) (pages_state g.D.Disk.state (seen w)) c.args.label.now (looked_at c.from_residual.result) × Follows g.D.Disk.state c.args.self.now (seen w)) (sym c.learn.ensures.draw) at_last in
+    ((refl, λ _. tt, now), record { after_borrow = tt })
 
 pub returns : goal.returns
 returns g c =
     let s = c.self.inside in
-    let slots = c.learn.new.slots in
-    let faults = c.in_ok-learn.ensures.call.calls.faults ∙ sym (c.shown.ensures.faults (g.D.Disk.state s.overlay.disk).faults) in
-    let looked = page_looked g.D.Disk.state s.draw (g.W.Draw.drawn s.draw) s.overlay.params slots.params s.overlay.disk slots.disk s.overlay.touched.entries slots.touched.entries s.changes.entries s.used s.settled s.lookups s.is_spent c.self.invariant c.learn.ensures.follows c.learn.ensures.call.reads _ c.self.view_is c.args.label.now c.saturating_add-self-inside.result (looked_at c.shown.result) (omega arith) (omega arith) faults c.shown.ensures.found in
-    ((refl, λ _. tt, looked), record { after_borrow = tt })
+    let slots = c.learn.new.self.overlay in
+    let faults = c.in_ok-learn.ensures.call.calls.faults ∙ sym (c.shown.ensures.faults (g.D.Disk.state s.lookup.overlay.disk).faults) in
+    let looked = page_looked g.D.Disk.state s.lookup.finder.draw (g.W.Draw.drawn s.lookup.finder.draw) s.lookup.overlay.params slots.params s.lookup.overlay.disk slots.disk s.lookup.overlay.touched.entries slots.touched.entries s.changes.pages.entries s.used s.settled s.lookups s.is_spent c.self.invariant c.learn.ensures.follows c.learn.ensures.call.reads _ c.self.view_is c.args.label.now c.saturating_add-self-inside.result (looked_at c.shown.result) (omega arith) (omega arith) faults (rw c.learn.ensures.draw at c.shown.ensures.found) in
+    let seen = λ (w : g.row.W.Denot). staged_state g.D.Disk.state slots.params w slots.disk s.changes.pages.entries c.saturating_add-self-inside.result s.is_spent in
+    let now = subst (λ (w : g.row.W.Denot). IsPageGet (pages_state g.D.Disk.state c.args.self.now) (pages_state g.D.Disk.state (seen w)) c.args.label.now (looked_at c.shown.result) × Follows g.D.Disk.state c.args.self.now (seen w)) (sym c.learn.ensures.draw) looked in
+    ((refl, λ _. tt, now), record { after_borrow = tt })

@@ -1,5 +1,5 @@
 use Rattle.std.proofs.Common.{length}
-use Rattle.table_memory.specs.Memos.{IsRenewing}
+use Rattle.table_memory.proofs.MemoLemmas.{IsRenewing}
 use Rattle.table_memory.proofs.memo.PageMemo.renew.Given as goal
 
 -- what was taken over so far

@@ -1,0 +1,81 @@
+//! How the page of a label is looked up.
+
+ghost use Rattle.std.specs.Prelude.{◌≡◌, Some, Ok};
+ghost use Rattle.store_model.specs.Labels.{label_bytes};
+ghost use Rattle.page_store.specs.Lookups.{Consults, Locates, LooksUp};
+ghost use Rattle.page_store.specs.Overlays.{slots_of, Views};
+ghost use Rattle.table_memory.specs.Memos.{memo_place, IsMemoOf};
+ghost use Rattle.table_memory.specs.OverlayState.{overlaid};
+
+use crate::changes::Changes;
+use crate::locate::locate;
+use crate::overlay::Overlay;
+use disk_model::Disk;
+use node_pages::decode_page;
+use seeded_draw::Draw;
+use store_base::{Fault, Label, ReadSlots};
+use store_model::BLOCK;
+use table_memory::{Finder, PageMemo, memo_place};
+
+/// The slots of a table, with all that helps to look a page up in them, and what was found.
+#[derive(Drop)]
+pub struct Lookup<D: Disk, W: Draw> {
+    /// The slots.
+    pub overlay: Overlay<D>,
+    /// The draw by which pages lie in them, with what helps to find them.
+    pub finder: Finder<W>,
+    /// What was found in the slots.
+    pub memo: PageMemo,
+    pub ghost drawn: { overlay.params.slots ≡ (W.drawn finder.draw).slots },
+    pub ghost remembered: { IsMemoOf (W.drawn finder.draw) (overlaid overlay.params.slots overlay.touched.entries (D.state overlay.disk)) memo },
+}
+
+impl<D: Disk, W: Draw> Lookup<D, W> {
+    /// Remembers the page in slot `at`, which was found under the label, where there is memory for it. A slot that
+    /// holds no page, as only slots that are not observable may, is as one that was not found.
+    // It stands apart from `learn`, each call of which would clear its page.
+    #[inline(never)]
+    fn remember_at(&mut self, at: u32, label: &Label) -> Result<(), Fault>
+        requires { Locates (W.drawn self.old.finder.draw) (slots_of D.state self.old.overlay) (slots_of D.state self.old.overlay) label.now (Ok (Some at)) }
+        ensures call { Consults (slots_of D.state self.old.overlay) (slots_of D.state self.new.overlay) result }
+        ensures follows { Views D.state self.old.overlay self.new.overlay }
+        ensures draw { self.new.finder.draw ≡ self.old.finder.draw }
+    {
+        let mut slot = [0; BLOCK];
+        self.overlay.get(at, &mut slot)?;
+        self.memo.remember(label, decode_page(&slot));
+        Ok(())
+    }
+
+    /// Reads and remembers the page of the label, whose place in the memo this is, unless it is known by the changes or
+    /// by the memo. It is not remembered where there is no memory for it.
+    pub fn learn(&mut self, changes: &Changes, place: usize, label: &Label) -> Result<(), Fault>
+        requires { place ≡ memo_place (label_bytes label.now) }
+        ensures call { Consults (slots_of D.state self.old.overlay) (slots_of D.state self.new.overlay) result }
+        ensures follows { Views D.state self.old.overlay self.new.overlay }
+        ensures draw { self.new.finder.draw ≡ self.old.finder.draw }
+    {
+        // The memo comes first, since to find a label among the changes takes comparisons of labels.
+        if self.memo.recall(place, label).is_some() || changes.pages.contains_key(label) {
+            return Ok(());
+        }
+        let Some(at) = locate(&mut self.overlay, &mut self.finder, label)? else {
+            self.memo.remember_none(label);
+            return Ok(());
+        };
+        self.remember_at(at, label)
+    }
+
+    /// Whether there is a page under the label, by the changes, or else by the memo, or else by the slots.
+    pub fn has_page(&mut self, changes: &Changes, label: &Label) -> Result<bool, Fault>
+        ensures call { LooksUp (W.drawn self.old.finder.draw) (slots_of D.state self.old.overlay) (slots_of D.state self.new.overlay) changes.now.pages.entries label.now result }
+        ensures follows { Views D.state self.old.overlay self.new.overlay }
+        ensures draw { self.new.finder.draw ≡ self.old.finder.draw }
+    {
+        if let Some(page) = changes.known(&self.memo, memo_place(label), label) {
+            return Ok(page.is_some());
+        }
+        let at = locate(&mut self.overlay, &mut self.finder, label)?;
+        Ok(at.is_some())
+    }
+}
