@@ -43,12 +43,12 @@ pub fn refusal_to_make<P: OrderedPairs>(
     let Some(parent) = path.parent() else {
         return Ok(Some(Refusal::Root));
     };
-    let Kind::Dir = kind_of(pairs, &parent)? else {
+    let Some(Kind::Directory) = kind_of(pairs, &parent)? else {
         return Ok(Some(Refusal::Parent));
     };
     match kind_of(pairs, path)? {
-        Kind::Absent => Ok(None),
-        _ => Ok(Some(Refusal::Exists)),
+        None => Ok(None),
+        Some(_) => Ok(Some(Refusal::Exists)),
     }
 }
 
@@ -77,9 +77,9 @@ fn refusal_to_remove<P: OrderedPairs>(pairs: &mut P, path: &Path) -> Result<Opti
         return Ok(Some(Refusal::Root));
     }
     match kind_of(pairs, path)? {
-        Kind::Absent => Ok(Some(Refusal::Missing)),
-        Kind::File(_) => Ok(None),
-        Kind::Dir => Ok(has_child(pairs, path)?.then_some(Refusal::NotEmpty)),
+        None => Ok(Some(Refusal::Missing)),
+        Some(Kind::File(_)) => Ok(None),
+        Some(Kind::Directory) => Ok(has_child(pairs, path)?.then_some(Refusal::NotEmpty)),
     }
 }
 

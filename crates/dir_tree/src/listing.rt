@@ -27,9 +27,9 @@ pub fn list<P: OrderedPairs>(
     ensures follows { P.follows pairs.old pairs.new }
 {
     match kind_of(pairs, path)? {
-        Kind::Absent => Ok(Err(Refusal::Missing)),
-        Kind::File(_) => Ok(Err(Refusal::Kind)),
-        Kind::Dir => Ok(Ok(children(alloc, pairs, path)?)),
+        None => Ok(Err(Refusal::Missing)),
+        Some(Kind::File(_)) => Ok(Err(Refusal::Kind)),
+        Some(Kind::Directory) => Ok(Ok(children(alloc, pairs, path)?)),
     }
 }
 
@@ -57,7 +57,7 @@ fn size_of<P: OrderedPairs>(pairs: &mut P, path: &Path) -> Result<Option<u32>, F
     ensures follows { P.follows pairs.old pairs.new }
 {
     match kind_of(pairs, path)? {
-        Kind::File(size) => Ok(Some(size)),
+        Some(Kind::File(size)) => Ok(Some(size)),
         _ => Ok(None),
     }
 }
