@@ -26,10 +26,12 @@ pub fn list<P: OrderedPairs>(
     ensures keeps { KeepsPairs (P.state pairs.old) (P.state pairs.new) }
     ensures follows { P.follows pairs.old pairs.new }
 {
-    match kind_of(pairs, path)? {
-        None => Ok(Err(Refusal::Missing)),
-        Some(Kind::File(_)) => Ok(Err(Refusal::Kind)),
-        Some(Kind::Directory) => Ok(Ok(children(alloc, pairs, path)?)),
+    let Some(kind) = kind_of(pairs, path)? else {
+        return Ok(Err(Refusal::Missing));
+    };
+    match kind {
+        Kind::File(_) => Ok(Err(Refusal::Kind)),
+        Kind::Directory => Ok(Ok(children(alloc, pairs, path)?)),
     }
 }
 

@@ -48,8 +48,8 @@ fn write<P: OrderedPairs>(
     ensures call { CarriesOut (λ _. Acknowledged) (Write path.now at bytes.now) (P.state pairs.old) (P.state pairs.new) result }
     ensures follows { P.follows pairs.old pairs.new }
 {
-    match kind_of(pairs, &path.parent().unwrap_or(*path))? {
-        Some(Kind::Directory) => write_at(pairs, path, at, bytes),
-        _ => Ok(Err(Refusal::Parent)),
+    if kind_of(pairs, &path.parent().unwrap_or(*path))? != Some(Kind::Directory) {
+        return Ok(Err(Refusal::Parent));
     }
+    write_at(pairs, path, at, bytes)
 }
