@@ -6,7 +6,6 @@ use Rattle.store_model.specs.Parameters.{Parameters}
 use Rattle.store_model.specs.Paths.{Path, is_path, is_root, key}
 use Rattle.store_model.specs.Pairs.{Pair, file_block, node_pairs}
 use Rattle.store_model.specs.Trees.{Node, IsNode}
-use Rattle.store_model.specs.Trees.Node.{Directory, File}
 use Rattle.image_check.specs.declared.contents.Counts.{Counts}
 use Rattle.tree_pairs.specs.declared.kind.Kind.{Kind}
 use Rattle.tree_pairs.specs.declared.kind.Kind.TheVariants as kinds

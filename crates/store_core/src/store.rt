@@ -5,8 +5,8 @@ ghost use Rattle.store_model.specs.Pages.{page_count};
 ghost use Rattle.disk_model.specs.DiskState.{IsObservable};
 ghost use Rattle.image_check.specs.Standing.{IsFitting, Stands};
 
-use crate::known::KnownTree;
 use crate::commands::TreeList;
+use crate::known::KnownTree;
 use disk_model::Disk;
 use std::alloc::Global;
 use std::marker::Model;
