@@ -24,7 +24,7 @@ use Rattle.path_keys.proofs.InsideBytes.{inside_split}
 use Rattle.path_keys.proofs.PathBytes.{bytes_split}
 use Rattle.ordered_pairs.specs.PairsState.{PairsState, most_pairs}
 use Rattle.tree_pairs.specs.TreeCalls.{HoldsTree}
-use Rattle.tree_pairs.specs.Blocks.{tree_blocks}
+use Rattle.tree_pairs.proofs.TreeBlocks.{tree_blocks}
 use Rattle.dir_tree.specs.declared.subtree.Block.{Block}
 use Rattle.dir_tree.specs.ListCalls.{size_at}
 use Rattle.dir_tree.specs.SubtreeCalls.{LacksFrom, IsFirstFrom, IsWithin}

@@ -1,4 +1,5 @@
--- Lemmas on commands that are tested before anything changes: which refusal holds first, and what a tested command owes.
+-- Lemmas on commands that are tested before anything changes: which refusal holds first, and what a tested command
+-- owes.
 use Rattle.std.proofs.Common.{◌≡◌, List, [], ◌∷◌, Bool, true, false, not, ◌&&◌, if◌then◌else◌, Option, Some, None, is_some, Ok, Err, refl, sym, ap, ◌∙◌}
 use Rattle.std.specs.Bool.{then_some}
 use Rattle.std.proofs.lemmas.Bool.{and_left, and_from, both_ways}
@@ -23,22 +24,22 @@ use Rattle.dir_tree.specs.RefusalCalls.{TellsRefusal}
 
 -- ---- what a kind says of what stands there
 
-pub dir_stands : (o : Option Node) (kind : Kind) → kind ≡ kind_of_node o → kind ≡ kinds.Dir → is_directory_node o ≡ true
+pub dir_stands : (o : Option Node) (kind : Option Kind) → kind ≡ kind_of_node o → kind ≡ Some kinds.Directory → is_directory_node o ≡ true
 dir_stands None kind e is = cc
 dir_stands (Some Directory) kind e is = refl
 dir_stands (Some (File bytes)) kind e is = cc
 
-pub no_dir_stands : (o : Option Node) (kind : Kind) → kind ≡ kind_of_node o → (kind ≡ kinds.Dir → ⊥) → is_directory_node o ≡ false
+pub no_dir_stands : (o : Option Node) (kind : Option Kind) → kind ≡ kind_of_node o → (kind ≡ Some kinds.Directory → ⊥) → is_directory_node o ≡ false
 no_dir_stands None kind e not_dir = refl
 no_dir_stands (Some Directory) kind e not_dir = absurd (not_dir e)
 no_dir_stands (Some (File bytes)) kind e not_dir = refl
 
-pub nothing_stands : (o : Option Node) (kind : Kind) → kind ≡ kind_of_node o → kind ≡ kinds.Absent → o ≡ None
+pub nothing_stands : (o : Option Node) (kind : Option Kind) → kind ≡ kind_of_node o → kind ≡ None → o ≡ None
 nothing_stands None kind e is = refl
 nothing_stands (Some Directory) kind e is = cc
 nothing_stands (Some (File bytes)) kind e is = cc
 
-pub something_stands : (o : Option Node) (kind : Kind) → kind ≡ kind_of_node o → (kind ≡ kinds.Absent → ⊥) → (n : Node) × (o ≡ Some n)
+pub something_stands : (o : Option Node) (kind : Option Kind) → kind ≡ kind_of_node o → (kind ≡ None → ⊥) → (n : Node) × (o ≡ Some n)
 something_stands None kind e not_absent = absurd (not_absent e)
 something_stands (Some n) kind e not_absent = (n, refl)
 
@@ -151,7 +152,7 @@ still_holds a b t p h seen holds = record { tree = holds.tree; pairs_are = h.unc
 -- ---- what a tested command owes
 
 -- where the kind of what stands at a path decides whether a command is refused
-pub told_by_kind : (command : Command) (path : Path) (kind : Kind) (refusal : Option Refusal) (old new : PairsState) → TellsKind path old new (Ok kind) → ((t : Tree) → kind ≡ kind_of_node (node_at t path) → refusal ≡ refusal_of t command)
+pub told_by_kind : (command : Command) (path : Path) (kind : Option Kind) (refusal : Option Refusal) (old new : PairsState) → TellsKind path old new (Ok kind) → ((t : Tree) → kind ≡ kind_of_node (node_at t path) → refusal ≡ refusal_of t command)
     → TellsRefusal command old new (Ok refusal)
 told_by_kind command path kind refusal old new tells decides = record { faults = tells.faults; keeps = tells.keeps; told = λ seen t p holds. decides t (tells.told seen t p holds) }
 

@@ -22,7 +22,7 @@ use Rattle.store_model.proofs.TreesLemmasMoves.{nothing_below}
 use Rattle.store_model.proofs.TreesLemmasSteps.{all_fail, IsTree-next_tree}
 use Rattle.ordered_pairs.specs.PairsState.{PairsState}
 use Rattle.tree_pairs.specs.TreeCalls.{HoldsTree}
-use Rattle.tree_pairs.specs.Blocks.{block_value, tree_blocks}
+use Rattle.tree_pairs.proofs.TreeBlocks.{block_value, tree_blocks}
 use Rattle.tree_pairs.proofs.BlocksLemmas.{pairs_have_blocks, pairs_from_blocks, blocks_alike}
 use Rattle.tree_pairs.proofs.ChangesLemmas.{put_block, blocks_at, pairs-with_node, tree_blocks-without, tree_blocks-without_subtree}
 use Rattle.path_keys.proofs.InsideBytes.{inside_split}

@@ -43,12 +43,12 @@ pub fn refusal_to_make<P: OrderedPairs>(
     let Some(parent) = path.parent() else {
         return Ok(Some(Refusal::Root));
     };
-    let Kind::Dir = kind_of(pairs, &parent)? else {
+    if kind_of(pairs, &parent)? != Some(Kind::Directory) {
         return Ok(Some(Refusal::Parent));
-    };
+    }
     match kind_of(pairs, path)? {
-        Kind::Absent => Ok(None),
-        _ => Ok(Some(Refusal::Exists)),
+        None => Ok(None),
+        Some(_) => Ok(Some(Refusal::Exists)),
     }
 }
 
@@ -76,10 +76,12 @@ fn refusal_to_remove<P: OrderedPairs>(pairs: &mut P, path: &Path) -> Result<Opti
     if path.is_root() {
         return Ok(Some(Refusal::Root));
     }
-    match kind_of(pairs, path)? {
-        Kind::Absent => Ok(Some(Refusal::Missing)),
+    let Some(kind) = kind_of(pairs, path)? else {
+        return Ok(Some(Refusal::Missing));
+    };
+    match kind {
         Kind::File(_) => Ok(None),
-        Kind::Dir => Ok(has_child(pairs, path)?.then_some(Refusal::NotEmpty)),
+        Kind::Directory => Ok(has_child(pairs, path)?.then_some(Refusal::NotEmpty)),
     }
 }
 

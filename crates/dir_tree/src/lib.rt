@@ -1,5 +1,5 @@
-//! Directories over any list of pairs that holds a tree: what stands at a path, a new directory, the removal of a file
-//! or of an empty directory, and the children of a directory. A listing jumps from child to child and reads nothing
+//! Directories over any list of pairs that holds a tree: a new directory, the removal of a file or of an empty
+//! directory, and the children of a directory. A listing jumps from child to child and reads nothing
 //! that lies deeper. What moves and removals of whole subtrees need stands here too.
 #![tactic(auto)]
 
@@ -10,4 +10,3 @@ mod subtree;
 pub use changing::{make, refusal_to_make, remove};
 pub use listing::list;
 pub use subtree::{Block, next_within, take_subtree};
-pub use tree_pairs::{Kind, kind_of};

@@ -26,10 +26,12 @@ pub fn list<P: OrderedPairs>(
     ensures keeps { KeepsPairs (P.state pairs.old) (P.state pairs.new) }
     ensures follows { P.follows pairs.old pairs.new }
 {
-    match kind_of(pairs, path)? {
-        Kind::Absent => Ok(Err(Refusal::Missing)),
+    let Some(kind) = kind_of(pairs, path)? else {
+        return Ok(Err(Refusal::Missing));
+    };
+    match kind {
         Kind::File(_) => Ok(Err(Refusal::Kind)),
-        Kind::Dir => Ok(Ok(children(alloc, pairs, path)?)),
+        Kind::Directory => Ok(Ok(children(alloc, pairs, path)?)),
     }
 }
 
@@ -57,7 +59,7 @@ fn size_of<P: OrderedPairs>(pairs: &mut P, path: &Path) -> Result<Option<u32>, F
     ensures follows { P.follows pairs.old pairs.new }
 {
     match kind_of(pairs, path)? {
-        Kind::File(size) => Ok(Some(size)),
+        Some(Kind::File(size)) => Ok(Some(size)),
         _ => Ok(None),
     }
 }

@@ -10,7 +10,7 @@ use Rattle.store_model.specs.declared.refusal.Refusal.TheVariants as refusals
 use Rattle.store_model.specs.Lists.{IsBytes, overwrite, run_at}
 use Rattle.store_model.specs.Parameters.{Parameters}
 use Rattle.store_model.specs.Paths.{Path, is_path, is_root, parent, path_cmp, same_path, key, key_cmp}
-use Rattle.store_model.specs.Pairs.{Pair, file_value, pairs}
+use Rattle.store_model.specs.Pairs.{Pair, file_value, pairs, file_block}
 use Rattle.store_model.specs.Trees.{Tree, Node, IsTree, node_at, is_directory, is_directory_node, contents_of, contents, file_limit, with_node}
 use Rattle.store_model.specs.Trees.Node.{Directory, File}
 use Rattle.store_model.specs.Commands.{Command, Reply}
@@ -26,7 +26,7 @@ use Rattle.ordered_pairs.specs.PairsState.{PairsState, IsObservable}
 use Rattle.tree_pairs.specs.Kinds.{kind_of_node}
 use Rattle.tree_pairs.specs.TreeCalls.{HoldsTree, HasParent, TellsKind, CarriesOut}
 use Rattle.tree_pairs.proofs.CallLemmas.{step_refused}
-use Rattle.tree_pairs.specs.Blocks.{block_value, tree_blocks}
+use Rattle.tree_pairs.proofs.TreeBlocks.{block_value, tree_blocks}
 use Rattle.tree_pairs.proofs.BlocksLemmas.{run_value-none, length-run_at, blocks_alike}
 use Rattle.tree_pairs.proofs.ChangesLemmas.{put_block, blocks_at, pairs-with_node}
 use Rattle.file_blocks.specs.FileCalls.{file_blocks, HasFile, PutsFileBytes}
@@ -74,7 +74,7 @@ refusal-read t x at len =
 -- what stands at a path, as a first pair and bytes behind it
 file_blocks_of : (o : Option Node) → is_directory_node o ≡ false → (i : ℕ) → block_value o i ≡ file_blocks (block_value o 0) (contents_of o) i
 file_blocks_of None h zero = refl
-file_blocks_of None h (suc i) = sym (run_value-none (run_at 256 [] i) (let l = length-run_at 256 [] i in omega arith))
+file_blocks_of None h (suc i) = sym (run_value-none (run_at file_block [] i) (let l = length-run_at file_block [] i in omega arith))
 file_blocks_of (Some Directory) h i = cc
 file_blocks_of (Some (File bytes)) h zero = refl
 file_blocks_of (Some (File bytes)) h (suc i) = refl
@@ -101,7 +101,7 @@ pairs_of_file t p x first bytes k v s new h path has key_is value_is changed =
 -- ---- `write`
 
 -- where it is not refused, what is written fits a file
-pub write_fits : (kind : Kind) (at count : ℕ) → first_refusal (write_conditions kind at count) ≡ None → at + count ≤ file_limit
+pub write_fits : (kind : Option Kind) (at count : ℕ) → first_refusal (write_conditions kind at count) ≡ None → at + count ≤ file_limit
 write_fits kind at count e = ltb-false file_limit (at + count) ((((all_fail (write_conditions kind at count) e).1).1).0)
 
 -- where it is not refused, the path is no directory and the place lies in its file
@@ -122,12 +122,12 @@ pairs-write t p x at len bytes k v s new h path l are e long has key_is value_is
     (value_is ∙ ap file_value (long ∙ sym (length-overwrite (contents t x) at bytes within))) changed
 
 -- a file's first pair says its length
-first_of_file : (o : Option Node) (len : ℕ) → kind_of_node o ≡ kinds.File len → block_value o 0 ≡ Some (file_value len)
+first_of_file : (o : Option Node) (len : ℕ) → kind_of_node o ≡ Some (kinds.File len) → block_value o 0 ≡ Some (file_value len)
 first_of_file None len e = cc
 first_of_file (Some Directory) len e = cc
 first_of_file (Some (File bytes)) len e = ap (λ kind. Some (file_value (size_of kind))) e
 
-some_of_file : (o : Option Node) (len : ℕ) → kind_of_node o ≡ kinds.File len → is_some o ≡ true
+some_of_file : (o : Option Node) (len : ℕ) → kind_of_node o ≡ Some (kinds.File len) → is_some o ≡ true
 some_of_file None len e = cc
 some_of_file (Some node) len e = refl
 
@@ -138,7 +138,7 @@ not_root t (n ∷ x) d = refl
 
 -- where the length stays, so does the first pair
 pub pairs-write_within : (t : Tree) (p : Parameters) (x : Path) (at len : ℕ) (bytes : List ℕ) (s : List Pair) → IsTree t → at < 2 ^ 32 → IsBytes bytes → refusal_of t (Write x at bytes) ≡ None
-    → len ≡ max (length (contents t x)) (at + length bytes) → kind_of_node (node_at t x) ≡ kinds.File len → HasFile x (tree_blocks t x 0) (overwrite (contents t x) at bytes) (tree_blocks t) s → s ≡ pairs (next_tree t (Write x at bytes)) p
+    → len ≡ max (length (contents t x)) (at + length bytes) → kind_of_node (node_at t x) ≡ Some (kinds.File len) → HasFile x (tree_blocks t x 0) (overwrite (contents t x) at bytes) (tree_blocks t) s → s ≡ pairs (next_tree t (Write x at bytes)) p
 unfolding next_tree
 pairs-write_within t p x at len bytes s h l are e long is has =
     let allowed = write_allowed t x at bytes e in
@@ -155,7 +155,7 @@ pairs-write_within t p x at len bytes s h l are e long is has =
     file_behind first bytes e (suc i) = refl
 
 -- what a write that isn't refused found, and what it has put but for the first pair
-pub written : (x : Path) (size at : ℕ) (bytes piece : List ℕ) (kind : Kind) (old between after : PairsState) → HasParent old x → TellsKind x old between (Ok kind) → piece ≡ bytes → first_refusal (write_conditions kind at (length piece)) ≡ None
+pub written : (x : Path) (size at : ℕ) (bytes piece : List ℕ) (kind : Option Kind) (old between after : PairsState) → HasParent old x → TellsKind x old between (Ok kind) → piece ≡ bytes → first_refusal (write_conditions kind at (length piece)) ≡ None
     → PutsFileBytes {T = Unit {0}} x size at piece between after (Ok (tt {0})) → size_of kind ≤ size → IsObservable old → (t : Tree) (p : Parameters) → HoldsTree old t p
     → (refusal_of t (Write x at bytes) ≡ None) × HasFile x (tree_blocks t x 0) (overwrite (contents t x) at bytes) (tree_blocks t) after.pairs
 written x size at bytes piece kind old between after parent told same fits puts short seen t p holds =
@@ -171,7 +171,7 @@ written x size at bytes piece kind old between after parent told same fits puts 
 
 -- ---- a call that is refused by what stands at its path
 
-pub refused_by_kind : {T : Type 0} (see : T → Reply) (command : Command) (x : Path) (kind : Kind) (refusal : Refusal) (named : Kind → List Condition) (old new : PairsState) → TellsKind x old new (Ok kind)
+pub refused_by_kind : {T : Type 0} (see : T → Reply) (command : Command) (x : Path) (kind : Option Kind) (refusal : Refusal) (named : Option Kind → List Condition) (old new : PairsState) → TellsKind x old new (Ok kind)
     → (IsObservable old → (t : Tree) (p : Parameters) → HoldsTree old t p → refusal_of t command ≡ first_refusal (named (kind_of_node (node_at t x)))) → first_refusal (named kind) ≡ Some refusal
     → CarriesOut see command old new (Ok (Err refusal))
 refused_by_kind see command x kind refusal named old new told is refused = record {
@@ -185,7 +185,7 @@ refused_by_kind see command x kind refusal named old new told is refused = recor
 -- ---- `read`
 
 -- where it is not refused, so few bytes are asked for
-pub read_fits : (kind : Kind) (at len : ℕ) → first_refusal (read_conditions kind at len) ≡ None → len ≤ read_limit
+pub read_fits : (kind : Option Kind) (at len : ℕ) → first_refusal (read_conditions kind at len) ≡ None → len ≤ read_limit
 read_fits kind at len e = ltb-false read_limit len ((((all_fail (read_conditions kind at len) e).1).1).1).0
 
 -- where it is not refused, the path is no directory and the place lies in its file
@@ -207,7 +207,7 @@ pairs-read t p x at len s e = e
 -- ---- `cut`
 
 -- where it is not refused, there are as many bytes
-pub cut_fits : (kind : Kind) (len : ℕ) → first_refusal (cut_conditions kind len) ≡ None → len ≤ size_of kind
+pub cut_fits : (kind : Option Kind) (len : ℕ) → first_refusal (cut_conditions kind len) ≡ None → len ≤ size_of kind
 cut_fits kind len e = ltb-false (size_of kind) len ((((all_fail (cut_conditions kind len) e).1).1).0)
 
 -- where it is not refused, the path is no directory and its file is long enough

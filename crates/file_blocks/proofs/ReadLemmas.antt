@@ -24,25 +24,25 @@ front_of_front m n z xs e = by_order (nat_le m n) refl
     by_order false t = front_of n z xs (e ∙ take_all m (take n z) (let l = leb-false m n t in let k = length-take n z in omega arith))
 
 -- a block from a place on
-run_at-drop : (y : List ℕ) (place : ℕ) → drop (place % 256) (run_at file_block y (place / 256)) ≡ take (256 - place % 256) (drop place y)
+run_at-drop : (y : List ℕ) (place : ℕ) → drop (place % file_block) (run_at file_block y (place / file_block)) ≡ take (file_block - place % file_block) (drop place y)
 run_at-drop y place =
-    let within : place % 256 + (256 - place % 256) ≡ 256 = omega arith in
-    let there : 256 * (place / 256) + place % 256 ≡ place = omega arith in
-    ap (λ n. drop (place % 256) (take n (drop (256 * (place / 256)) y))) (sym within)
-    ∙ drop-take (place % 256) (256 - place % 256) (drop (256 * (place / 256)) y)
-    ∙ ap (take (256 - place % 256)) (drop-drop (place % 256) (256 * (place / 256)) y ∙ ap (λ n. drop n y) there)
+    let within : place % file_block + (file_block - place % file_block) ≡ file_block = omega arith in
+    let there : file_block * (place / file_block) + place % file_block ≡ place = omega arith in
+    ap (λ n. drop (place % file_block) (take n (drop (file_block * (place / file_block)) y))) (sym within)
+    ∙ drop-take (place % file_block) (file_block - place % file_block) (drop (file_block * (place / file_block)) y)
+    ∙ ap (take (file_block - place % file_block)) (drop-drop (place % file_block) (file_block * (place / file_block)) y ∙ ap (λ n. drop n y) there)
 
 -- what is read at a place
 pub record IsPieceRead (x : Path) (place most : ℕ) (old new : PairsState) (piece : List ℕ) : Type 0 where
-  pub piece_is : IsObservable old → (first : Option (List ℕ)) (y : List ℕ) (others : BlockMap) → HasFile x first y others old.pairs → piece ≡ take most (take (256 - place % 256) (drop place y))
+  pub piece_is : IsObservable old → (first : Option (List ℕ)) (y : List ℕ) (others : BlockMap) → HasFile x first y others old.pairs → piece ≡ take most (take (file_block - place % file_block) (drop place y))
 
 pub piece_read : (x : Path) (place most block : ℕ) (k bytes piece : List ℕ) (found : Option (List ℕ)) (at n : ℕ) (items : List ℕ) (old between new : PairsState)
-    → IsTrue (is_path x) → k ≡ key x block → block ≡ place / 256 + 1 → block < 4294967296 → bytes ≡ block_bytes found → piece ≡ take most (drop (place % 256) bytes)
+    → IsTrue (is_path x) → k ≡ key x block → block ≡ place / file_block + 1 → block < 4294967296 → bytes ≡ block_bytes found → piece ≡ take most (drop (place % file_block) bytes)
     → ReadsFileBytes x at n old between (Ok items) → IsPairGet between new k (Ok found) → IsPieceRead x place most old new piece
 piece_read x place most block k bytes piece found at n items old between new path key_is number l read is h g = record {
   piece_is = λ seen first y others has.
       let found_is = (g.observed (h.keeps.observable seen)).found ∙ ap₂ (λ q s. find key_cmp q s) key_is (h.keeps.unchanged seen) in
-      is ∙ ap (λ z. take most (drop (place % 256) z)) (read ∙ found_run x first y others old.pairs (place / 256) block found path number l has found_is) ∙ ap (take most) (run_at-drop y place);
+      is ∙ ap (λ z. take most (drop (place % file_block) z)) (read ∙ found_run x first y others old.pairs (place / file_block) block found path number l has found_is) ∙ ap (take most) (run_at-drop y place);
 }
 
 -- the bytes read so far, and those of a piece behind them
@@ -57,7 +57,7 @@ reads_more x place most at n more k piece items all found old between new there 
       keeps = record { observable = λ seen. (g.observed (h.keeps.observable seen)).observable; unchanged = λ seen. (g.observed (h.keeps.observable seen)).unchanged ∙ h.keeps.unchanged seen };
       read = λ seen first y others within has.
           let front = h.read seen first y others (omega arith) has in
-          let behind = front_of_front most (256 - place % 256) (drop place y) piece (read.piece_is seen first y others has) in
+          let behind = front_of_front most (file_block - place % file_block) (drop place y) piece (read.piece_is seen first y others has) in
           all_is ∙ ap₂ (λ u v. u ++ v) front (behind ∙ ap (take (length piece)) (ap (λ m. drop m y) there ∙ sym (drop-drop n at y)))
           ∙ sym (take-add n (length piece) (drop at y)) ∙ ap (λ m. take m (drop at y)) (sym sum);
     }
@@ -71,8 +71,8 @@ reads_end x place most at n count k items found old between new there l most_is 
   keeps = record { observable = λ seen. (g.observed (h.keeps.observable seen)).observable; unchanged = λ seen. (g.observed (h.keeps.observable seen)).unchanged ∙ h.keeps.unchanged seen };
   read = λ seen first y others within has.
       let e = ap length (read.piece_is seen first y others has) in
-      let a = length-take most (take (256 - place % 256) (drop place y)) in
-      let b = length-take (256 - place % 256) (drop place y) in
+      let a = length-take most (take (file_block - place % file_block) (drop place y)) in
+      let b = length-take (file_block - place % file_block) (drop place y) in
       let d = length-drop place y in
       absurd (omega arith);
 }

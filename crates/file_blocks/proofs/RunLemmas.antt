@@ -49,14 +49,14 @@ overwrite-overwrite y at a b h =
 -- ---- the block that is written over, and the others
 
 -- a block from what stands up to its end
-run_of_front : (y : List ℕ) (i : ℕ) → run_at file_block y i ≡ drop (256 * i) (take (256 * i + 256) y)
-run_of_front y i = sym (drop-take (256 * i) 256 y)
+run_of_front : (y : List ℕ) (i : ℕ) → run_at file_block y i ≡ drop (file_block * i) (take (file_block * i + file_block) y)
+run_of_front y i = sym (drop-take (file_block * i) file_block y)
 
-pub run_at-below : (y : List ℕ) (at : ℕ) (piece : List ℕ) (i : ℕ) → at ≤ length y → 256 * i + 256 ≤ at → run_at file_block (overwrite y at piece) i ≡ run_at file_block y i
-run_at-below y at piece i h l = run_of_front (overwrite y at piece) i ∙ ap (drop (256 * i)) (take-overwrite y at piece (256 * i + 256) h l) ∙ sym (run_of_front y i)
+pub run_at-below : (y : List ℕ) (at : ℕ) (piece : List ℕ) (i : ℕ) → at ≤ length y → file_block * i + file_block ≤ at → run_at file_block (overwrite y at piece) i ≡ run_at file_block y i
+run_at-below y at piece i h l = run_of_front (overwrite y at piece) i ∙ ap (drop (file_block * i)) (take-overwrite y at piece (file_block * i + file_block) h l) ∙ sym (run_of_front y i)
 
-pub run_at-above : (y : List ℕ) (at : ℕ) (piece : List ℕ) (i : ℕ) → at ≤ length y → at + length piece ≤ 256 * i → run_at file_block (overwrite y at piece) i ≡ run_at file_block y i
-run_at-above y at piece i h l = ap (take 256) (drop-overwrite y at piece (256 * i) h l)
+pub run_at-above : (y : List ℕ) (at : ℕ) (piece : List ℕ) (i : ℕ) → at ≤ length y → at + length piece ≤ file_block * i → run_at file_block (overwrite y at piece) i ≡ run_at file_block y i
+run_at-above y at piece i h l = ap (take file_block) (drop-overwrite y at piece (file_block * i) h l)
 
 -- what is left from a place on, written over behind it
 drop-overwrite_within : (y : List ℕ) (start skip : ℕ) (piece : List ℕ) → start + skip ≤ length y → drop start (overwrite y (start + skip) piece) ≡ overwrite (drop start y) skip piece
@@ -75,26 +75,26 @@ take-overwrite_within w skip piece n h l =
     ∙ take-append-add (take skip w ++ piece) (drop (skip + length piece) w) m
     ∙ ap₂ (λ u v. (u ++ piece) ++ v) (sym (take-take skip n w (omega arith))) (sym (drop-take (skip + length piece) m w) ∙ ap (λ k. drop (skip + length piece) (take k w)) (sym e))
 
-pub run_at-within : (y : List ℕ) (at : ℕ) (piece : List ℕ) → at ≤ length y → at % 256 + length piece ≤ 256 → run_at file_block (overwrite y at piece) (at / 256) ≡ overwrite (run_at file_block y (at / 256)) (at % 256) piece
+pub run_at-within : (y : List ℕ) (at : ℕ) (piece : List ℕ) → at ≤ length y → at % file_block + length piece ≤ file_block → run_at file_block (overwrite y at piece) (at / file_block) ≡ overwrite (run_at file_block y (at / file_block)) (at % file_block) piece
 run_at-within y at piece h l =
-    let e : at ≡ 256 * (at / 256) + at % 256 = omega arith in
-    ap (λ n. take 256 (drop (256 * (at / 256)) (overwrite y n piece))) e
-    ∙ ap (take 256) (drop-overwrite_within y (256 * (at / 256)) (at % 256) piece (omega arith))
-    ∙ take-overwrite_within (drop (256 * (at / 256)) y) (at % 256) piece 256 (let f = length-drop (256 * (at / 256)) y in omega arith) l
+    let e : at ≡ file_block * (at / file_block) + at % file_block = omega arith in
+    ap (λ n. take file_block (drop (file_block * (at / file_block)) (overwrite y n piece))) e
+    ∙ ap (take file_block) (drop-overwrite_within y (file_block * (at / file_block)) (at % file_block) piece (omega arith))
+    ∙ take-overwrite_within (drop (file_block * (at / file_block)) y) (at % file_block) piece file_block (let f = length-drop (file_block * (at / file_block)) y in omega arith) l
 
 -- ---- bytes that are cut short
 
 -- a block of a front
-pub run_at-take : (y : List ℕ) (n i : ℕ) → 256 * i ≤ n → run_at file_block (take n y) i ≡ take (n - 256 * i) (run_at file_block y i)
+pub run_at-take : (y : List ℕ) (n i : ℕ) → file_block * i ≤ n → run_at file_block (take n y) i ≡ take (n - file_block * i) (run_at file_block y i)
 run_at-take y n i h =
-    let m : ℕ = n - 256 * i in
-    let e : n ≡ 256 * i + m = omega arith in
-    ap (λ k. take 256 (drop (256 * i) (take k y))) e ∙ ap (take 256) (drop-take (256 * i) m y) ∙ swapped (nat_le m 256) refl
+    let m : ℕ = n - file_block * i in
+    let e : n ≡ file_block * i + m = omega arith in
+    ap (λ k. take file_block (drop (file_block * i) (take k y))) e ∙ ap (take file_block) (drop-take (file_block * i) m y) ∙ swapped (nat_le m file_block) refl
   where
-    swapped : (b : Bool) → nat_le (n - 256 * i) 256 ≡ b → take 256 (take (n - 256 * i) (drop (256 * i) y)) ≡ take (n - 256 * i) (take 256 (drop (256 * i) y))
+    swapped : (b : Bool) → nat_le (n - file_block * i) file_block ≡ b → take file_block (take (n - file_block * i) (drop (file_block * i) y)) ≡ take (n - file_block * i) (take file_block (drop (file_block * i) y))
     swapped true e =
-        let l = leb-true (n - 256 * i) 256 e in
-        take_all 256 (take (n - 256 * i) (drop (256 * i) y)) (let f = length-take (n - 256 * i) (drop (256 * i) y) in omega arith) ∙ sym (take-take (n - 256 * i) 256 (drop (256 * i) y) l)
+        let l = leb-true (n - file_block * i) file_block e in
+        take_all file_block (take (n - file_block * i) (drop (file_block * i) y)) (let f = length-take (n - file_block * i) (drop (file_block * i) y) in omega arith) ∙ sym (take-take (n - file_block * i) file_block (drop (file_block * i) y) l)
     swapped false e =
-        let l = leb-false (n - 256 * i) 256 e in
-        take-take 256 (n - 256 * i) (drop (256 * i) y) (omega arith) ∙ sym (take_all (n - 256 * i) (take 256 (drop (256 * i) y)) (let f = length-take 256 (drop (256 * i) y) in omega arith))
+        let l = leb-false (n - file_block * i) file_block e in
+        take-take file_block (n - file_block * i) (drop (file_block * i) y) (omega arith) ∙ sym (take_all (n - file_block * i) (take file_block (drop (file_block * i) y)) (let f = length-take file_block (drop (file_block * i) y) in omega arith))

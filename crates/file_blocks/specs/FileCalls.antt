@@ -1,4 +1,5 @@
--- What the inner calls do to the pairs of one file. They say nothing of its first pair, which may still tell an older length.
+-- What the inner calls do to the pairs of one file. They say nothing of its first pair, which may still tell an older
+-- length.
 use Rattle.std.specs.Prelude.{◌≡◌, ℕ, zero, suc, ◌+◌, ◌≤◌, List, [], length, take, drop, Option, Some, None, Result, IfOk, OnOk}
 use Rattle.store_model.specs.Lists.{overwrite, run_at}
 use Rattle.store_model.specs.Paths.{Path}

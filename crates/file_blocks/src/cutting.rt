@@ -8,12 +8,11 @@ ghost use Rattle.tree_pairs.specs.TreeCalls.{CarriesOut, HasRoom};
 ghost use Rattle.file_blocks.specs.FileCalls.{CutsBytes};
 ghost use Rattle.file_blocks.specs.Refusals.{IsUnless, cut_conditions, size_of};
 
-use crate::FILE_BLOCK;
 use ordered_pairs::OrderedPairs;
 use path_keys::Path;
 use store_base::{Answer, Fault, Value};
 use store_model::Refusal;
-use tree_pairs::{Kind, file_value, kind_of};
+use tree_pairs::{FILE_BLOCK, Kind, file_value, kind_of};
 
 /// Leaves the first bytes of the file alone, so many.
 ///
@@ -41,13 +40,13 @@ pub fn cut<P: OrderedPairs>(pairs: &mut P, path: &Path, len: u32) -> Result<Answ
 
 /// The length of a file that has so many bytes, or why it is not cut to them.
 #[tactic(auto, unfolding(store_model::specs::Steps::first_refusal))]
-fn size_to_cut(kind: Kind, len: u32) -> Answer<u32>
+fn size_to_cut(kind: Option<Kind>, len: u32) -> Answer<u32>
     ensures { IsUnless (cut_conditions kind len) (size_of kind) result }
 {
     let size = match kind {
-        Kind::Absent => return Err(Refusal::Missing),
-        Kind::Dir => return Err(Refusal::Kind),
-        Kind::File(size) => size,
+        None => return Err(Refusal::Missing),
+        Some(Kind::Directory) => return Err(Refusal::Kind),
+        Some(Kind::File(size)) => size,
     };
     if len > size {
         return Err(Refusal::Gap);

@@ -15,9 +15,6 @@ pub use reading::read_at;
 use store_base::Value;
 pub use writing::write_at;
 
-/// The bytes of a file in one pair; its last pair has the rest.
-const FILE_BLOCK: u32 = Value::MAX_LEN as u32;
-
 /// The bytes of a block: none where there is no pair.
 fn bytes_of(block: &Option<Value>) -> &[u8]
     ensures { result.now ≡ block_bytes block.now }

@@ -8,13 +8,13 @@ ghost use Rattle.tree_pairs.specs.TreeCalls.{CarriesOut, KeepsPairs};
 ghost use Rattle.file_blocks.specs.FileCalls.{ReadsFileBytes};
 ghost use Rattle.file_blocks.specs.Refusals.{IsUnless, read_conditions, size_of};
 
-use crate::{FILE_BLOCK, bytes_of};
+use crate::bytes_of;
 use arrayvec::ArrayVec;
 use ordered_pairs::OrderedPairs;
 use path_keys::Path;
 use store_base::{Answer, Bytes, Fault};
 use store_model::Refusal;
-use tree_pairs::{Kind, kind_of};
+use tree_pairs::{FILE_BLOCK, Kind, kind_of};
 
 /// The most bytes that one read answers.
 const READ_LIMIT: u32 = Bytes::MAX_LEN as u32;
@@ -44,13 +44,13 @@ pub fn read_at<P: OrderedPairs>(
 
 /// How many bytes there are to read from a place on, or why they are not read.
 #[tactic(auto, unfolding(store_model::specs::Steps::first_refusal))]
-fn readable_len(kind: Kind, at: u32, len: u32) -> Answer<u32>
+fn readable_len(kind: Option<Kind>, at: u32, len: u32) -> Answer<u32>
     ensures { IsUnless (read_conditions kind at len) (min len (size_of kind - at)) result }
 {
     let size = match kind {
-        Kind::Absent => return Err(Refusal::Missing),
-        Kind::Dir => return Err(Refusal::Kind),
-        Kind::File(size) => size,
+        None => return Err(Refusal::Missing),
+        Some(Kind::Directory) => return Err(Refusal::Kind),
+        Some(Kind::File(size)) => size,
     };
     if at > size {
         return Err(Refusal::Gap);

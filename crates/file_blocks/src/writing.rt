@@ -10,15 +10,12 @@ ghost use Rattle.tree_pairs.specs.TreeCalls.{CarriesOut, HasRoom, HasParent};
 ghost use Rattle.file_blocks.specs.FileCalls.{PutsFileBytes};
 ghost use Rattle.file_blocks.specs.Refusals.{IsUnless, write_conditions, size_of};
 
-use crate::{FILE_BLOCK, bytes_of};
+use crate::bytes_of;
 use ordered_pairs::OrderedPairs;
 use path_keys::Path;
 use store_base::{Answer, Bytes, Fault, Value};
 use store_model::Refusal;
-use tree_pairs::{Kind, file_value, kind_of};
-
-/// The most bytes that a file has.
-const FILE_LIMIT: usize = 1_048_576;
+use tree_pairs::{FILE_BLOCK, FILE_LIMIT, Kind, file_value, kind_of};
 
 /// Writes the bytes into the file from a place on: they replace those that stand there, and the file grows where they
 /// pass its end. An absent file is made. A block of which no byte stays is not read, and the first pair stays where the
@@ -45,7 +42,7 @@ pub fn write_at<P: OrderedPairs>(
         Err(refusal) => return Ok(Err(refusal)),
     };
     put_bytes(pairs, path, len, at, bytes.as_slice())?;
-    if kind == Kind::File(len) {
+    if kind == Some(Kind::File(len)) {
         return Ok(Ok(()));
     }
     pairs.put(path.key(0), file_value(len))?;
@@ -54,20 +51,20 @@ pub fn write_at<P: OrderedPairs>(
 
 /// The length that a file has once so many bytes are put at a place, or why they are not put.
 #[tactic(auto, unfolding(store_model::specs::Steps::first_refusal))]
-fn written_len(kind: Kind, at: u32, count: usize) -> Answer<u32>
+fn written_len(kind: Option<Kind>, at: u32, count: usize) -> Answer<u32>
     requires { count ≤ Bytes.MAX_LEN }
     ensures { IsUnless (write_conditions kind at count) (max (size_of kind) (at + count)) result }
 {
     let size = match kind {
-        Kind::Absent => 0,
-        Kind::Dir => return Err(Refusal::Kind),
-        Kind::File(size) => size,
+        None => 0,
+        Some(Kind::Directory) => return Err(Refusal::Kind),
+        Some(Kind::File(size)) => size,
     };
     if at > size {
         return Err(Refusal::Gap);
     }
     let end = at as usize + count;
-    if end > FILE_LIMIT {
+    if end > FILE_LIMIT as usize {
         return Err(Refusal::Big);
     }
     Ok(size.max(end as u32))
@@ -123,8 +120,8 @@ fn put_piece<P: OrderedPairs>(
     pairs.put(key, value)
 }
 
-/// Whether so many bytes at a place leave no byte of their block, in a file that does not go past `len`: they begin it, and
-/// fill it or reach the file's end.
+/// Whether so many bytes at a place leave no byte of their block, in a file that does not go past `len`: they begin it,
+/// and fill it or reach the file's end.
 fn leaves_none(len: u32, at: u32, count: usize) -> bool
     requires { count ≤ FILE_BLOCK }
     ensures { IsTrue result ↔ ((at % FILE_BLOCK ≡ 0) × ((count ≡ FILE_BLOCK) ⊎ (len ≤ at + count))) }

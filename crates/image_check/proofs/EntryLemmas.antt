@@ -11,9 +11,10 @@ use Rattle.store_model.specs.Pairs.{Pair, file_block, file_value, node_pairs}
 use Rattle.store_model.specs.Trees.{Node, IsNode}
 use Rattle.store_model.specs.Trees.Node.{Directory, File}
 use Rattle.store_model.proofs.ListsLemmas.{length-runs}
-use Rattle.image_check.specs.declared.kind.Kind.{Kind}
-use Rattle.image_check.specs.declared.kind.Kind.TheVariants as kinds
-use Rattle.image_check.specs.Entries.{block_pairs, kind_of, value_of, IsKind, IsFirst, HasPairs, StandsFirst}
+use Rattle.tree_pairs.specs.declared.kind.Kind.{Kind}
+use Rattle.tree_pairs.specs.declared.kind.Kind.TheVariants as kinds
+use Rattle.tree_pairs.specs.Kinds.{kind_of, value_of, IsKind}
+use Rattle.image_check.specs.Entries.{block_pairs, IsFirst, HasPairs, StandsFirst}
 
 -- the first pair of what stands at a path, and those behind it
 pub record HasFirst (path : Path) (node : Node) (p : Parameters) : Type 0 where

@@ -23,7 +23,7 @@ numbers_more first zero = ap (λ n. n ∷ []) (let e : first ≡ first + 0 = ome
 numbers_more first (suc count) = ap (λ ns. first ∷ ns) (numbers_more (suc first) count ∙ ap (λ n. numbers_from (suc first) count ++ n ∷ []) (let e : suc first + count ≡ first + suc count = omega arith in e))
 
 -- a run behind full ones
-runs_more : (k : ℕ) (xs run : List ℕ) → length xs ≡ 256 * k → 1 ≤ length run → length run ≤ 256 → runs file_block (xs ++ run) ≡ runs file_block xs ++ run ∷ []
+runs_more : (k : ℕ) (xs run : List ℕ) → length xs ≡ file_block * k → 1 ≤ length run → length run ≤ file_block → runs file_block (xs ++ run) ≡ runs file_block xs ++ run ∷ []
 unfolding runs
 runs_more k xs run full some few =
     let long = length-append xs run in
@@ -31,15 +31,15 @@ runs_more k xs run full some few =
     let before : run_count file_block (length xs) ≡ k = omega (arith, full) in
     let front : map (run_at file_block (xs ++ run)) (numbers_from 0 k) ≡ map (run_at file_block xs) (numbers_from 0 k) =
     map_alike (run_at file_block (xs ++ run)) (run_at file_block xs) 0 k (λ i l.
-    ap (take 256) (drop-append-le (256 * i) xs run (omega (arith, full, l))) ∙ take-append-le 256 (drop (256 * i) xs) run (long_enough i l)) in
-    let back : run_at file_block (xs ++ run) k ≡ run = ap (take 256) (drop_at xs run (256 * k) full) ∙ take_all 256 run few in
+    ap (take file_block) (drop-append-le (file_block * i) xs run (omega (arith, full, l))) ∙ take-append-le file_block (drop (file_block * i) xs) run (long_enough i l)) in
+    let back : run_at file_block (xs ++ run) k ≡ run = ap (take file_block) (drop_at xs run (file_block * k) full) ∙ take_all file_block run few in
     ap (λ n. map (run_at file_block (xs ++ run)) (numbers_from 0 n)) more
     ∙ ap (map (run_at file_block (xs ++ run))) (numbers_more 0 k)
     ∙ map-append (run_at file_block (xs ++ run)) (numbers_from 0 k) ((0 + k) ∷ [])
     ∙ ap₂ (λ (a : List (List ℕ)) (b : List ℕ). a ++ b ∷ []) front (ap (run_at file_block (xs ++ run)) (let e : 0 + k ≡ k = omega arith in e) ∙ back)
     ∙ ap (λ n. map (run_at file_block xs) (numbers_from 0 n) ++ run ∷ []) (sym before)
   where
-    long_enough : (i : ℕ) → i < 0 + k → 256 ≤ length (drop (256 * i) xs)
+    long_enough : (i : ℕ) → i < 0 + k → file_block ≤ length (drop (file_block * i) xs)
     long_enough i l = simp (length-drop) (omega (arith, full, l))
 
 enumerate_more : {X : Type 0} (n : ℕ) (xs : List X) (x : X) → enumerate_from n (xs ++ x ∷ []) ≡ enumerate_from n xs ++ (n + length xs, x) ∷ []
@@ -47,7 +47,7 @@ enumerate_more n [] x = ap (λ m. (m, x) ∷ []) (let e : n ≡ n + 0 = omega ar
 enumerate_more n (y ∷ xs) x = ap (λ es. (n, y) ∷ es) (enumerate_more (n + 1) xs x ∙ ap (λ m. enumerate_from (n + 1) xs ++ (m, x) ∷ []) (let e : n + 1 + length xs ≡ n + suc (length xs) = omega arith in e))
 
 -- one block more
-blocks_more : (path : Path) (k : ℕ) (xs run : List ℕ) → length xs ≡ 256 * k → 1 ≤ length run → length run ≤ 256 → block_pairs path (xs ++ run) ≡ block_pairs path xs ++ (key path (k + 1), run) ∷ []
+blocks_more : (path : Path) (k : ℕ) (xs run : List ℕ) → length xs ≡ file_block * k → 1 ≤ length run → length run ≤ file_block → block_pairs path (xs ++ run) ≡ block_pairs path xs ++ (key path (k + 1), run) ∷ []
 blocks_more path k xs run full some few =
     let count : length (runs file_block xs) ≡ k = length-runs file_block xs ∙ (let e : run_count file_block (length xs) ≡ k = omega (arith, full) in e) in
     ap (λ rs. map (λ (b : ℕ × List ℕ). (key path b.0, b.1)) (enumerate_from 1 rs)) (runs_more k xs run full some few)
@@ -63,8 +63,8 @@ pub record AreRead (path : Path) (len : ℕ) (s : List Pair) (k left number : �
   pub valid : IsBytes bytes
   pub number_is : number ≡ k + 1
   pub length_is : length bytes + left ≡ len
-  pub most : length bytes ≤ 256 * k
-  pub full : 0 < left → length bytes ≡ 256 * k
+  pub most : length bytes ≤ file_block * k
+  pub full : 0 < left → length bytes ≡ file_block * k
   pub pairs_are : take k s ≡ block_pairs path bytes
 
 pub read_none : (path : Path) (len : ℕ) (s : List Pair) → AreRead path len s 0 len 1
@@ -83,8 +83,8 @@ read_none path len s = record {
 some_left : (path : Path) (len : ℕ) (s : List Pair) (k left number : ℕ) → AreRead path len s k left number → k < run_count file_block len → 0 < left
 some_left path len s k left number read more = omega (arith, read.length_is, read.most, more)
 
-pub read_more : (path : Path) (len : ℕ) (s : List Pair) (k left number : ℕ) (pair : Pair) → AreRead path len s k left number → k < length s → k < run_count file_block len → take (k + 1) s ≡ take k s ++ pair ∷ [] → pair.0 ≡ key path number → length pair.1 ≡ min left 256 → IsBytes pair.1
-    → AreRead path len s (k + 1) (left - min left 256) (number + 1)
+pub read_more : (path : Path) (len : ℕ) (s : List Pair) (k left number : ℕ) (pair : Pair) → AreRead path len s k left number → k < length s → k < run_count file_block len → take (k + 1) s ≡ take k s ++ pair ∷ [] → pair.0 ≡ key path number → length pair.1 ≡ min left file_block → IsBytes pair.1
+    → AreRead path len s (k + 1) (left - min left file_block) (number + 1)
 read_more path len s k left number pair read within more next key_is long valid =
     let some = some_left path len s k left number read more in
     let full = read.full some in
@@ -118,8 +118,8 @@ block_at path bytes number first (suc count) (suc k) l =
     block_at path bytes (number + 1) (suc first) count k (omega arith)
     ∙ ap₂ (λ (n i : ℕ). Some (run_pair path (n, run_at file_block bytes i))) (let e : number + 1 + k ≡ number + suc k = omega arith in e) (let e : suc first + k ≡ first + suc k = omega arith in e)
 
--- each pair of a file's blocks has its number, and as many bytes as are left, up to 256
-pub block_is : (path : Path) (len : ℕ) (s : List Pair) (k left number : ℕ) (pair : Pair) → AreRead path len s k left number → k < run_count file_block len → slice_get s k ≡ Some pair → AreBlocks path len s → (pair.0 ≡ key path number) × (length pair.1 ≡ min left 256)
+-- each pair of a file's blocks has its number, and as many bytes as are left, up to file_block
+pub block_is : (path : Path) (len : ℕ) (s : List Pair) (k left number : ℕ) (pair : Pair) → AreRead path len s k left number → k < run_count file_block len → slice_get s k ≡ Some pair → AreBlocks path len s → (pair.0 ≡ key path number) × (length pair.1 ≡ min left file_block)
 unfolding runs
 block_is path len s k left number pair read more here are =
     let bytes = are.0 in
@@ -128,5 +128,5 @@ block_is path len s k left number pair read more here are =
     let same : pair ≡ run_pair path (1 + k, run_at file_block bytes (0 + k)) = same_Some pair (run_pair path (1 + k, run_at file_block bytes (0 + k))) (sym here ∙ ap (λ (xs : List Pair). slice_get xs k) are.3 ∙ at) in
     let run = length-run_at file_block bytes (0 + k) in (
       ap (λ (x : Pair). x.0) same ∙ ap (key path) (let e : 1 + k ≡ number = omega (arith, read.number_is) in e),
-      ap (λ (x : Pair). length x.1) same ∙ run ∙ (let e : min 256 (length bytes - 256 * (0 + k)) ≡ min left 256 = omega (arith, are.1, read.length_is, read.full some) in e),
+      ap (λ (x : Pair). length x.1) same ∙ run ∙ (let e : min file_block (length bytes - file_block * (0 + k)) ≡ min left file_block = omega (arith, are.1, read.length_is, read.full some) in e),
     )

@@ -1,24 +1,24 @@
 -- What is found on a disk by what is found in its slots, and the verdict on it.
-use Rattle.std.proofs.Common.{◌≡◌, ◌≤◌, List, ℕ, Option, Some, None, Result, Ok, Err, MatchResult, IsOkAnd, refl, sym, ap, subst, ◌∙◌, arith}
+use Rattle.std.proofs.Common.{◌≡◌, ◌≤◌, List, ℕ, Option, Some, None, Result, Ok, Err, IfOk, refl, sym, ap, subst, ◌∙◌, arith}
 use Rattle.store_model.specs.Parameters.{Parameters}
 use Rattle.store_model.specs.Trees.{Tree}
 use Rattle.store_model.specs.Images.{slots_of, Represents}
 use Rattle.store_model.proofs.TreesLemmasBytes.{headers_same}
 use Rattle.store_model.proofs.TreesLemmasLayouts.{images_tell}
 use Rattle.store_base.specs.declared.store_fault.Fault.{Fault}
+use Rattle.store_base.specs.declared.store_fault.Fault.TheVariants as causes
 use Rattle.store_base.specs.Faults.{disk_faults_after}
 use Rattle.disk_model.specs.DiskState.{DiskState, IsObservable}
 use Rattle.gate_journal.specs.Places.{ReadsOnly}
 use Rattle.gate_journal.specs.ReadingLaws.{ReadsOnly-trans}
 use Rattle.gate_journal.specs.ViewState.{viewed, KeepsView}
 use Rattle.image_check.specs.declared.contents.Contents.{Contents}
-use Rattle.image_check.specs.declared.contents.Finding.{Finding}
-use Rattle.image_check.specs.declared.contents.Finding.TheVariants as findings
-use Rattle.image_check.specs.declared.verdict.Verdict.{Verdict}
+use Rattle.image_check.specs.declared.fault.AttachFault.{AttachFault}
+use Rattle.image_check.specs.declared.fault.AttachFault.TheVariants as attach
 use Rattle.image_check.specs.Contents.{HaveLayout, AreContents}
 use Rattle.image_check.specs.Verdicts.{clean_of, IsImageWith, HasParameters, IsDamaged, IsVerdict}
-use Rattle.image_check.specs.SlotCalls.{FindsContents}
-use Rattle.image_check.specs.ImageCalls.{ReadsDisk, HasImage, IsFinding, finding_in, IsVerdictOf, FindsImage, ChecksImage}
+use Rattle.image_check.specs.SlotCalls.{FindsContents, clean_on, contents_in, verdict_in}
+use Rattle.image_check.specs.ImageCalls.{HasImage, IsFoundOn, FindsImage, ChecksImage}
 use Rattle.image_check.proofs.Images.{slots_in, represents_tree, represented_layout}
 use Rattle.image_check.proofs.Layouts.{layout_of, verdict_on}
 
@@ -50,32 +50,45 @@ image_damaged old mid p has same reads none = record {
 }
 
 -- the verdict on what is found
-pub verdict_found : (disk : DiskState) (finding : Finding) (verdict : Verdict) → IsFinding disk finding → IsVerdictOf finding verdict → IsVerdict disk verdict
-verdict_found disk (findings.Image contents) verdict found is = subst (IsVerdict disk) (sym is) (record {
+pub verdict_found : (disk : DiskState) (found : Result Contents AttachFault) → IsFoundOn disk found → IfOk (verdict_in found) (IsVerdict disk)
+verdict_found disk (Ok contents) found = record {
   params = contents.params;
   tree = found.tree;
   has_parameters = found.has_parameters;
   represents = found.represents;
-  verdict_is = verdict_on found.tree contents.params contents _ found.contents_are refl;
-})
-verdict_found disk findings.NotImage verdict found is = subst (IsVerdict disk) (sym is) found
-verdict_found disk findings.Damaged verdict found is = subst (IsVerdict disk) (sym is) found
+  verdict_is = verdict_on found.tree contents.params contents (clean_on contents) found.contents_are refl;
+}
+verdict_found disk (Err attach.NotImage) found = found
+verdict_found disk (Err attach.Damaged) found = found
+verdict_found disk (Err attach.Disk) found = tt
+verdict_found disk (Err attach.NoMemory) found = tt
 
 -- on an observable disk that represents a tree it is that on the tree
-pub clean_found : (disk : DiskState) (finding : Finding) (verdict : Verdict) (t : Tree) (p : Parameters) → IsFinding disk finding → IsVerdictOf finding verdict → IsObservable disk → Represents disk.bytes t p → verdict ≡ clean_of t p
-clean_found disk (findings.Image contents) verdict t p found is observable represents =
+pub clean_found : (disk : DiskState) (found : Result Contents AttachFault) (t : Tree) (p : Parameters) → IsFoundOn disk found → IsObservable disk → Represents disk.bytes t p → IfOk (verdict_in found) (λ verdict. verdict ≡ clean_of t p)
+clean_found disk (Ok contents) t p found observable represents =
     let same = images_tell disk.bytes found.tree t contents.params p (found.represents observable) represents in
-    verdict_on found.tree contents.params contents verdict found.contents_are is ∙ (λ i. clean_of (same.0 i) (same.1 i))
-clean_found disk findings.NotImage verdict t p found is observable represents = absurd (found observable p (record { names = represents.names; length_is = represents.length_is }))
-clean_found disk findings.Damaged verdict t p found is observable represents = absurd (found.no_tree observable t p represents)
+    verdict_on found.tree contents.params contents (clean_on contents) found.contents_are refl ∙ (λ i. clean_of (same.0 i) (same.1 i))
+clean_found disk (Err attach.NotImage) t p found observable represents = absurd (found observable p (record { names = represents.names; length_is = represents.length_is }))
+clean_found disk (Err attach.Damaged) t p found observable represents = absurd (found.no_tree observable t p represents)
+clean_found disk (Err attach.Disk) t p found observable represents = tt
+clean_found disk (Err attach.NoMemory) t p found observable represents = tt
 
 -- ---- the calls
 
 -- what is found in slots tells what is found on a disk
-finding_found : (old mid new : DiskState) (p : Parameters) (slots : ℕ) (found : Option Contents) → HasParameters old p → mid.is_observable ≡ old.is_observable → (IsObservable old → ReadsOnly old mid)
-    → FindsContents p (viewed p.slots mid) (viewed slots new) (Ok found) → IsFinding old (finding_in found)
-finding_found old mid new p slots None has same reads finds = image_damaged old mid p has same reads finds.found
-finding_found old mid new p slots (Some contents) has same reads finds = image_found old mid finds.contents.0 p contents has same reads finds.contents.1 finds.found
+found_on : (old mid new : DiskState) (p : Parameters) (slots : ℕ) (found : Result (Option Contents) Fault) → HasParameters old p → mid.is_observable ≡ old.is_observable → (IsObservable old → ReadsOnly old mid)
+    → FindsContents p (viewed p.slots mid) (viewed slots new) found → IsFoundOn old (contents_in found)
+found_on old mid new p slots (Ok None) has same reads finds = image_damaged old mid p has same reads finds.found
+found_on old mid new p slots (Ok (Some contents)) has same reads finds = image_found old mid finds.contents.0 p contents has same reads finds.contents.1 finds.found
+found_on old mid new p slots (Err causes.Disk) has same reads finds = tt
+found_on old mid new p slots (Err causes.NoMemory) has same reads finds = tt
+
+-- and the count of faults behind it is the same
+same_faults : (count : ℕ) (found : Result (Option Contents) Fault) → disk_faults_after count found ≡ disk_faults_after count (verdict_in (contents_in found))
+same_faults count (Ok None) = refl
+same_faults count (Ok (Some contents)) = refl
+same_faults count (Err causes.Disk) = refl
+same_faults count (Err causes.NoMemory) = refl
 
 -- a search through a view on a disk with these parameters
 pub record SearchesView (p seen left : Parameters) (mid new : DiskState) (found : Result (Option Contents) Fault) : Type 0 where
@@ -83,25 +96,20 @@ pub record SearchesView (p seen left : Parameters) (mid new : DiskState) (found 
   pub finds : FindsContents p (viewed seen.slots mid) (viewed left.slots new) found
 
 -- a search of a disk: its parameters are read, and then its slots through a view
-pub searches_image : (old mid new : DiskState) (p left : Parameters) (found : Result (Option Contents) Fault) (result : Result Finding Fault) → HasParameters old p → mid.size ≡ old.size → mid.is_observable ≡ old.is_observable → mid.faults ≡ old.faults
-    → old.faults ≤ mid.faults → old.writes ≤ mid.writes → old.syncs ≤ mid.syncs → (IsObservable old → ReadsOnly old mid) → SearchesView p p left mid new found → MatchResult found (λ x. IsOkAnd result (λ y. y ≡ finding_in x)) (λ e. result ≡ Err e) → FindsImage old new result
-searches_image old mid new p left found result has size observable faults rise writes syncs reads view answer = by_answer found result view.finds answer
-  where
-    read : {T : Type 0} (r : Result T Fault) → new.faults ≡ disk_faults_after mid.faults r → ReadsDisk old new r
-    read r counted = record {
-      size = view.keeps.size ∙ size;
-      observable = view.keeps.observable ∙ observable;
-      faults = counted ∙ ap (λ n. disk_faults_after n r) faults;
-      rise = omega (arith, rise, view.keeps.rise);
-      writes = omega (arith, writes, view.keeps.writes);
-      syncs = omega (arith, syncs, view.keeps.syncs);
-      reads = λ told. ReadsOnly-trans old mid new (reads told) (view.keeps.reads (observable ∙ told));
-    }
-
-    by_answer : (f : Result (Option Contents) Fault) (r : Result Finding Fault) → FindsContents p (viewed p.slots mid) (viewed left.slots new) f → MatchResult f (λ x. IsOkAnd r (λ y. y ≡ finding_in x)) (λ e. r ≡ Err e) → FindsImage old new r
-    by_answer (Ok x) (Ok y) is same = record { reads = read (Ok y) is.reads.faults; found = subst (IsFinding old) (sym same) (finding_found old mid new p left.slots x has observable reads is) }
-    by_answer (Ok x) (Err e) is same = absurd same
-    by_answer (Err e) r is same = subst (FindsImage old new) (sym same) (record { reads = read (Err e) is.reads.faults; found = tt })
+pub searches_image : (old mid new : DiskState) (p left : Parameters) (found : Result (Option Contents) Fault) → HasParameters old p → mid.size ≡ old.size → mid.is_observable ≡ old.is_observable → mid.faults ≡ old.faults
+    → old.faults ≤ mid.faults → old.writes ≤ mid.writes → old.syncs ≤ mid.syncs → (IsObservable old → ReadsOnly old mid) → SearchesView p p left mid new found → FindsImage old new (contents_in found)
+searches_image old mid new p left found has size observable faults rise writes syncs reads view = record {
+  reads = record {
+    size = view.keeps.size ∙ size;
+    observable = view.keeps.observable ∙ observable;
+    faults = view.finds.reads.faults ∙ ap (λ n. disk_faults_after n found) faults ∙ same_faults old.faults found;
+    rise = omega (arith, rise, view.keeps.rise);
+    writes = omega (arith, writes, view.keeps.writes);
+    syncs = omega (arith, syncs, view.keeps.syncs);
+    reads = λ told. ReadsOnly-trans old mid new (reads told) (view.keeps.reads (observable ∙ told));
+  };
+  found = found_on old mid new p left.slots found has observable reads view.finds;
+}
 
 -- a view on this disk, handed back as that one
 pub views_disk : (p seen left : Parameters) (at mid back new : DiskState) (found : Result (Option Contents) Fault) → seen ≡ p → at ≡ mid → back ≡ new → SearchesView p seen left at back found → SearchesView p p left mid new found
@@ -110,15 +118,9 @@ views_disk p seen left at mid back new found named disk handed view =
     (subst (λ (d : DiskState). SearchesView p p left d back found) disk (subst (λ (q : Parameters). SearchesView p q left at back found) named view))
 
 -- the check of a disk, by what is found on it
-pub checks_image : (old new : DiskState) (found : Result Finding Fault) (result : Result Verdict Fault) → FindsImage old new found → MatchResult found (λ x. IsOkAnd result (IsVerdictOf x)) (λ e. result ≡ Err e) → ChecksImage old new result
-checks_image old new (Ok finding) (Ok verdict) finds is = record {
-  reads = record { size = finds.reads.size; observable = finds.reads.observable; faults = finds.reads.faults; rise = finds.reads.rise; writes = finds.reads.writes; syncs = finds.reads.syncs; reads = finds.reads.reads };
-  verdict = verdict_found old finding verdict finds.found is;
-  clean = λ observable t p represents. clean_found old finding verdict t p finds.found is observable represents;
+pub checks_image : (old new : DiskState) (found : Result Contents AttachFault) → FindsImage old new found → ChecksImage old new (verdict_in found)
+checks_image old new found finds = record {
+  reads = finds.reads;
+  verdict = verdict_found old found finds.found;
+  clean = λ observable t p represents. clean_found old found t p finds.found observable represents;
 }
-checks_image old new (Ok finding) (Err e) finds is = absurd is
-checks_image old new (Err e) result finds is = subst (ChecksImage old new) (sym is) (record {
-  reads = record { size = finds.reads.size; observable = finds.reads.observable; faults = finds.reads.faults; rise = finds.reads.rise; writes = finds.reads.writes; syncs = finds.reads.syncs; reads = finds.reads.reads };
-  verdict = tt;
-  clean = λ observable t p represents. tt;
-})

@@ -18,7 +18,7 @@ use Rattle.image_check.specs.declared.verdict.Verdict.{Verdict}
 use Rattle.image_check.specs.declared.verdict.Verdict.TheVariants as verdicts
 use Rattle.image_check.specs.Contents.{table_of, HaveLayout, AreContents}
 use Rattle.image_check.specs.Verdicts.{clean_of, AreCleanSlots}
-use Rattle.image_check.specs.SlotCalls.{IsVerdictOn}
+use Rattle.image_check.specs.SlotCalls.{clean_on}
 
 -- the table of a tree as bytes, by its slots
 bytes_by_slots : (t : Tree) (p : Parameters) → table_bytes (table_of t p) ≡ flat_map (λ (slot : List ℕ). slot) (slots_of (table_of t p))
@@ -40,7 +40,7 @@ pages_of_contents t p contents are =
     ∙ length_permutation (pages t p) (pages_in (table_of t p)) (IsPermutation-place (draw_of p) (pages t p) (IsLawful-draw_of p are.in_range) are.fits)
 
 -- the verdict on the contents of a tree
-pub verdict_on : (t : Tree) (p : Parameters) (contents : Contents) (verdict : Verdict) → AreContents t p contents → IsVerdictOn contents verdict → verdict ≡ clean_of t p
+pub verdict_on : (t : Tree) (p : Parameters) (contents : Contents) (verdict : Verdict) → AreContents t p contents → verdict ≡ clean_on contents → verdict ≡ clean_of t p
 verdict_on t p contents verdict are is =
     let counted = pages_of_contents t p contents are in
     let dirs = are.counts_are.dirs_are in
@@ -53,11 +53,11 @@ pub layout_of : (slots : List (List ℕ)) (t : Tree) (p : Parameters) (contents 
 layout_of slots t p contents are is = record { tree = are.tree; fits = are.fits; slots_are = is ∙ ap slots_of are.table_is }
 
 -- so their verdict is clean
-pub clean_slots : (slots : List (List ℕ)) (t : Tree) (p : Parameters) (contents : Contents) (verdict : Verdict) → AreContents t p contents → slots ≡ slots_of contents.layout → IsVerdictOn contents verdict → AreCleanSlots slots p verdict
+pub clean_slots : (slots : List (List ℕ)) (t : Tree) (p : Parameters) (contents : Contents) (verdict : Verdict) → AreContents t p contents → slots ≡ slots_of contents.layout → verdict ≡ clean_on contents → AreCleanSlots slots p verdict
 clean_slots slots t p contents verdict are is on = record { tree = t; layout = layout_of slots t p contents are is; verdict_is = verdict_on t p contents verdict are on }
 
 -- and it is that on each tree that they hold
-pub clean_with : (slots : List (List ℕ)) (t u : Tree) (p : Parameters) (contents : Contents) (verdict : Verdict) → AreContents t p contents → slots ≡ slots_of contents.layout → IsVerdictOn contents verdict → HaveLayout slots u p → verdict ≡ clean_of u p
+pub clean_with : (slots : List (List ℕ)) (t u : Tree) (p : Parameters) (contents : Contents) (verdict : Verdict) → AreContents t p contents → slots ≡ slots_of contents.layout → verdict ≡ clean_on contents → HaveLayout slots u p → verdict ≡ clean_of u p
 clean_with slots t u p contents verdict are is on other =
     let held = layout_of slots t p contents are is in
     let same : t ≡ u = slots_tell t u p are.in_range are.tree other.tree are.fits other.fits (sym held.slots_are ∙ other.slots_are) in

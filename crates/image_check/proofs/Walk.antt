@@ -24,13 +24,14 @@ use Rattle.store_model.proofs.TreesLemmas.{IsTree-with_node, node_at-find, entry
 use Rattle.store_model.proofs.TreesLemmasBytes.{heads_same}
 use Rattle.store_model.proofs.TreesLemmasFits.{IsTree-empty}
 use Rattle.store_model.proofs.TreesLemmasPaths.{path_cmp_total, last_step}
-use Rattle.tree_pairs.specs.Blocks.{block_value}
+use Rattle.tree_pairs.proofs.TreeBlocks.{block_value}
 use Rattle.tree_pairs.proofs.BlocksLemmas.{find-append, find_missing, pairs_have_blocks}
 use Rattle.image_check.specs.declared.contents.Counts.{Counts}
-use Rattle.image_check.specs.declared.kind.Kind.{Kind}
-use Rattle.image_check.specs.declared.kind.Kind.TheVariants as kinds
+use Rattle.tree_pairs.specs.declared.kind.Kind.{Kind}
+use Rattle.tree_pairs.specs.declared.kind.Kind.TheVariants as kinds
 use Rattle.image_check.specs.Contents.{AreCounts}
-use Rattle.image_check.specs.Entries.{kind_of, IsKind, CountsMore, StandsFirst}
+use Rattle.tree_pairs.specs.Kinds.{kind_of, IsKind}
+use Rattle.image_check.specs.Entries.{CountsMore, StandsFirst}
 use Rattle.layout_scratch.specs.Sorting.{pair_cmp}
 use Rattle.image_check.specs.Parents.{MayHaveChildren}
 
@@ -179,7 +180,8 @@ pub record AreLeft (t : Tree) (p : Parameters) (s : List Pair) (at : ℕ) : Type
   pub entries : AllByRecursion (IsEntry t) left
   pub pairs_are : drop at s ≡ pairs left p
 
--- the pairs before a place are those of a tree, which is counted; where all are a tree's, those behind are entries of it
+-- the pairs before a place are those of a tree, which is counted; where all are a tree's, those behind are entries of
+-- it
 pub record IsWalked (p : Parameters) (s : List Pair) (at : ℕ) (counts : Counts) : Type 0 where
   pub tree : Tree
   pub is_tree : IsTree tree

@@ -4,12 +4,12 @@ use Rattle.std.specs.List.{enumerate_from}
 use Rattle.store_model.specs.Lists.{IsBytes, runs, run_count}
 use Rattle.store_model.specs.Parameters.{Parameters}
 use Rattle.store_model.specs.Paths.{Path, is_path, is_root, key}
-use Rattle.store_model.specs.Pairs.{Pair, file_block, directory_value, file_value, node_pairs}
-use Rattle.store_model.specs.Trees.{Node, IsNode, file_limit}
-use Rattle.store_model.specs.Trees.Node.{Directory, File}
+use Rattle.store_model.specs.Pairs.{Pair, file_block, node_pairs}
+use Rattle.store_model.specs.Trees.{Node, IsNode}
 use Rattle.image_check.specs.declared.contents.Counts.{Counts}
-use Rattle.image_check.specs.declared.kind.Kind.{Kind}
-use Rattle.image_check.specs.declared.kind.Kind.TheVariants as kinds
+use Rattle.tree_pairs.specs.declared.kind.Kind.{Kind}
+use Rattle.tree_pairs.specs.declared.kind.Kind.TheVariants as kinds
+use Rattle.tree_pairs.specs.Kinds.{kind_of, value_of, IsKind}
 
 -- the pairs of the blocks of a file
 abbrev pub block_pairs : Path → List ℕ → List Pair
@@ -18,21 +18,6 @@ block_pairs path bytes = map (λ b. (key path b.0, b.1)) (enumerate_from 1 (runs
 -- the pairs are the blocks of a file with so many bytes
 abbrev pub AreBlocks : Path → ℕ → List Pair → Type 0
 AreBlocks path len s = (bytes : List ℕ) × (length bytes ≡ len) × IsBytes bytes × (s ≡ block_pairs path bytes)
-
--- what stands at a path, as the program says it
-abbrev pub kind_of : Node → Kind
-kind_of Directory = kinds.Directory
-kind_of (File bytes) = kinds.File (length bytes)
-
--- the first value of what stands at a path
-abbrev pub value_of : Kind → List ℕ
-value_of kinds.Directory = directory_value
-value_of (kinds.File len) = file_value len
-
--- the length of a file is in its range
-abbrev pub IsKind : Kind → Type 0
-IsKind kinds.Directory = Unit {0}
-IsKind (kinds.File len) = len ≤ file_limit
 
 -- the key and the value are those of the first pair of a path
 pub record IsFirst (path : Path) (kind : Kind) (key_bytes value : List ℕ) : Type 0 where

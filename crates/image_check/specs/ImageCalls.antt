@@ -1,5 +1,5 @@
 -- What the checks of images ensure.
-use Rattle.std.specs.Prelude.{◌≡◌, ◌≤◌, Option, Some, None, Result, IfOk}
+use Rattle.std.specs.Prelude.{◌≡◌, ◌≤◌, Result, Ok, Err, IfOk}
 use Rattle.store_model.specs.Parameters.{Parameters}
 use Rattle.store_model.specs.Trees.{Tree}
 use Rattle.store_model.specs.Images.{Represents}
@@ -8,16 +8,15 @@ use Rattle.store_base.specs.Faults.{disk_faults_after}
 use Rattle.disk_model.specs.DiskState.{DiskState, IsObservable}
 use Rattle.gate_journal.specs.Places.{ReadsOnly}
 use Rattle.image_check.specs.declared.contents.Contents.{Contents}
-use Rattle.image_check.specs.declared.contents.Finding.{Finding}
-use Rattle.image_check.specs.declared.contents.Finding.TheVariants as findings
+use Rattle.image_check.specs.declared.fault.AttachFault.{AttachFault}
+use Rattle.image_check.specs.declared.fault.AttachFault.TheVariants as attach
 use Rattle.image_check.specs.declared.verdict.Verdict.{Verdict}
-use Rattle.image_check.specs.declared.verdict.Verdict.TheVariants as verdicts
 use Rattle.image_check.specs.Contents.{AreContents}
-use Rattle.image_check.specs.SlotCalls.{IsVerdictOn}
+use Rattle.image_check.specs.SlotCalls.{verdict_in}
 use Rattle.image_check.specs.Verdicts.{clean_of, IsVerdict, IsNoImage, IsDamaged, HasParameters}
 
--- Reads of a disk, of which the first that fails is the last: nothing is written or synced, and nothing is pending but what
--- was. The count of faults is one more after a fault of the disk, and else the same; no count falls.
+-- Reads of a disk, of which the first that fails is the last: nothing is written or synced, and nothing is pending but
+-- what was. The count of faults is one more after a fault of the disk, and else the same; no count falls.
 pub record ReadsDisk {T : Type 0} (old new : DiskState) (result : Result T Fault) : Type 0 where
   pub size : new.size ≡ old.size
   pub observable : new.is_observable ≡ old.is_observable
@@ -34,27 +33,19 @@ pub record HasImage (disk : DiskState) (contents : Contents) : Type 0 where
   pub has_parameters : HasParameters disk contents.params
   pub represents : IsObservable disk → Represents disk.bytes tree contents.params
 
--- what is found on a disk
-abbrev pub IsFinding : DiskState → Finding → Type 0
-IsFinding disk (findings.Image contents) = HasImage disk contents
-IsFinding disk findings.NotImage = IsNoImage disk
-IsFinding disk findings.Damaged = IsDamaged disk
+-- what a disk holds, or why it holds no tree; where the disk failed and where memory ran out, nothing is said of it
+abbrev pub IsFoundOn : DiskState → Result Contents AttachFault → Type 0
+IsFoundOn disk (Ok contents) = HasImage disk contents
+IsFoundOn disk (Err attach.NotImage) = IsNoImage disk
+IsFoundOn disk (Err attach.Damaged) = IsDamaged disk
+IsFoundOn disk (Err attach.Disk) = Unit {0}
+IsFoundOn disk (Err attach.NoMemory) = Unit {0}
 
--- what is found on a disk of an image's length whose slots hold this
-abbrev pub finding_in : Option Contents → Finding
-finding_in (Some contents) = findings.Image contents
-finding_in None = findings.Damaged
-
--- the verdict on what is found
-abbrev pub IsVerdictOf : Finding → Verdict → Type 0
-IsVerdictOf (findings.Image contents) verdict = IsVerdictOn contents verdict
-IsVerdictOf findings.NotImage verdict = verdict ≡ verdicts.NotImage
-IsVerdictOf findings.Damaged verdict = verdict ≡ verdicts.Damaged
-
--- a search for what an image holds
-pub record FindsImage (old new : DiskState) (result : Result Finding Fault) : Type 0 where
-  pub reads : ReadsDisk old new result
-  pub found : IfOk result (IsFinding old)
+-- A search for what an image holds. Its reads are those of the check that gives the verdict on it: that there is no
+-- image, or a damaged one, is no fault of theirs.
+pub record FindsImage (old new : DiskState) (result : Result Contents AttachFault) : Type 0 where
+  pub reads : ReadsDisk old new (verdict_in result)
+  pub found : IsFoundOn old result
 
 -- a check of an image
 pub record ChecksImage (old new : DiskState) (result : Result Verdict Fault) : Type 0 where

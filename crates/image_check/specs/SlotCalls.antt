@@ -1,16 +1,20 @@
 -- What the checks of slots ensure.
-use Rattle.std.specs.Prelude.{◌≡◌, ℕ, List, Option, Some, None, Result, IfOk, IfSome, length}
+use Rattle.std.specs.Prelude.{◌≡◌, ℕ, List, Option, Some, None, Result, Ok, Err, IfOk, IfSome, length}
 use Rattle.store_model.specs.Parameters.{Parameters}
 use Rattle.store_model.specs.Trees.{Tree}
 use Rattle.store_model.specs.Placement.{pages_in}
 use Rattle.store_model.specs.Images.{slots_of}
 use Rattle.store_base.specs.declared.store_fault.Fault.{Fault}
+use Rattle.store_base.specs.declared.store_fault.Fault.TheVariants as causes
 use Rattle.store_base.specs.SlotsState.{SlotsState, IsObservable}
 use Rattle.layout_scratch.specs.SlotReads.{ReadsSlots}
 use Rattle.image_check.specs.declared.contents.Contents.{Contents}
+use Rattle.image_check.specs.declared.fault.AttachFault.{AttachFault}
+use Rattle.image_check.specs.declared.fault.AttachFault.TheVariants as attach
 use Rattle.image_check.specs.declared.verdict.Verdict.{Verdict}
 use Rattle.image_check.specs.declared.verdict.Verdict.TheVariants as verdicts
 use Rattle.image_check.specs.Contents.{HaveLayout, AreContents}
+use Rattle.image_check.specs.Faults.{attach_fault_of}
 use Rattle.image_check.specs.Verdicts.{clean_of, IsSlotsVerdict}
 
 -- what is found in slots: their layout where they hold a tree, and nothing exactly where they hold none
@@ -25,8 +29,22 @@ pub record FindsContents (p : Parameters) (old new : SlotsState) (result : Resul
   pub found : IsObservable old → IfOk result (IsFoundIn old.slots p)
 
 -- the verdict on what a layout holds
-abbrev pub IsVerdictOn : Contents → Verdict → Type 0
-IsVerdictOn contents verdict = verdict ≡ verdicts.Clean (length (pages_in contents.layout)) contents.counts.dirs contents.counts.files contents.counts.bytes
+abbrev pub clean_on : Contents → Verdict
+clean_on contents = verdicts.Clean (length (pages_in contents.layout)) contents.counts.dirs contents.counts.files contents.counts.bytes
+
+-- the contents of an image by what was found in its slots, or why it has none: it is damaged where they hold no tree
+abbrev pub contents_in : Result (Option Contents) Fault → Result Contents AttachFault
+contents_in (Ok (Some contents)) = Ok contents
+contents_in (Ok None) = Err attach.Damaged
+contents_in (Err cause) = Err (attach_fault_of cause)
+
+-- the verdict on an image by its contents, or by why there are none
+abbrev pub verdict_in : Result Contents AttachFault → Result Verdict Fault
+verdict_in (Ok contents) = Ok (clean_on contents)
+verdict_in (Err attach.NotImage) = Ok verdicts.NotImage
+verdict_in (Err attach.Damaged) = Ok verdicts.Damaged
+verdict_in (Err attach.Disk) = Err causes.Disk
+verdict_in (Err attach.NoMemory) = Err causes.NoMemory
 
 -- a check of slots
 pub record ChecksSlots (p : Parameters) (old new : SlotsState) (result : Result Verdict Fault) : Type 0 where

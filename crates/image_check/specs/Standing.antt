@@ -1,11 +1,10 @@
 -- Trees that fit, and disks that read their layouts.
-use Rattle.std.specs.Prelude.{◌≡◌, ◌⊎◌, Result, OnOk}
+use Rattle.std.specs.Prelude.{◌≡◌}
 use Rattle.store_model.specs.Parameters.{Parameters, IsParameters}
 use Rattle.store_model.specs.Trees.{Tree, IsTree}
 use Rattle.store_model.specs.Pages.{Fits}
 use Rattle.store_model.specs.Images.{layout, Represents}
 use Rattle.disk_model.specs.DiskState.{DiskState, IsDurable}
-use Rattle.disk_model.specs.DiskCalls.{LeavesOnly}
 
 -- a tree whose pages are no more than the slots, under parameters in their range
 pub record IsFitting (t : Tree) (p : Parameters) : Type 0 where
@@ -23,10 +22,3 @@ pub record RepresentsSome (disk : DiskState) : Type 0 where
   pub tree : Tree
   pub params : Parameters
   pub represents : Represents disk.bytes tree params
-
--- The disk goes from one tree to another: an image that a crash at any moment may leave represents the one or the other,
--- and so does what the disk reads, also after a fault; after Ok it stands at the other.
-pub record Moves {T E : Type 0} (t u : Tree) (p : Parameters) (old new : DiskState) (result : Result T E) : Type 0 where
-  pub crash : LeavesOnly old new (λ image. Represents image t p ⊎ Represents image u p)
-  pub reads : Represents new.bytes t p ⊎ Represents new.bytes u p
-  pub stands : OnOk result (Stands new u p)

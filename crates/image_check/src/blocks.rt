@@ -8,12 +8,7 @@ ghost use Rattle.image_check.specs.Entries.{AreBlocks};
 
 use path_keys::Path;
 use store_base::{Key, Value};
-
-/// The most bytes of a file.
-pub const MAX_FILE: u32 = 1_048_576;
-
-/// The most bytes of a file in one pair.
-const FILE_BLOCK: u32 = Value::MAX_LEN as u32;
+use tree_pairs::FILE_BLOCK;
 
 /// How many blocks a file of so many bytes has.
 pub fn block_count(len: u32) -> u32

@@ -27,14 +27,3 @@ pub struct Contents {
     /// What the tree holds.
     pub counts: Counts,
 }
-
-/// What is found on a disk.
-#[derive(Drop)]
-pub enum Finding {
-    /// An image that represents a tree.
-    Image(Contents),
-    /// No image: the disk does not start with the header of some image of its length.
-    NotImage,
-    /// An image, but what recovery would leave is the layout of no tree.
-    Damaged,
-}

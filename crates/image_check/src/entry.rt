@@ -5,32 +5,23 @@ ghost use Rattle.store_model.specs.Parameters.{Parameters};
 ghost use Rattle.store_model.specs.Paths as paths;
 ghost use Rattle.store_model.specs.Pairs as model;
 ghost use Rattle.store_model.specs.Trees as trees;
-ghost use Rattle.image_check.specs.Entries.{IsKind, value_of, kind_of, IsFirst, HasPairs, StandsFirst};
+ghost use Rattle.tree_pairs.specs.Kinds.{IsKind, kind_of};
+ghost use Rattle.image_check.specs.Entries.{IsFirst, HasPairs, StandsFirst};
 
-use crate::blocks::{MAX_FILE, are_blocks, block_count};
-use crate::kind::{Entry, Kind};
+use crate::blocks::{are_blocks, block_count};
 use path_keys::Path;
 use store_base::{Key, Value};
+use tree_pairs::{Kind, kind_in};
 
-/// The byte that is a directory's value.
-const DIRECTORY: u8 = 1;
-
-/// The byte that begins the first value of a file.
-const FILE: u8 = 2;
-
-/// What the first value of a path says; `None` exactly where it is no such value.
-fn kind_in(value: &[u8]) -> Option<Kind>
-    ensures found { IfSome result (λ kind. IsKind kind × (value.now ≡ value_of kind)) }
-    ensures only { (kind : Kind) → IsKind kind → value.now ≡ value_of kind → result ≡ Some kind }
-{
-    match value {
-        [DIRECTORY] => Some(Kind::Directory),
-        [FILE, a, b, c, d] => {
-            let len = u32::from_be_bytes([*a, *b, *c, *d]);
-            (len <= MAX_FILE).then_some(Kind::File(len))
-        }
-        _ => None,
-    }
+/// What stands at a path, and how many pairs it has.
+#[derive(Clone, Copy)]
+pub struct Entry {
+    /// The path, which is not the root.
+    pub path: Path,
+    /// What stands there.
+    pub kind: Kind,
+    /// The number of its pairs, which is at least 1.
+    pub count: usize,
 }
 
 /// How many pairs what stands at a path has, where the pairs begin with it; `None` where they do not.

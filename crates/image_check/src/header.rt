@@ -14,8 +14,8 @@ use store_model::{BLOCK, Slot};
 /// The bytes of a header, which is one block.
 const HEADER: u64 = BLOCK as u64;
 
-/// The parameters of the image on a disk, which is only read; `None` where it does not start with the header of some image
-/// of its length, and nowhere else. A fault of the disk is handed on.
+/// The parameters of the image on a disk, which is only read; `None` where it does not start with the header of some
+/// image of its length, and nowhere else. A fault of the disk is handed on.
 pub fn read_params<D: Disk>(disk: &mut D) -> Result<Option<Params>, DiskFault>
     ensures size { (D.state disk.new).size ≡ (D.state disk.old).size }
     ensures observable { (D.state disk.new).is_observable ≡ (D.state disk.old).is_observable }

@@ -12,13 +12,12 @@ mod entry;
 mod fault;
 mod header;
 mod image;
-mod kind;
 mod order;
 mod slots;
 mod tree;
 mod verdict;
 
-pub use contents::{Contents, Counts, Finding};
+pub use contents::{Contents, Counts};
 pub use fault::{ApplyFault, AttachFault};
 pub use header::read_params;
 pub use image::{check, find_image};

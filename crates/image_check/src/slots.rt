@@ -7,20 +7,20 @@ ghost use Rattle.store_model.specs.Trees.{Tree, IsTree};
 ghost use Rattle.store_model.specs.Pairs as model;
 ghost use Rattle.image_check.specs.Collected.{most_table_pairs};
 ghost use Rattle.image_check.specs.Contents.{AreCounts};
-ghost use Rattle.image_check.specs.SlotCalls.{FindsContents, ChecksSlots, IsVerdictOn};
+ghost use Rattle.image_check.specs.SlotCalls.{FindsContents, ChecksSlots};
 
 use crate::collect::read_pairs;
 use crate::contents::{Contents, Counts};
 use crate::order::{do_rise, list_of, sort_pairs};
 use crate::tree::count_tree;
-use crate::verdict::Verdict;
+use crate::verdict::{Verdict, contents_of, verdict_of};
 use layout_scratch::{ScratchFault, are_layout, build};
 use node_pages::PairList;
 use std::alloc::Global;
 use store_base::{Fault, Key, NoMemory, Params, ReadSlots, Value};
 
 /// Pairs in the order of their keys, with what their tree holds; `None` exactly where they are no tree's.
-fn tree_pairs(
+fn in_key_order(
     alloc: Global,
     mut pairs: Vec<(Key, Value)>,
 ) -> Result<Option<(PairList, Counts)>, NoMemory>
@@ -54,7 +54,7 @@ pub fn find_contents<S: ReadSlots>(
     let Some(pairs) = read_pairs(alloc, slots, params)? else {
         return Ok(None);
     };
-    let Some((pairs, counts)) = tree_pairs(alloc, pairs)? else {
+    let Some((pairs, counts)) = in_key_order(alloc, pairs)? else {
         return Ok(None);
     };
     let layout = match build(alloc, params, &pairs) {
@@ -74,18 +74,6 @@ pub fn find_contents<S: ReadSlots>(
     }))
 }
 
-/// The verdict on what a tree's layout holds.
-pub fn clean(contents: &Contents) -> Verdict
-    ensures { IsVerdictOn contents.now result }
-{
-    Verdict::Clean {
-        pages: contents.layout.used(),
-        dirs: contents.counts.dirs,
-        files: contents.counts.files,
-        bytes: contents.counts.bytes,
-    }
-}
-
 /// Checks slots: `Clean` exactly where they are the layout of a tree, and else `Damaged`; it never answers `NotImage`.
 /// There have to be as many slots as the parameters say. A fault of the slots is handed on, and the slots are as they
 /// were; `NoMemory` comes for want of memory too.
@@ -98,8 +86,5 @@ pub fn check_slots<S: ReadSlots>(
     ensures call { ChecksSlots params.now (S.state slots.old) (S.state slots.new) result }
     ensures follows { S.follows slots.old slots.new }
 {
-    Ok(match find_contents(alloc, slots, params)? {
-        Some(contents) => clean(&contents),
-        None => Verdict::Damaged,
-    })
+    verdict_of(contents_of(find_contents(alloc, slots, params)))
 }

@@ -10,15 +10,15 @@ ghost use Rattle.image_check.specs.Collected.{most_table_pairs};
 ghost use Rattle.image_check.specs.Contents.{AreCounts};
 ghost use Rattle.node_pages.specs.Places.{IsPlaceOf};
 ghost use Rattle.image_check.specs.Parents.{MayHaveChildren};
-ghost use Rattle.image_check.specs.Entries.{IsKind, CountsMore};
+ghost use Rattle.tree_pairs.specs.Kinds.{IsKind};
+ghost use Rattle.image_check.specs.Entries.{CountsMore};
 
 use crate::contents::Counts;
 use crate::entry::first_entry;
-use crate::kind::Kind;
 use path_keys::Path;
 use std::cmp::Ordering;
 use store_base::{Key, Value};
-use tree_pairs::directory_value;
+use tree_pairs::{Kind, directory_value};
 
 /// The place of a key among sorted pairs: of its pair, or as the error the place where its pair would stand.
 fn place_of(pairs: &[(Key, Value)], key: &Key) -> Result<usize, usize>

@@ -1,4 +1,4 @@
--- What each phase of a scrub scrubs to.
+-- The phases of a scrub, each a predicate on images, and what each scrubs to.
 use Rattle.std.proofs.Common.{◌≡◌, ℕ, ◌<◌, List, ◌++◌, length, take, slice_index, false, Bool, ◌&&◌, if◌then◌else◌, sym, ap, ◌∙◌, subst, inl, inr, arith, length-take, append_assoc}
 use Rattle.std.specs.List.{flat_map}
 use Rattle.std.proofs.lemmas.Bool.{cases_eq}
@@ -9,16 +9,28 @@ use Rattle.store_model.specs.Images.{bytes_at, is_flag_set, is_marked, recovered
 use Rattle.store_model.proofs.ImagesLemmasScrubbed.{slot_of_scrubbed, length-scrubbed, scrubbed-recovered, recovered-scrubbed}
 use Rattle.gate_journal.specs.Places.{SameAt}
 use Rattle.gate_journal.specs.Phases.{table_slot, HasEmptyJournal}
+use Rattle.gate_journal.specs.Recovery.{RecoversAs}
 use Rattle.gate_journal.proofs.Areas.{marks_end, shadow_end, table_end}
 use Rattle.gate_journal.proofs.Places.{bytes_at-same}
 use Rattle.gate_journal.proofs.Phases.{same_parts, same_settled}
 use Rattle.gate_journal.proofs.Committing.{clear_flag}
 use Rattle.gate_journal.proofs.Recovering.{long-recovered, empty-recovered}
 use Rattle.scrub_free.specs.FreeSlots.{OutsideFree, AreScrubbed}
-use Rattle.scrub_free.specs.Scrubbing.{ScrubsAs, ScrubPhase, InScrubPhase}
-use Rattle.scrub_free.specs.Scrubbing.ScrubPhase.{Recovering, Zeroing}
+use Rattle.scrub_free.specs.Scrubbing.{ScrubsAs}
 use Rattle.scrub_free.proofs.Blocks.{free_block}
 use Rattle.scrub_free.proofs.Free.{slot_first, first_spared, used_spared, head_spared}
+
+-- what a scrub does, one phase after another
+pub data ScrubPhase : Type 0 where
+  -- the journal is recovered
+  Recovering : ScrubPhase
+  -- the image is the recovered one; its free slots are made zero
+  Zeroing : ScrubPhase
+
+-- an image that a crash in this phase may leave, on the way from the old image
+abbrev pub InScrubPhase : ℕ → List ℕ → ScrubPhase → List ℕ → Type 0
+InScrubPhase slots old Recovering image = RecoversAs slots old image
+InScrubPhase slots old Zeroing image = SameAt (OutsideFree slots (recovered slots old)) (recovered slots old) image
 
 -- with the flag clear it is the table that is scrubbed
 clear_slot : (slots : ℕ) (image : List ℕ) (i : ℕ) → is_flag_set image ≡ false → scrubbed_slot slots image i ≡ scrubbed_block (table_slot slots image i)

@@ -18,7 +18,7 @@ use Rattle.gate_journal.proofs.Recovering.{table-recovered, long-recovered}
 use Rattle.gate_journal.proofs.Stages.{no_claim, on_ok_map}
 use Rattle.scrub_free.specs.FreeSlots.{OutsideFreeSlot, OutsideFree, AreScrubbed, block_writes, scrub_writes}
 use Rattle.scrub_free.specs.Scrubbing.{ScrubsAs, ScrubsImage, writes_to_scrub, CountsScrub}
-use Rattle.scrub_free.specs.Scrubbing.ScrubPhase.{Recovering, Zeroing}
+use Rattle.scrub_free.proofs.Phases.ScrubPhase.{Recovering, Zeroing}
 use Rattle.scrub_free.proofs.Free.{slot_first, beside}
 use Rattle.scrub_free.proofs.Phases.{when_zeroed, scrubbed_in_phase}
 use Rattle.scrub_free.proofs.Counting.{scrub_writes-more, scrub_writes-same}

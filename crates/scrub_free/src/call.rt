@@ -15,8 +15,8 @@ use image_check::{Verdict, check_slots, read_params};
 use std::alloc::Global;
 use store_base::{DiskFault, Fault, Params};
 
-/// The verdict on the slots that scrubbing would leave. The disk is only read, and handed back; with it comes of how many
-/// slots, from the first on, the check found that recovery leaves them clean.
+/// The verdict on the slots that scrubbing would leave. The disk is only read, and handed back; with it comes of how
+/// many slots, from the first on, the check found that recovery leaves them clean.
 fn check_scrubbed<D: Disk>(
     alloc: Global,
     disk: D,
@@ -41,16 +41,17 @@ fn answer_of(scrubbed: Result<(), DiskFault>, verdict: Verdict) -> Result<Verdic
     Ok(verdict)
 }
 
-/// Makes an image what scrubbing leaves of it, where that is the layout of a tree: recovers its journal, and makes each free
-/// slot of the table zero (its byte 0 is 0 already). The disk is handed back.
+/// Makes an image what scrubbing leaves of it, where that is the layout of a tree: recovers its journal, and makes each
+/// free slot of the table zero (its byte 0 is 0 already). The disk is handed back.
 ///
 /// `NotImage` is the answer to a disk that does not start with the header of some image of its length, and to no other;
-/// `Damaged` that to any other disk of which scrubbing would leave the layout of no tree. Then nothing was written. `Clean`
-/// comes with what that tree holds, and then the disk is durable and reads its layout; no slot is written that is clean.
+/// `Damaged` that to any other disk of which scrubbing would leave the layout of no tree. Then nothing was written.
+/// `Clean` comes with what that tree holds, and then the disk is durable and reads its layout; no slot is written that
+/// is clean.
 ///
-/// `Fault::Disk` comes only where the disk failed; `Fault::NoMemory` comes before the first write. Each image that a crash
-/// at any moment of the call may leave is one that a crash before it might have left, or scrubs to the same, and so does
-/// what the disk reads after a fault: scrub it again.
+/// `Fault::Disk` comes only where the disk failed; `Fault::NoMemory` comes before the first write. Each image that a
+/// crash at any moment of the call may leave is one that a crash before it might have left, or scrubs to the same, and
+/// so does what the disk reads after a fault: scrub it again.
 pub fn scrub<D: Disk>(alloc: Global, mut disk: D) -> (D, Result<Verdict, Fault>)
     ensures { Scrubs (D.state disk) (D.state result.0) result.1 }
 {

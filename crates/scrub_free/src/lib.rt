@@ -1,8 +1,9 @@
 //! The repair of an image: the journal is recovered, and each free slot of the table is made zero.
 //!
 //! A slot whose byte 0 is 0 is free. In the layout of a tree it is zero throughout, so what stands behind that byte is
-//! a trace of no tree. The image that scrubbing would leave is checked first, through a view; only where it is the layout
-//! of a tree is anything written. A crash at any moment leaves an image that scrubbing turns into that same layout.
+//! a trace of no tree. The image that scrubbing would leave is checked first, through a view; only where it is the
+//! layout of a tree is anything written. A crash at any moment leaves an image that scrubbing turns into that same
+//! layout.
 #![tactic(auto)]
 
 mod call;

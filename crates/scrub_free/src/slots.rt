@@ -39,8 +39,8 @@ fn scrub_slot<D: Disk>(disk: &mut D, slots: u32, slot: u32) -> Result<(), DiskFa
     disk.write_at(at + 1, &[0; BLOCK - 1])
 }
 
-/// Makes each free slot of the table zero that is not: one whose byte 0 is 0 while another of its bytes is not. Then it makes
-/// that durable. The first slots, as many as are known to be clean, are not read.
+/// Makes each free slot of the table zero that is not: one whose byte 0 is 0 while another of its bytes is not. Then it
+/// makes that durable. The first slots, as many as are known to be clean, are not read.
 pub fn scrub_slots<D: Disk>(disk: &mut D, slots: u32, clean: u32) -> Result<(), DiskFault>
     requires in_range { slots ≤ slots_limit }
     requires within { clean ≤ slots }

@@ -24,7 +24,7 @@ use Rattle.image_check.specs.declared.fault.ApplyFault.TheVariants as apply
 use Rattle.tree_commands.specs.Answers.{IsReplyOf}
 use Rattle.tree_commands.specs.Counted.{counted_step}
 use Rattle.tree_commands.proofs.StepLemmas.{acked_step, answered_step, uncounted_tree}
-use Rattle.store_core.specs.Answers.{IsReplyAt, AnswersAt}
+use Rattle.store_core.proofs.StagedAnswers.{IsReplyAt, AnswersAt}
 use Rattle.image_check.specs.Faults.{apply_fault_of}
 use Rattle.image_check.specs.Standing.{IsFitting}
 use Rattle.store_core.specs.StagedTree.{AreAt, IsStagedFor}

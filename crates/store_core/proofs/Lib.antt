@@ -4,6 +4,7 @@ pub mod DifferLemmas
 pub mod DiskLemmas
 pub mod ListSteps
 pub mod OpeningLemmas
+pub mod StagedAnswers
 pub mod StagedSteps
 pub mod StoreSteps
 pub mod TreePages

@@ -27,7 +27,7 @@ use Rattle.page_store.specs.Settling.{Settles}
 use Rattle.tree_commands.specs.Answers.{AnswersBy, change_reply}
 use Rattle.tree_commands.proofs.ReplyLemmas.{carried_reply}
 use Rattle.tree_commands.proofs.StepLemmas.{uncounted_still}
-use Rattle.store_core.specs.Answers.{AnswersAt}
+use Rattle.store_core.proofs.StagedAnswers.{AnswersAt}
 use Rattle.store_core.specs.StagedTree.{TreeList, IsStagedFor, IsListAt, HoldsTable}
 use Rattle.store_core.proofs.AnswerSteps.{reply_at}
 use Rattle.store_core.proofs.TreePages.{few_pairs, tree_holds, tree_valid, held_map}

@@ -24,14 +24,16 @@ use Rattle.gate_journal.proofs.Reading.{IsDurable-reads}
 use Rattle.seeded_draw.specs.declared.any.AnyDraw.{AnyDraw}
 use Rattle.seeded_draw.specs.AnyDrawn.{any_draw}
 use Rattle.image_check.specs.declared.contents.Contents.{Contents}
-use Rattle.image_check.specs.declared.contents.Finding.{Finding}
-use Rattle.image_check.specs.declared.contents.Finding.TheVariants as findings
+use Rattle.image_check.specs.declared.verdict.Verdict.{Verdict}
+use Rattle.image_check.specs.declared.verdict.Verdict.TheVariants as verdicts
+use Rattle.image_check.specs.SlotCalls.{clean_on}
 use Rattle.image_check.specs.ImageCalls.{ReadsDisk, HasImage, FindsImage}
 use Rattle.image_check.specs.Verdicts.{IsImageWith, HasParameters, IsNoImage, IsDamaged}
 use Rattle.page_store.specs.PageImages.{pages_in_table}
 use Rattle.page_store.specs.StagedState.{StagedState}
+use Rattle.image_check.specs.declared.fault.AttachFault.{AttachFault}
 use Rattle.image_check.specs.declared.fault.AttachFault.TheVariants as attach
-use Rattle.store_core.specs.Opening.{contents_in, IsSynced, ChecksSynced, IsOpenAt}
+use Rattle.store_core.specs.Opening.{IsSynced, ChecksSynced, IsOpenAt}
 use Rattle.store_core.specs.StagedTree.{AreAt}
 use Rattle.image_check.specs.Standing.{IsFitting, Stands}
 use Rattle.store_core.specs.StoreState.{StoreState}
@@ -93,7 +95,7 @@ module _ (old new : DiskState) (size : new.size ≡ old.size) (observable : new.
 -- ---- the check
 
 module _ {T E : Type 0} (old mid new : DiskState) (value : T) (sound : IsObservable mid → IsSound mid) (sync : IsSync {E = E} old mid (Ok value)) where
-  module _ (found : Result Finding Fault) (reads : ReadsDisk mid new found) where
+  module _ (verdict : Result Verdict Fault) (reads : ReadsDisk mid new verdict) where
     keeps : KeepsDisk old new
     keeps = record {
       size = reads.size ∙ sync.call.size;
@@ -115,35 +117,35 @@ module _ {T E : Type 0} (old mid new : DiskState) (value : T) (sound : IsObserva
   same observable = (sync.observed observable).bytes
 
   -- its sync succeeded, and this was found
-  pub checked : (found : Result Finding Fault) → FindsImage mid new found → ChecksSynced old new (contents_in found)
-  checked (Ok (findings.Image contents)) finds = record {
-    kept = keeps (Ok (findings.Image contents)) finds.reads;
+  pub checked : (found : Result Contents AttachFault) → FindsImage mid new found → ChecksSynced old new found
+  checked (Ok contents) finds = record {
+    kept = keeps (Ok (clean_on contents)) finds.reads;
     faults = finds.reads.faults ∙ sync.call.faults;
-    synced = synced (Ok (findings.Image contents)) finds.reads;
-    durable = durable (Ok (findings.Image contents)) finds.reads;
+    synced = synced (Ok (clean_on contents)) finds.reads;
+    durable = durable (Ok (clean_on contents)) finds.reads;
     image = image_before old mid sync.call.size sync.call.observable same contents finds.found;
     not_image = λ e. absurd (cc);
     damaged = λ e. absurd (cc);
   }
-  checked (Ok findings.NotImage) finds = record {
-    kept = keeps (Ok findings.NotImage) finds.reads;
+  checked (Err attach.NotImage) finds = record {
+    kept = keeps (Ok verdicts.NotImage) finds.reads;
     faults = finds.reads.faults ∙ sync.call.faults;
-    synced = synced (Ok findings.NotImage) finds.reads;
+    synced = synced (Ok verdicts.NotImage) finds.reads;
     durable = λ observable. tt;
     image = tt;
     not_image = λ e. no_image_before old mid sync.call.size sync.call.observable same finds.found;
     damaged = λ e. absurd (cc);
   }
-  checked (Ok findings.Damaged) finds = record {
-    kept = keeps (Ok findings.Damaged) finds.reads;
+  checked (Err attach.Damaged) finds = record {
+    kept = keeps (Ok verdicts.Damaged) finds.reads;
     faults = finds.reads.faults ∙ sync.call.faults;
-    synced = synced (Ok findings.Damaged) finds.reads;
+    synced = synced (Ok verdicts.Damaged) finds.reads;
     durable = λ observable. tt;
     image = tt;
     not_image = λ e. absurd (cc);
     damaged = λ e. damaged_before old mid sync.call.size sync.call.observable same finds.found;
   }
-  checked (Err causes.Disk) finds = record {
+  checked (Err attach.Disk) finds = record {
     kept = keeps (Err causes.Disk) finds.reads;
     faults = finds.reads.faults ∙ ap raised sync.call.faults;
     synced = synced (Err causes.Disk) finds.reads;
@@ -152,7 +154,7 @@ module _ {T E : Type 0} (old mid new : DiskState) (value : T) (sound : IsObserva
     not_image = λ e. absurd (cc);
     damaged = λ e. absurd (cc);
   }
-  checked (Err causes.NoMemory) finds = record {
+  checked (Err attach.NoMemory) finds = record {
     kept = keeps (Err causes.NoMemory) finds.reads;
     faults = finds.reads.faults ∙ sync.call.faults;
     synced = synced (Err causes.NoMemory) finds.reads;

@@ -14,7 +14,7 @@ use Rattle.script_lines.specs.declared.reply.Reply.{Reply}
 use Rattle.script_lines.specs.InPlace.{in_place}
 use Rattle.image_check.specs.declared.fault.ApplyFault.{ApplyFault}
 use Rattle.image_check.specs.declared.fault.ApplyFault.TheVariants as apply
-use Rattle.store_core.specs.Known.{KnownState, SettlesKnown}
+use Rattle.store_core.specs.Known.{KnownState, MovesOn}
 use Rattle.image_check.specs.Standing.{IsFitting, Stands}
 use Rattle.store_core.specs.StagedTree.{TreeList, StagesTreePages, IsListAt, GoesOn}
 use Rattle.store_core.specs.Steps.{StepsPages, EndsStep}
@@ -90,7 +90,7 @@ module _ {D : Type 0} (state : D → DiskState) (known : KnownState D) (old new 
     pub stands_at : IsObservable (state new.pages.disk) → (t : Tree) × (IsFitting t known.params × ((state new.pages.disk).bytes ≡ layout t known.params))
     stands_at observable = ((step known.tree c known.params).tree, (fitting_to, (steps (Ok reply) ends observable).image.stands.layout_is))
 
-    module _ (after : KnownState D) (settles : SettlesKnown state new.pages.disk known after) where
+    module _ (after : KnownState D) (settles : MovesOn state new.pages.disk known after) where
       tree_seen : IsObservable (state new.pages.disk) → after.tree ≡ (step known.tree c known.params).tree
       tree_seen observable = settles.seen observable (step known.tree c known.params).tree fitting_to (steps (Ok reply) ends observable).image.stands.layout_is
 
@@ -184,9 +184,9 @@ module _ {D : Type 0} (state : D → DiskState) (c : Command) (command : IsComma
     pub tree_there : IsObservable (state disk) → (t : Tree) × (IsFitting t known.params × ((state disk).bytes ≡ layout t known.params))
     tree_there = subst (λ (x : D). IsObservable (state x) → (t : Tree) × (IsFitting t known.params × ((state x).bytes ≡ layout t known.params))) (sym disk_is) (stands_at state known old new c command is.served is.runs is.goes some.0 ends_ok)
 
-    module _ (after : KnownState D) (settles : SettlesKnown state disk known after) where
-      here : SettlesKnown state new.pages.disk known after
-      here = subst (λ (x : D). SettlesKnown state x known after) disk_is settles
+    module _ (after : KnownState D) (settles : MovesOn state disk known after) where
+      here : MovesOn state new.pages.disk known after
+      here = subst (λ (x : D). MovesOn state x known after) disk_is settles
 
       pub served_ok : HoldsKnown state after new
       served_ok = answered_served state known old new c command is.served is.runs is.goes some.0 ends_ok after here

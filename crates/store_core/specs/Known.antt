@@ -1,4 +1,5 @@
--- What is known of a store's tree, which is not in memory: it fits, and the disk stood at it when that was last settled.
+-- What is known of a store's tree, which is not in memory: it fits, and the disk stood at it when that was last
+-- settled.
 use Rattle.std.specs.Prelude.{◌≡◌, List}
 use Rattle.std.specs.List.{AllByRecursion-prop}
 use Rattle.std.proofs.Common.{ap, subst, sym, ◌∙◌, ⊎_elim}
@@ -19,8 +20,8 @@ pub record KnownState (D : Type 0) : Type 0 where
   pub tree : Tree
   pub settled : D
 
--- The tree fits. An observable disk reads its layout; where the disk is another the tree has the pairs that were found when
--- the store was opened.
+-- The tree fits. An observable disk reads its layout; where the disk is another the tree has the pairs that were found
+-- when the store was opened.
 pub record IsKnownTree (disk : DiskState) (p : Parameters) (opened : List Pair) (t : Tree) : Type 0 where
   pub fitting : IsFitting t p
   pub seen : IsObservable disk → disk.bytes ≡ layout t p
@@ -31,7 +32,7 @@ abbrev pub TellsTree : DiskState → Parameters → List Pair → Type 0
 TellsTree disk p opened = (t : Tree) × IsKnownTree disk p opened t
 
 -- What a known tree is after its disk was settled again: the one at which an observable disk stands, and else the same.
-pub record SettlesKnown {D : Type 0} (state : D → DiskState) (disk : D) (old new : KnownState D) : Type 0 where
+pub record MovesOn {D : Type 0} (state : D → DiskState) (disk : D) (old new : KnownState D) : Type 0 where
   pub params : new.params ≡ old.params
   pub settled : new.settled ≡ disk
   pub seen : IsObservable (state disk) → (t : Tree) → IsFitting t old.params → (state disk).bytes ≡ layout t old.params → new.tree ≡ t

@@ -1,4 +1,3 @@
-pub mod Answers
 pub mod Changes
 pub mod Known
 pub mod Opening

@@ -1,21 +1,18 @@
 -- What comes before recovery where a store is opened: a sync, and the check of the image.
 use Rattle.std.specs.Prelude.{◌≡◌, ℕ, Result, Ok, Err, IfOk, OnOk, IsErrOf}
 use Rattle.store_base.specs.Counts.{raised}
-use Rattle.store_base.specs.declared.store_fault.Fault.{Fault}
 use Rattle.store_model.specs.Parameters.{image_len}
 use Rattle.store_model.specs.Trees.{Tree}
 use Rattle.disk_model.specs.DiskState.{DiskState, IsObservable, IsDurable}
 use Rattle.disk_model.specs.DiskCalls.{LeavesOnly}
 use Rattle.gate_journal.specs.Disks.{KeepsDisk}
 use Rattle.image_check.specs.declared.contents.Contents.{Contents}
-use Rattle.image_check.specs.declared.contents.Finding.{Finding}
-use Rattle.image_check.specs.declared.contents.Finding.TheVariants as findings
 use Rattle.image_check.specs.Contents.{AreContents}
 use Rattle.image_check.specs.ImageCalls.{HasImage}
 use Rattle.image_check.specs.Verdicts.{IsNoImage, IsDamaged}
 use Rattle.image_check.specs.declared.fault.AttachFault.{AttachFault}
 use Rattle.image_check.specs.declared.fault.AttachFault.TheVariants as attach
-use Rattle.image_check.specs.Faults.{attach_faults_by, attach_fault_of}
+use Rattle.image_check.specs.Faults.{attach_faults_by}
 use Rattle.image_check.specs.Standing.{Stands}
 
 -- the disk's count of failed calls behind a call with such a fault, or none
@@ -23,14 +20,8 @@ abbrev pub attach_faults_after : {T : Type 0} → ℕ → Result T AttachFault �
 attach_faults_after count (Ok value) = count
 attach_faults_after count (Err fault) = attach_faults_by fault count
 
--- what an image holds by what was found, or why no store can be had of it
-abbrev pub contents_in : Result Finding Fault → Result Contents AttachFault
-contents_in (Ok (findings.Image contents)) = Ok contents
-contents_in (Ok findings.NotImage) = Err attach.NotImage
-contents_in (Ok findings.Damaged) = Err attach.Damaged
-contents_in (Err cause) = Err (attach_fault_of cause)
-
--- one sync, and reads: the disk reads as it did, nothing was written, and a crash leaves what one before might have left
+-- one sync, and reads: the disk reads as it did, nothing was written, and a crash leaves what one before might have
+-- left
 pub record IsSynced (old new : DiskState) : Type 0 where
   pub leaves : LeavesOnly old new old.crash_images
   pub bytes : new.bytes ≡ old.bytes

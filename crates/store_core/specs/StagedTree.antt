@@ -20,14 +20,16 @@ pub record StagesTreePages {D : Type 0} (state : D → DiskState) (t : Tree) (p 
   pub table_is : s.table ≡ map_of_pages (pages t p)
   pub map_is : s.map ≡ map_of_pages (pages t p)
 
--- Staged pages in an image of these parameters; over an observable disk, and while they are not spent, they are the tree's.
+-- Staged pages in an image of these parameters; over an observable disk, and while they are not spent, they are the
+-- tree's.
 pub record AreAt {D : Type 0} (state : D → DiskState) (t : Tree) (p : Parameters) (s : StagedState D AnyDraw) : Type 0 where
   pub params : s.params ≡ p
   pub draw : any_draw s.draw ≡ draw_of p
   pub size_is : (state s.disk).size ≡ image_len p.slots
   pub held : IsObservable (state s.disk) → s.is_spent ≡ false → StagesTreePages state t p s
 
--- Over an observable disk that stands at the tree, with the tree's pages in its table, the pages of the next one are staged.
+-- Over an observable disk that stands at the tree, with the tree's pages in its table, the pages of the next one are
+-- staged.
 pub record IsStagedFor {D : Type 0} (state : D → DiskState) (t next : Tree) (p : Parameters) (s : StagedState D AnyDraw) : Type 0 where
   pub fitting : IsFitting t p
   pub tree : IsTree next
@@ -42,8 +44,8 @@ pub record IsStagedFor {D : Type 0} (state : D → DiskState) (t next : Tree) (p
 abbrev pub TreeList : Type 0 → Type 0
 TreeList D = ListState (StagedState D AnyDraw) AnyDraw
 
--- The pages of a list are those of a tree, which fits, and it is under the draw of the parameters; where its disk tells its bytes, it
--- is whole.
+-- The pages of a list are those of a tree, which fits, and it is under the draw of the parameters; where its disk tells
+-- its bytes, it is whole.
 pub record IsListAt {D : Type 0} (state : D → DiskState) (t : Tree) (p : Parameters) (list : TreeList D) : Type 0 where
   pub fitting : IsFitting t p
   pub pages : AreAt state t p list.pages

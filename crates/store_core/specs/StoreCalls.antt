@@ -45,8 +45,8 @@ pub record IsAttached {D : Type 0} (state : D → DiskState) (old : DiskState) (
   pub fitting : IsFitting store.tree store.params
   pub observed : IsObservable old → IsOpened store.tree store.params old (state store.disk)
 
--- No store was had of an image that represents a tree: it does so still, and so does each image that a crash leaves which
--- one before the call might not have left. No more writes and syncs were made than opening it takes.
+-- No store was had of an image that represents a tree: it does so still, and so does each image that a crash leaves
+-- which one before the call might not have left. No more writes and syncs were made than opening it takes.
 pub record KeepsImage (t : Tree) (p : Parameters) (old : DiskState) (fault : AttachFault) (new : DiskState) : Type 0 where
   pub not_image : fault ≡ attach.NotImage → ⊥
   pub damaged : fault ≡ attach.Damaged → ⊥
@@ -80,7 +80,8 @@ pub record Attaches {D : Type 0} (state : D → DiskState) (old : DiskState) (re
 
 -- ---- apply
 
--- What carrying out a command does to an observable disk that stands at a tree, where the command leads to the next one.
+-- What carrying out a command does to an observable disk that stands at a tree, where the command leads to the next
+-- one.
 pub record ChangesImage {T : Type 0} (t next : Tree) (p : Parameters) (old new : DiskState) (is_stopped : Bool) (result : Result T ApplyFault) : Type 0 where
   pub stands : OnOk result (Stands new next p)
   -- a crash at any moment of the call leaves an image of the one tree or of the other, and the disk reads one
@@ -91,7 +92,8 @@ pub record ChangesImage {T : Type 0} (t next : Tree) (p : Parameters) (old new :
   pub no_memory : IsErrOf result apply.NoMemory → ReadsOnly old new
   -- the slots that differ are committed, and no others
   pub counts : CountsCommit (slots_between p t next) old new result
-  -- the store is stopped only by a fault at a write or a sync, or behind one, and any other fault leaves the disk as it was
+  -- the store is stopped only by a fault at a write or a sync, or behind one, and any other fault leaves the disk as it
+  -- was
   pub stops : is_stopped ≡ true → IsErrOf result apply.Disk × (Rose old.writes new.writes ⊎ Rose old.syncs new.syncs)
   pub goes_on : is_stopped ≡ false → IsErrOf result apply.Disk → ReadsOnly old new
 

@@ -4,7 +4,7 @@ ghost use Rattle.script_lines.specs.InPlace.{in_place};
 ghost use Rattle.script_lines.specs.Parsing.{command_of};
 ghost use Rattle.store_core.specs.StoreCalls.{Applies};
 
-use crate::staged::carry_out;
+use crate::commands::carry_out;
 use crate::store::Store;
 use disk_model::Disk;
 use image_check::ApplyFault;
@@ -14,12 +14,13 @@ use tree_commands::reveal;
 impl<D: Disk> Store<D> {
     /// Carries out a command, and answers its reply once what it changed is durable.
     ///
-    /// A command that changes nothing writes and syncs nothing; one that changes d slots makes 5d + 2 writes and 5 syncs.
-    /// Each image that a crash at any moment of the call may leave represents the tree before it or the one after it.
+    /// A command that changes nothing writes and syncs nothing; one that changes d slots makes 5d + 2 writes and 5
+    /// syncs. Each image that a crash at any moment of the call may leave represents the tree before it or the one
+    /// after it.
     ///
-    /// After a fault the tree is as it was. `Disk`: the disk failed; where that came at a write or a sync, or behind one, the
-    /// store is stopped, and the disk represents the one tree or the other. `NoMemory`: nothing was written. `Stopped`,
-    /// exactly where the store was stopped before: nothing was called.
+    /// After a fault the tree is as it was. `Disk`: the disk failed; where that came at a write or a sync, or behind
+    /// one, the store is stopped, and the disk represents the one tree or the other. `NoMemory`: nothing was written.
+    /// `Stopped`, exactly where the store was stopped before: nothing was called.
     pub fn apply(&mut self, command: &Command) -> Result<Reply, ApplyFault>
         ensures call { Applies D.state (command_of command.now) self.old self.new result }
     {
@@ -28,8 +29,8 @@ impl<D: Disk> Store<D> {
         Ok(reply)
     }
 
-    /// Carries out a command, as `apply`, and puts its reply in the place of another: a reply is large, and whoever carries out
-    /// one command after another has one place for them all. After a fault some reply stands there.
+    /// Carries out a command, as `apply`, and puts its reply in the place of another: a reply is large, and whoever
+    /// carries out one command after another has one place for them all. After a fault some reply stands there.
     pub fn apply_into(&mut self, command: &Command, reply: &mut Reply) -> Result<(), ApplyFault>
         ensures call { Applies D.state (command_of command.now) self.old self.new (in_place reply.new result) }
     {
@@ -46,7 +47,7 @@ impl<D: Disk> Store<D> {
         );
         if result.is_ok() {
             let pairs = &self.pairs;
-            self.known.settle(pairs.pages.disk());
+            self.known.move_on(pairs.pages.disk());
         }
         result
     }

@@ -2,30 +2,18 @@
 
 ghost use Rattle.std.specs.Prelude.{◌≡◌, [], false};
 ghost use Rattle.store_model.specs.Trees.{Tree};
-ghost use Rattle.store_core.specs.Opening.{ChecksSynced, contents_in, IsOpenAt, IsOpenTo};
+ghost use Rattle.store_core.specs.Opening.{ChecksSynced, IsOpenAt, IsOpenTo};
 ghost use Rattle.store_core.specs.StoreCalls.{Attaches};
 
 use crate::known::KnownTree;
 use crate::store::Store;
 use disk_model::Disk;
 use gate_journal::Journal;
-use image_check::{AttachFault, Contents, Finding, find_image};
+use image_check::{AttachFault, Contents, find_image};
 use page_store::{SlotCache, Staged};
 use seeded_draw::AnyDraw;
 use skip_levels::SkipList;
 use std::alloc::Global;
-use store_base::Fault;
-
-/// What an image holds by what was found.
-fn contents_of(found: Result<Finding, Fault>) -> Result<Contents, AttachFault>
-    ensures { result ≡ contents_in found }
-{
-    match found? {
-        Finding::Image(contents) => Ok(contents),
-        Finding::NotImage => Err(AttachFault::NotImage),
-        Finding::Damaged => Err(AttachFault::Damaged),
-    }
-}
 
 /// What a disk holds as recovery would leave it. After one sync the disk is only read, and it is handed back.
 fn check_image<D: Disk>(alloc: Global, mut disk: D) -> (D, Result<Contents, AttachFault>)
@@ -34,20 +22,19 @@ fn check_image<D: Disk>(alloc: Global, mut disk: D) -> (D, Result<Contents, Atta
     if let Err(fault) = disk.sync() {
         return (disk, Err(fault.into()));
     }
-    let (disk, found) = find_image(alloc, disk);
-    (disk, contents_of(found))
+    find_image(alloc, disk)
 }
 
 impl<D: Disk> Store<D> {
     /// The store that the disk holds, once its image is checked and recovered.
     ///
-    /// With a fault the disk is given back. `NotImage`: it does not start with the header of an image of its length. `Damaged`:
-    /// it is an image, but even recovered it would hold no tree. Just one sync was made then. `NoMemory`: at most one was. After
-    /// none of these three was anything written, and a crash leaves what it might have left before. After `Disk` it represents
-    /// the tree that it did, if it did so.
+    /// With a fault the disk is given back. `NotImage`: it does not start with the header of an image of its length.
+    /// `Damaged`: it is an image, but even recovered it would hold no tree. Just one sync was made then. `NoMemory`: at
+    /// most one was. After none of these three was anything written, and a crash leaves what it might have left before.
+    /// After `Disk` it represents the tree that it did, if it did so.
     ///
-    /// An image with an empty journal takes two syncs and no write; otherwise the marked slots, the flag and each block of
-    /// the journal that is not zero are written once.
+    /// An image with an empty journal takes two syncs and no write; otherwise the marked slots, the flag and each block
+    /// of the journal that is not zero are written once.
     pub fn attach(alloc: Global, disk: D) -> Result<Self, (AttachFault, D)>
         ensures call { Attaches D.state (D.state disk) result }
     {

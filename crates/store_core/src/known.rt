@@ -5,7 +5,7 @@ ghost use Rattle.store_model.specs.Trees.{Tree};
 ghost use Rattle.store_model.specs.Images.{layout};
 ghost use Rattle.disk_model.specs.DiskState.{IsObservable};
 ghost use Rattle.image_check.specs.Standing.{IsFitting};
-ghost use Rattle.store_core.specs.Known.{IsKnownTree, TellsTree, TellsTree-prop, SettlesKnown};
+ghost use Rattle.store_core.specs.Known.{IsKnownTree, TellsTree, TellsTree-prop, MovesOn};
 
 use disk_model::Disk;
 use node_pages::PairList;
@@ -13,8 +13,8 @@ use std::marker::Model;
 use std::snapshot::Snapshot;
 use store_base::Params;
 
-/// The tree that a disk stood at when it was last settled, which fits. Contracts see it as that tree, with the parameters
-/// that it is laid out under and that disk. It takes no memory but that of the parameters.
+/// The tree that a disk stood at when it was last settled, which fits. Contracts see it as that tree, with the
+/// parameters that it is laid out under and that disk. It takes no memory but that of the parameters.
 ///
 /// Of a disk that is not observable the tree is the one whose pairs were found when the store was opened.
 pub struct KnownTree<D: Disk> {
@@ -54,10 +54,10 @@ impl<D: Disk> KnownTree<D> {
     }
 
     /// Goes on to the tree at which the disk stands now.
-    pub fn settle(&mut self, disk: &D)
+    pub fn move_on(&mut self, disk: &D)
         requires same { (D.state disk.now).is_observable ≡ (D.state self.old.settled).is_observable }
         requires tree { IsObservable (D.state disk.now) → (t : Tree) × (IsFitting t self.old.params × ((D.state disk.now).bytes ≡ layout t self.old.params)) }
-        ensures call { SettlesKnown D.state disk.now self.old self.new }
+        ensures call { MovesOn D.state disk.now self.old self.new }
     {
         self.settled = Snapshot::of(disk);
     }

@@ -4,14 +4,14 @@
 //! another by `apply`. What its calls promise is the definitions' step.
 //!
 //! No part of the tree is in memory between two commands. A command works on the skip list in the staged pages of the
-//! table, and reads the pages that it asks for; what it changed is settled at once, so that only the slots that differ are
-//! written, and behind every command nothing is staged.
+//! table, and reads the pages that it asks for; what it changed is settled at once, so that only the slots that differ
+//! are written, and behind every command nothing is staged.
 #![tactic(auto)]
 
 mod apply;
 mod attach;
+mod commands;
 mod known;
-mod staged;
 mod store;
 
 pub use image_check::{ApplyFault, AttachFault};

@@ -5,8 +5,8 @@ ghost use Rattle.store_model.specs.Pages.{page_count};
 ghost use Rattle.disk_model.specs.DiskState.{IsObservable};
 ghost use Rattle.image_check.specs.Standing.{IsFitting, Stands};
 
+use crate::commands::TreeList;
 use crate::known::KnownTree;
-use crate::staged::TreeList;
 use disk_model::Disk;
 use std::alloc::Global;
 use std::marker::Model;
@@ -34,8 +34,8 @@ impl<D: Disk> Model for Store<D> {
 }
 
 impl<D: Disk> Store<D> {
-    /// Whether it is stopped: a fault came at a write or a sync of a command, or behind one. It then carries out no other,
-    /// and is to be attached anew.
+    /// Whether it is stopped: a fault came at a write or a sync of a command, or behind one. It then carries out no
+    /// other, and is to be attached anew.
     pub fn is_stopped(&self) -> bool
         ensures value { result ≡ self.now.is_stopped }
         ensures stands { IsObservable (D.state self.now.disk) → self.now.is_stopped ≡ false → Stands (D.state self.now.disk) self.now.tree self.now.params }
@@ -51,7 +51,8 @@ impl<D: Disk> Store<D> {
         self.known.params()
     }
 
-    /// How many slots are used: as many as the tree has pages, on an observable disk and while the store is not stopped.
+    /// How many slots are used: as many as the tree has pages, on an observable disk and while the store is not
+    /// stopped.
     pub fn used(&self) -> u32
         ensures { IsObservable (D.state self.now.disk) → self.now.is_stopped ≡ false → result ≡ page_count self.now.tree self.now.params }
     {

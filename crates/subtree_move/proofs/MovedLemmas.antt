@@ -12,7 +12,8 @@ use Rattle.store_model.proofs.TreesLemmasPaths.{same_from_test, same_path-from_e
 use Rattle.store_model.proofs.TreesLemmas.{all_exist}
 use Rattle.store_model.proofs.TreesLemmasMoves.{find-tree_of, nothing_below}
 use Rattle.store_model.proofs.TreesLemmasSteps.{all_fail}
-use Rattle.tree_pairs.specs.Blocks.{BlockMap, block_value, tree_blocks}
+use Rattle.tree_pairs.specs.Blocks.{BlockMap}
+use Rattle.tree_pairs.proofs.TreeBlocks.{block_value, tree_blocks}
 
 -- ---- a move that is not refused
 

@@ -18,7 +18,8 @@ use Rattle.store_model.proofs.TreesLemmas.{find_from_all, node_at-find, entry_at
 use Rattle.store_model.proofs.TreesLemmasMoves.{nothing_below}
 use Rattle.store_model.proofs.TreesLemmasSteps.{IsTree-next_tree}
 use Rattle.ordered_pairs.specs.PairsState.{without, most_pairs}
-use Rattle.tree_pairs.specs.Blocks.{BlockMap, block_value, tree_blocks, with_blocks}
+use Rattle.tree_pairs.specs.Blocks.{BlockMap, with_blocks}
+use Rattle.tree_pairs.proofs.TreeBlocks.{block_value, tree_blocks}
 use Rattle.tree_pairs.proofs.BlocksLemmas.{blocks_alike, pairs_from_blocks, tied_number, other_numbers, same_numbers}
 use Rattle.tree_pairs.proofs.ChangesLemmas.{put_block}
 use Rattle.dir_tree.specs.declared.subtree.Block.{Block}

@@ -8,7 +8,7 @@ use Rattle.std.specs.FinMap.{find}
 use Rattle.std.proofs.lemmas.Bool.{both_ways, or_parts}
 use Rattle.store_model.specs.Parameters.{Parameters}
 use Rattle.store_model.specs.Paths.{Path, is_root, is_path, path_cmp, is_at_or_inside, fits_field, replanted, key, key_cmp}
-use Rattle.store_model.specs.Pairs.{pairs}
+use Rattle.store_model.specs.Pairs.{pairs, file_block}
 use Rattle.store_model.specs.Trees.{Tree, Node, IsTree, IsEntry, exists, contents_of, file_limit}
 use Rattle.store_model.specs.Trees.Node.{Directory, File}
 use Rattle.store_model.specs.Steps.{outgrows}
@@ -17,7 +17,7 @@ use Rattle.store_model.proofs.PathsLemmas.{order_of_keys}
 use Rattle.store_model.proofs.TreesLemmasPaths.{path_cmp_total, same_from_tie}
 use Rattle.store_model.proofs.TreesLemmas.{find_from_all, node_at-find, entry_at, contents_of_tree, all_exist}
 use Rattle.ordered_pairs.specs.PairsState.{PairsState, IsObservable, most_pairs}
-use Rattle.tree_pairs.specs.Blocks.{block_value, tree_blocks}
+use Rattle.tree_pairs.proofs.TreeBlocks.{block_value, tree_blocks}
 use Rattle.tree_pairs.specs.TreeCalls.{HoldsTree, KeepsPairs}
 use Rattle.tree_pairs.proofs.BlocksLemmas.{run_value-none, length-run_at, pairs_have_blocks}
 use Rattle.dir_tree.specs.declared.subtree.Block.{Block}
@@ -30,13 +30,13 @@ use Rattle.subtree_move.proofs.StretchLemmas.{count, count_le, count_falls}
 
 -- ---- the last number, which no block has
 
-no_far_block : (o : Option Node) (j : ℕ) → length (contents_of o) ≤ file_limit → 1048576 < j → block_value o j ≡ None
+no_far_block : (o : Option Node) (j : ℕ) → length (contents_of o) ≤ file_limit → file_limit < j → block_value o j ≡ None
 no_far_block o zero l h = absurd (omega arith)
 no_far_block None (suc j) l h = refl
 no_far_block (Some Directory) (suc j) l h = refl
-no_far_block (Some (File bytes)) (suc j) l h = run_value-none _ (let e = length-run_at 256 bytes j in omega arith)
+no_far_block (Some (File bytes)) (suc j) l h = run_value-none _ (let e = length-run_at file_block bytes j in omega arith)
 
-no_last_block : (t : Tree) (y : Path) (j : ℕ) → IsTree t → is_root y ≡ false → 1048576 < j → tree_blocks t y j ≡ None
+no_last_block : (t : Tree) (y : Path) (j : ℕ) → IsTree t → is_root y ≡ false → file_limit < j → tree_blocks t y j ≡ None
 no_last_block t y j h below far = no_far_block (find path_cmp y t) j (subst (λ (o : Option Node). length (contents_of o) ≤ file_limit) (node_at-find t y below) (contents_of_tree t y h).0) far
 
 -- a block that is there has a lower number

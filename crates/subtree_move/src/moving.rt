@@ -8,11 +8,12 @@ ghost use Rattle.tree_pairs.specs.TreeCalls.{CarriesOut};
 ghost use Rattle.dir_tree.specs.RefusalCalls.{TellsRefusal};
 ghost use Rattle.subtree_move.specs.MoveCalls.{TellsGrowth, MovesBlock, MovesSubtree};
 
-use dir_tree::{Block, Kind, kind_of, next_within, refusal_to_make};
+use dir_tree::{Block, next_within, refusal_to_make};
 use ordered_pairs::OrderedPairs;
 use path_keys::Path;
 use store_base::{Answer, Fault};
 use store_model::Refusal;
+use tree_pairs::kind_of;
 
 /// Moves what stands at `from`, and all that lies below it, to `to`.
 ///
@@ -45,7 +46,7 @@ fn refusal_to_rename<P: OrderedPairs>(
     if to.is_root() || from.is_root() {
         return Ok(Some(Refusal::Root));
     }
-    if let Kind::Absent = kind_of(pairs, from)? {
+    if kind_of(pairs, from)?.is_none() {
         return Ok(Some(Refusal::Missing));
     }
     if to.is_inside(from) {

@@ -5,11 +5,12 @@ ghost use Rattle.store_model.specs.Commands.Reply.{Acknowledged};
 ghost use Rattle.tree_pairs.specs.TreeCalls.{CarriesOut};
 ghost use Rattle.dir_tree.specs.RefusalCalls.{TellsRefusal};
 
-use dir_tree::{Kind, kind_of, take_subtree};
+use dir_tree::take_subtree;
 use ordered_pairs::OrderedPairs;
 use path_keys::Path;
 use store_base::{Answer, Fault};
 use store_model::Refusal;
+use tree_pairs::kind_of;
 
 /// Removes what stands at the path and all that lies below it.
 ///
@@ -35,7 +36,7 @@ fn refusal_to_prune<P: OrderedPairs>(pairs: &mut P, path: &Path) -> Result<Optio
         return Ok(Some(Refusal::Root));
     }
     match kind_of(pairs, path)? {
-        Kind::Absent => Ok(Some(Refusal::Missing)),
-        _ => Ok(None),
+        None => Ok(Some(Refusal::Missing)),
+        Some(_) => Ok(None),
     }
 }

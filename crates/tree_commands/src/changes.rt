@@ -1,7 +1,6 @@
 //! The commands that change a tree, over any list of pairs that holds it.
 
 ghost use Rattle.std.specs.Prelude.{◌≡◌, true};
-ghost use Rattle.store_model.specs.Commands.{IsCommand};
 ghost use Rattle.store_model.specs.Commands.Command.{Write};
 ghost use Rattle.store_model.specs.Commands.Reply.{Acknowledged};
 ghost use Rattle.script_lines.specs.Parsing.{command_of};
@@ -49,39 +48,8 @@ fn write<P: OrderedPairs>(
     ensures call { CarriesOut (λ _. Acknowledged) (Write path.now at bytes.now) (P.state pairs.old) (P.state pairs.new) result }
     ensures follows { P.follows pairs.old pairs.new }
 {
-    match kind_of(pairs, &path.parent().unwrap_or(*path))? {
-        Kind::Dir => write_at(pairs, path, at, bytes),
-        _ => Ok(Err(Refusal::Parent)),
+    if kind_of(pairs, &path.parent().unwrap_or(*path))? != Some(Kind::Directory) {
+        return Ok(Err(Refusal::Parent));
     }
-}
-
-/// Tells what the types of a command's parts keep: its paths are paths, its numbers have 32 bits, its bytes are bytes.
-pub fn reveal(command: &Command)
-    ensures { IsCommand (command_of command.now) }
-{
-    match command {
-        Command::Make(path) | Command::Remove(path) | Command::Prune(path) | Command::List(path) =>
-            {
-                let _ = path.is_root();
-            }
-        Command::Write(path, at, bytes) => {
-            let _ = path.is_root();
-            let _at = *at;
-            let _ = bytes.as_slice();
-        }
-        Command::Cut(path, len) => {
-            let _ = path.is_root();
-            let _len = *len;
-        }
-        Command::Read(path, at, len) => {
-            let _ = path.is_root();
-            let _at = *at;
-            let _len = *len;
-        }
-        Command::Rename(from, to) => {
-            let _ = from.is_root();
-            let _ = to.is_root();
-        }
-        Command::Space | Command::Digest => {}
-    }
+    write_at(pairs, path, at, bytes)
 }

@@ -1,9 +1,11 @@
-//! The commands on a tree, over any list of pairs that holds it: those that look at it are answered, and those that change
-//! it are carried out. How many pages the tree takes is not counted here, so none is refused as full.
+//! The commands on a tree, over any list of pairs that holds it: those that look at it are answered, and those that
+//! change it are carried out. How many pages the tree takes is not counted here, so none is refused as full.
 #![tactic(auto)]
 
 mod changes;
 mod looks;
+mod parts;
 
-pub use changes::{change, reveal};
+pub use changes::change;
 pub use looks::answer;
+pub use parts::reveal;

@@ -14,8 +14,8 @@ use script_lines::{Command, Reply};
 use std::alloc::Global;
 use store_base::Fault;
 
-/// Answers a command by the pairs, and puts the reply in the place of another. A fault of the pairs is handed on; nothing is
-/// promised of the pairs after it.
+/// Answers a command by the pairs, and puts the reply in the place of another. A fault of the pairs is handed on;
+/// nothing is promised of the pairs after it.
 pub fn answer<P: OrderedPairs>(
     alloc: Global,
     pairs: &mut P,

@@ -13,13 +13,14 @@ use Rattle.store_model.specs.Lists.{runs, run_at, run_count, numbers_from}
 use Rattle.store_model.specs.Parameters.{Parameters}
 use Rattle.store_model.specs.Paths.{Path, is_path, path_cmp, same_path, key, key_cmp}
 use Rattle.store_model.specs.Pairs.{Pair, file_block, directory_value, file_value, node_pairs, pairs}
-use Rattle.store_model.specs.Trees.{Tree, Node, IsNode, IsEntry, IsTree}
+use Rattle.store_model.specs.Trees.{Tree, Node, IsNode, IsEntry, IsTree, file_limit}
 use Rattle.store_model.specs.Trees.Node.{Directory, File}
 use Rattle.store_model.proofs.ListsLemmas.{all_weaker, all_map, all_flat_map, numbers_in_range, length-runs, nat_cmp-eq, rising_from_is_sorted, rising_head, rising_tail}
 use Rattle.store_model.proofs.PathsLemmas.{order_of_keys}
 use Rattle.store_model.proofs.PairsLemmas.{is_sorted-pairs}
 use Rattle.store_model.proofs.TreesLemmasPaths.{same_from_test, same_path-itself, tie_from_test}
-use Rattle.tree_pairs.specs.Blocks.{BlockMap, run_value, block_value, tree_blocks, IsBlockPair, HasBlocks}
+use Rattle.tree_pairs.specs.Blocks.{BlockMap, run_value, IsBlockPair, HasBlocks}
+use Rattle.tree_pairs.proofs.TreeBlocks.{block_value, tree_blocks}
 
 -- ---- keys that tie
 
@@ -136,7 +137,7 @@ find_no_first x bytes number first (suc count) h e few =
     ∙ find_no_first x bytes (number + 1) (suc first) count h (omega arith) (omega arith)
 
 -- the blocks of a file, found by their numbers
-find_block : (x : Path) (bytes : List ℕ) (i : ℕ) → IsTrue (is_path x) → i < 4294967295 → length bytes ≤ 1048576
+find_block : (x : Path) (bytes : List ℕ) (i : ℕ) → IsTrue (is_path x) → i < 4294967295 → length bytes ≤ file_limit
     → find key_cmp (key x (suc i)) (run_pairs x bytes 1 0 (run_count file_block (length bytes))) ≡ run_value (run_at file_block bytes i)
 find_block x bytes i h hi few =
     let long = length-run_at file_block bytes i in

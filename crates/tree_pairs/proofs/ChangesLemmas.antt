@@ -11,7 +11,8 @@ use Rattle.store_model.specs.Pairs.{Pair, pairs}
 use Rattle.store_model.specs.Trees.{Tree, Node, IsTree, with_node, without, without_subtree}
 use Rattle.store_model.proofs.ListsLemmas.{all_filter}
 use Rattle.store_model.proofs.TreesLemmasPaths.{path_cmp_total, same_from_tie, same_from_test}
-use Rattle.tree_pairs.specs.Blocks.{BlockMap, block_value, tree_blocks, with_blocks, IsBlockPair, HasBlocks}
+use Rattle.tree_pairs.specs.Blocks.{BlockMap, with_blocks, IsBlockPair, HasBlocks}
+use Rattle.tree_pairs.proofs.TreeBlocks.{block_value, tree_blocks}
 use Rattle.tree_pairs.proofs.BlocksLemmas.{tie_of_keys, same_numbers, tied_number, blocks_alike, pairs_have_blocks, pairs_from_blocks}
 use Rattle.std.proofs.lemmas.Bool.{both_ways}
 

@@ -1,3 +1,4 @@
+pub mod TreeBlocks
 pub mod BlocksLemmas
 pub mod ChangesLemmas
 pub mod KindLemmas

@@ -1,12 +1,9 @@
--- What a list of pairs has at each block of each path: a tree's pairs as a function of both.
-use Rattle.std.specs.Prelude.{◌≡◌, ℕ, zero, suc, ◌^◌, ◌<◌, IsTrue, List, [], ◌∷◌, length, Option, Some, None, cond}
+-- What a list of pairs has at each block of each path.
+use Rattle.std.specs.Prelude.{◌≡◌, ℕ, ◌^◌, ◌<◌, IsTrue, List, [], ◌∷◌, Option, Some, None, cond}
 use Rattle.std.specs.FinMap.{find, is_sorted}
 use Rattle.std.specs.List.{AllByRecursion}
-use Rattle.store_model.specs.Lists.{run_at}
-use Rattle.store_model.specs.Paths.{Path, is_path, path_cmp, same_path, key, key_cmp}
-use Rattle.store_model.specs.Pairs.{Pair, file_block, directory_value, file_value}
-use Rattle.store_model.specs.Trees.{Tree, Node}
-use Rattle.store_model.specs.Trees.Node.{Directory, File}
+use Rattle.store_model.specs.Paths.{Path, is_path, same_path, key, key_cmp}
+use Rattle.store_model.specs.Pairs.{Pair}
 
 -- the value of a path's block, if there is one
 abbrev pub BlockMap : Type 0
@@ -16,18 +13,6 @@ BlockMap = Path → ℕ → Option (List ℕ)
 abbrev pub run_value : List ℕ → Option (List ℕ)
 run_value [] = None
 run_value (c ∷ run) = Some (c ∷ run)
-
--- the value of a block of what stands at a path: block 0 says what it is, and those of a file's bytes follow
-abbrev pub block_value : Option Node → ℕ → Option (List ℕ)
-block_value None block = None
-block_value (Some Directory) zero = Some directory_value
-block_value (Some Directory) (suc i) = None
-block_value (Some (File bytes)) zero = Some (file_value (length bytes))
-block_value (Some (File bytes)) (suc i) = run_value (run_at file_block bytes i)
-
--- the blocks of a tree
-abbrev pub tree_blocks : Tree → BlockMap
-tree_blocks t path block = block_value (find path_cmp path t) block
 
 -- the blocks with others at one path
 abbrev pub with_blocks : Path → (ℕ → Option (List ℕ)) → BlockMap → BlockMap

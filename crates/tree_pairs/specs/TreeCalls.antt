@@ -62,7 +62,7 @@ pub record KeepsPairs (old new : PairsState) : Type 0 where
   pub unchanged : IsObservable old → new.pairs ≡ old.pairs
 
 -- a call that says what stands at a path
-pub record TellsKind (path : Path) (old new : PairsState) (result : Result Kind Fault) : Type 0 where
+pub record TellsKind (path : Path) (old new : PairsState) (result : Result (Option Kind) Fault) : Type 0 where
   pub faults : new.faults ≡ disk_faults_after old.faults result
   pub keeps : KeepsPairs old new
   pub told : IsObservable old → (t : Tree) (p : Parameters) → HoldsTree old t p → IfOk result (λ kind. kind ≡ kind_of_node (node_at t path))

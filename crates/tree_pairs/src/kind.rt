@@ -1,15 +1,22 @@
-//! What stands at a path, and the value that says it in the path's first pair.
+//! What stands at a path, and the value that says it in the path's first pair. Here alone stand the byte that begins
+//! each kind of value, and how long a file and its blocks are.
 
-ghost use Rattle.std.specs.Prelude.{◌≡◌, ℕ, ◌<◌, ◌^◌};
+ghost use Rattle.std.specs.Prelude.{◌≡◌, IfSome, Some};
 ghost use Rattle.store_model.specs.Pairs as model;
 ghost use Rattle.ordered_pairs.specs.PairsState.{IsObservable};
+ghost use Rattle.tree_pairs.specs.Kinds.{IsKind, value_of};
 ghost use Rattle.tree_pairs.specs.TreeCalls.{TellsKind};
-ghost use Rattle.tree_pairs.specs.declared.kind.Kind.TheVariants as kinds;
 
 use byteorder::{BigEndian, ByteOrder};
 use ordered_pairs::OrderedPairs;
 use path_keys::Path;
 use store_base::{Fault, Value};
+
+/// The most bytes of a file.
+pub const FILE_LIMIT: u32 = 1_048_576;
+
+/// The bytes of a file in one pair; its last pair has the rest.
+pub const FILE_BLOCK: u32 = Value::MAX_LEN as u32;
 
 /// The byte that a directory's value has.
 const DIRECTORY: u8 = 1;
@@ -20,10 +27,8 @@ const FILE: u8 = 2;
 /// What stands at a path.
 #[derive(Clone, Copy, Debug, PartialEq, Eq)]
 pub enum Kind {
-    /// Nothing.
-    Absent,
     /// A directory, as the root always is.
-    Dir,
+    Directory,
     /// A file of so many bytes.
     File(u32),
 }
@@ -44,29 +49,32 @@ pub fn file_value(len: u32) -> Value
     Value::new(&bytes)
 }
 
-/// What the first value of a path says.
-fn kind_in(value: &[u8]) -> Kind
-    ensures directory { value.now ≡ model.directory_value → result ≡ kinds.Dir }
-    ensures file { (n : ℕ) → n < 2 ^ 32 → value.now ≡ model.file_value n → result ≡ kinds.File n }
+/// What the first value of a path says; `None` exactly where it is no such value.
+pub fn kind_in(value: &[u8]) -> Option<Kind>
+    ensures found { IfSome result (λ kind. IsKind kind × (value.now ≡ value_of kind)) }
+    ensures only { (kind : Kind) → IsKind kind → value.now ≡ value_of kind → result ≡ Some kind }
 {
-    if value.len() == 5 && value[0] == FILE {
-        Kind::File(u32::from_be_bytes([value[1], value[2], value[3], value[4]]))
-    } else {
-        Kind::Dir
+    match value {
+        [DIRECTORY] => Some(Kind::Directory),
+        [FILE, a, b, c, d] => {
+            let len = u32::from_be_bytes([*a, *b, *c, *d]);
+            (len <= FILE_LIMIT).then_some(Kind::File(len))
+        }
+        _ => None,
     }
 }
 
-/// What stands at a path. The root is a directory. A fault of the pairs is handed on.
-pub fn kind_of<P: OrderedPairs>(pairs: &mut P, path: &Path) -> Result<Kind, Fault>
+/// What stands at a path, if anything does. The root is a directory. A fault of the pairs is handed on.
+pub fn kind_of<P: OrderedPairs>(pairs: &mut P, path: &Path) -> Result<Option<Kind>, Fault>
     ensures call { TellsKind path.now (P.state pairs.old) (P.state pairs.new) result }
     ensures hidden { IsObservable (P.state pairs.new) → IsObservable (P.state pairs.old) }
     ensures follows { P.follows pairs.old pairs.new }
 {
     if path.is_root() {
-        return Ok(Kind::Dir);
+        return Ok(Some(Kind::Directory));
     }
     match pairs.get(&path.key(0))? {
         Some(value) => Ok(kind_in(value.as_slice())),
-        None => Ok(Kind::Absent),
+        None => Ok(None),
     }
 }

@@ -6,4 +6,4 @@
 mod kind;
 pub mod laws;
 
-pub use kind::{Kind, directory_value, file_value, kind_of};
+pub use kind::{FILE_BLOCK, FILE_LIMIT, Kind, directory_value, file_value, kind_in, kind_of};

@@ -1,5 +1,5 @@
 use Rattle.std.proofs.Common.{◌∙◌, arith}
-use Rattle.tree_pairs.specs.Blocks.{tree_blocks}
+use Rattle.tree_pairs.proofs.TreeBlocks.{tree_blocks}
 use Rattle.dir_tree.proofs.TreeLemmas.{child_answer, held_blocks, low_behind}
 use Rattle.dir_tree.proofs.changing.has_child.Goals as goal
 

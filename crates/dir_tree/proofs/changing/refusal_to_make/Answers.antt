@@ -1,4 +1,4 @@
-use Rattle.std.proofs.Common.{◌≡◌, false, refl, sym, ap, ◌∙◌}
+use Rattle.std.proofs.Common.{rules, ◌≡◌, false, refl, sym, ap, ◌∙◌}
 use Rattle.std.proofs.lemmas.Bool.{false_from_ne_true}
 use Rattle.store_model.specs.Paths.{is_root}
 use Rattle.store_model.specs.Trees.{is_directory, node_at}
@@ -12,22 +12,22 @@ returns-in_default-clause-call g c = record {
   told = λ seen t p holds. make_at_root t c.args.path.now (c.in_default.ensures.none.0 refl);
 }
 
-pub returns-in_default-2 : goal.returns-in_default-2
-returns-in_default-2 g c =
+pub returns-then-ne : goal.returns-then-ne
+returns-then-ne g c =
     let up = c.in_ok-kind_of.ensures in
     let below : is_root c.args.path.now ≡ false = false_from_ne_true _ (λ root. let none = c.in-Some.ensures.none.1 root in cc) in
     record {
       call = record {
         faults = up.call.faults;
         keeps = up.call.keeps;
-        told = λ seen t p holds. make_below_none t c.args.path.now below (ap (is_directory t) (sym c.in-Some.ensures.value) ∙ no_dir_stands (node_at t c.in-Some.parent) c.in_ok-kind_of.field-0 (up.call.told seen t p holds) c.in_default-2.not-Dir);
+        told = λ seen t p holds. make_below_none t c.args.path.now below (ap (is_directory t) (sym c.in-Some.ensures.value) ∙ no_dir_stands (node_at t c.in-Some.parent) c.in_ok-kind_of.field-0 (up.call.told seen t p holds) (λ is. search rules));
       };
       hidden = up.hidden;
       follows = up.follows;
     }
 
-pub returns-in-Absent-clause-call : goal.returns-in-Absent-clause-call
-returns-in-Absent-clause-call g c =
+pub returns-in-None-clause-call : goal.returns-in-None-clause-call
+returns-in-None-clause-call g c =
     let old = g.P.OrderedPairs.state c.args.pairs.now in
     let between = g.P.OrderedPairs.state c.kind_of.new.pairs in
     let up = c.in_ok-kind_of.ensures.call in
@@ -36,12 +36,12 @@ returns-in-Absent-clause-call g c =
     record {
       faults = at.faults ∙ up.faults;
       keeps = kept_on old between (g.P.OrderedPairs.state c.kind_of-2.new.pairs) up.keeps at.keeps;
-      told = λ seen t p holds. make_of_new t c.args.path.now below (ap (is_directory t) (sym c.in-Some.ensures.value) ∙ dir_stands (node_at t c.in-Some.parent) c.in_ok-kind_of.field-0 (up.told seen t p holds) c.in-Dir.is)
-          (nothing_stands (node_at t c.args.path.now) c.in_ok-kind_of-2.field-0 (at.told (up.keeps.observable seen) t p (still_holds old between t p up.keeps seen holds)) c.in-Absent.is);
+      told = λ seen t p holds. make_of_new t c.args.path.now below (ap (is_directory t) (sym c.in-Some.ensures.value) ∙ dir_stands (node_at t c.in-Some.parent) c.in_ok-kind_of.field-0 (up.told seen t p holds) (search rules))
+          (nothing_stands (node_at t c.args.path.now) c.in_ok-kind_of-2.field-0 (at.told (up.keeps.observable seen) t p (still_holds old between t p up.keeps seen holds)) c.in-None.is);
     }
 
-pub returns-in_default-3 : goal.returns-in_default-3
-returns-in_default-3 g c =
+pub returns-in-Some-2 : goal.returns-in-Some-2
+returns-in-Some-2 g c =
     let old = g.P.OrderedPairs.state c.args.pairs.now in
     let between = g.P.OrderedPairs.state c.kind_of.new.pairs in
     let up = c.in_ok-kind_of.ensures in
@@ -52,8 +52,8 @@ returns-in_default-3 g c =
         faults = at.call.faults ∙ up.call.faults;
         keeps = kept_on old between (g.P.OrderedPairs.state c.kind_of-2.new.pairs) up.call.keeps at.call.keeps;
         told = λ seen t p holds.
-            let stands = something_stands (node_at t c.args.path.now) c.in_ok-kind_of-2.field-0 (at.call.told (up.call.keeps.observable seen) t p (still_holds old between t p up.call.keeps seen holds)) c.in_default-3.not-Absent in
-            make_over_one t c.args.path.now below (ap (is_directory t) (sym c.in-Some.ensures.value) ∙ dir_stands (node_at t c.in-Some.parent) c.in_ok-kind_of.field-0 (up.call.told seen t p holds) c.in-Dir.is) stands.0 stands.1;
+            let stands = something_stands (node_at t c.args.path.now) c.in_ok-kind_of-2.field-0 (at.call.told (up.call.keeps.observable seen) t p (still_holds old between t p up.call.keeps seen holds)) (λ none. let is = c.in-Some-2.is in cc) in
+            make_over_one t c.args.path.now below (ap (is_directory t) (sym c.in-Some.ensures.value) ∙ dir_stands (node_at t c.in-Some.parent) c.in_ok-kind_of.field-0 (up.call.told seen t p holds) (search rules)) stands.0 stands.1;
       };
       hidden = λ seen. up.hidden (at.hidden seen);
       follows = g.met.P.OrderedPairs.follows_trans _ _ _ up.follows at.follows;
@@ -74,8 +74,8 @@ returns-in_err-kind_of-2-clause-hidden g c seen = c.kind_of.ensures.hidden (c.ki
 pub returns-in_err-kind_of-2-clause-follows : goal.returns-in_err-kind_of-2-clause-follows
 returns-in_err-kind_of-2-clause-follows g c = g.met.P.OrderedPairs.follows_trans _ _ _ c.kind_of.ensures.follows c.kind_of-2.ensures.follows
 
-pub returns-in-Absent-clause-hidden : goal.returns-in-Absent-clause-hidden
-returns-in-Absent-clause-hidden g c seen = c.kind_of.ensures.hidden (c.kind_of-2.ensures.hidden seen)
+pub returns-in-None-clause-hidden : goal.returns-in-None-clause-hidden
+returns-in-None-clause-hidden g c seen = c.kind_of.ensures.hidden (c.kind_of-2.ensures.hidden seen)
 
-pub returns-in-Absent-clause-follows : goal.returns-in-Absent-clause-follows
-returns-in-Absent-clause-follows g c = g.met.P.OrderedPairs.follows_trans _ _ _ c.kind_of.ensures.follows c.kind_of-2.ensures.follows
+pub returns-in-None-clause-follows : goal.returns-in-None-clause-follows
+returns-in-None-clause-follows g c = g.met.P.OrderedPairs.follows_trans _ _ _ c.kind_of.ensures.follows c.kind_of-2.ensures.follows

@@ -2,7 +2,7 @@ use Rattle.std.proofs.Common.{refl}
 use Rattle.store_model.specs.Commands.Command.{Remove}
 use Rattle.store_model.specs.Commands.Reply.{Acknowledged}
 use Rattle.store_model.specs.Steps.{reply_of}
-use Rattle.tree_pairs.specs.Blocks.{tree_blocks}
+use Rattle.tree_pairs.proofs.TreeBlocks.{tree_blocks}
 use Rattle.dir_tree.proofs.RefusalLemmas.{carried, none_found}
 use Rattle.dir_tree.proofs.TreeLemmas.{removed, held_blocks}
 use Rattle.dir_tree.proofs.changing.remove.Goals as goal

@@ -1,6 +1,6 @@
 use Rattle.std.proofs.Common.{List, length, refl, sym, ap, subst, ◌∙◌, arith}
 use Rattle.store_model.specs.Commands.{Child}
-use Rattle.tree_pairs.specs.Blocks.{tree_blocks}
+use Rattle.tree_pairs.proofs.TreeBlocks.{tree_blocks}
 use Rattle.dir_tree.proofs.RefusalLemmas.{kept_itself, kept_on, still_holds}
 use Rattle.dir_tree.proofs.TreeLemmas.{held_blocks}
 use Rattle.dir_tree.proofs.ListingLemmas.{IsPartListed, none_listed, next_listed, none_listed_more, few_listed, low_enough, is_within, short_name}

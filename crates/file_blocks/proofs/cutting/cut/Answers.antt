@@ -3,7 +3,7 @@ use Rattle.store_model.specs.Trees.{contents, node_at}
 use Rattle.store_model.specs.Commands.Command.{Cut}
 use Rattle.store_model.specs.Commands.Reply.{Acknowledged}
 use Rattle.store_model.specs.Steps.{first_refusal, refusal_of, reply_of}
-use Rattle.tree_pairs.specs.Blocks.{tree_blocks}
+use Rattle.tree_pairs.proofs.TreeBlocks.{tree_blocks}
 use Rattle.store_base.specs.Faults.{disk_faults_after}
 use Rattle.tree_pairs.proofs.CallLemmas.{step_done}
 use Rattle.file_blocks.specs.FileCalls.{HasFile}

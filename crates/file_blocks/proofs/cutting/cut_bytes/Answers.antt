@@ -1,4 +1,5 @@
-use Rattle.std.proofs.Common.{◌*◌, ◌/◌, ◌+◌, arith}
+use Rattle.std.proofs.Common.{◌-◌, ◌*◌, ◌/◌, ◌+◌, arith}
+use Rattle.store_model.specs.Pairs.{file_block}
 use Rattle.file_blocks.proofs.CutLemmas.{cuts_both, cuts_smaller}
 use Rattle.file_blocks.proofs.cutting.cut_bytes.Goals as goal
 
@@ -9,8 +10,8 @@ returns-clause-call g c =
     let new = g.P.OrderedPairs.state c.cut_block.new.pairs in
     let all = c.div_ceil.ensures in
     let kept = c.div_ceil-2.ensures in
-    cuts_smaller c.args.path.now c.args.size (256 * c.div_ceil.result) c.args.len old new c.cut_block.result (omega arith)
-    (cuts_both c.args.path.now (256 * c.div_ceil.result) (256 * c.div_ceil-2.result) (256 * ((c.args.len + 255) / 256)) c.args.len old between new c.cut_block.result (omega arith) (omega arith) c.in_ok-drop_blocks.ensures.call c.cut_block.ensures.call)
+    cuts_smaller c.args.path.now c.args.size (file_block * c.div_ceil.result) c.args.len old new c.cut_block.result (omega arith)
+    (cuts_both c.args.path.now (file_block * c.div_ceil.result) (file_block * c.div_ceil-2.result) (file_block * ((c.args.len + (file_block - 1)) / file_block)) c.args.len old between new c.cut_block.result (omega arith) (omega arith) c.in_ok-drop_blocks.ensures.call c.cut_block.ensures.call)
 
 pub returns-in_err-drop_blocks-clause-hidden : goal.returns-in_err-drop_blocks-clause-hidden
 returns-in_err-drop_blocks-clause-hidden g c seen = c.drop_blocks.ensures.hidden seen

@@ -1,4 +1,4 @@
-use Rattle.std.proofs.Common.{◌≡◌, Err, ◌+◌, ◌∙◌, length, max, ap, ap₂, refl, sym, arith, rules}
+use Rattle.std.proofs.Common.{◌≡◌, Some, Err, ◌+◌, ◌∙◌, length, max, ap, ap₂, refl, sym, arith, rules}
 use Rattle.store_model.specs.Trees.{contents, node_at}
 use Rattle.store_model.specs.Commands.Command.{Write}
 use Rattle.store_model.specs.Commands.Reply.{Acknowledged}
@@ -36,7 +36,7 @@ unfolding reply_of
 returns-then-eq-clause-call g c =
     let told = c.in_ok-kind.ensures.call in
     let puts = c.in_ok-put_bytes.ensures.call in
-    let same : c.in_ok-kind.kind ≡ kinds.File c.in-Ok.len = search rules in
+    let same : c.in_ok-kind.kind ≡ Some (kinds.File c.in-Ok.len) = search rules in
     record {
       faults = puts.faults ∙ told.faults;
       observable = λ seen. puts.observable (told.keeps.observable seen);

@@ -2,8 +2,9 @@ use Rattle.std.proofs.Common.{length, sym, ap, subst}
 use Rattle.std.proofs.lemmas.Option.{none-some, same_Some}
 use Rattle.store_model.specs.Paths.{Path}
 use Rattle.store_model.specs.Pairs.{node_pairs}
-use Rattle.image_check.specs.declared.kind.Kind.{Kind}
-use Rattle.image_check.specs.Entries.{kind_of, IsFirst}
+use Rattle.tree_pairs.specs.declared.kind.Kind.{Kind}
+use Rattle.tree_pairs.specs.Kinds.{kind_of}
+use Rattle.image_check.specs.Entries.{IsFirst}
 use Rattle.image_check.proofs.EntryLemmas.{first_is, front_read, some_first, all_there, stands_first}
 use Rattle.image_check.proofs.entry.first_entry.Goals as goal
 

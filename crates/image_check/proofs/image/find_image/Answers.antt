@@ -1,5 +1,8 @@
-use Rattle.std.proofs.Common.{IfSome, sym, ap, subst}
+use Rattle.std.proofs.Common.{IfSome, Result, sym, ap, subst}
+use Rattle.image_check.specs.declared.contents.Contents.{Contents}
+use Rattle.image_check.specs.declared.fault.AttachFault.{AttachFault}
 use Rattle.image_check.specs.Verdicts.{HasParameters}
+use Rattle.image_check.specs.ImageCalls.{FindsImage}
 use Rattle.image_check.proofs.ImageVerdicts.{searches_image, views_disk}
 use Rattle.image_check.proofs.image.find_image.Goals as goal
 
@@ -15,4 +18,6 @@ returns g c =
     let read = c.in-Ok-Some.ensures in
     let view = views_disk p c.new-view.result.params left at mid back new c.find_contents-found.result c.new-view.ensures.params (ap g.D.Disk.state c.new-view.ensures.disk) (ap g.D.Disk.state (sym c.into_disk.ensures))
     (record { keeps = c.find_contents-found.ensures.follows; finds = c.find_contents-found.ensures.call }) in
-    searches_image old mid new p left c.find_contents-found.result c.map.result (subst (λ found. IfSome found (HasParameters old)) c.in-Ok-Some.field-0-is read.found) read.size read.observable read.faults read.rise read.writes read.syncs read.reads view c.map.ensures.cases
+    let search =
+    searches_image old mid new p left c.find_contents-found.result (subst (λ found. IfSome found (HasParameters old)) c.in-Ok-Some.field-0-is read.found) read.size read.observable read.faults read.rise read.writes read.syncs read.reads view in
+    subst (λ (r : Result Contents AttachFault). FindsImage old new r) (sym c.contents_of.ensures) search

@@ -2,7 +2,6 @@ use Rattle.std.proofs.Common.{◌≡◌, ℕ, List, length, sym, ap, subst, refl
 use Rattle.std.specs.Prelude.{IsSome}
 use Rattle.std.specs.FinMap.{find, put as put_in}
 use Rattle.store_model.specs.Paths.{Path, key, replanted, key_cmp}
-use Rattle.store_model.specs.Pairs.{Pair}
 use Rattle.ordered_pairs.specs.PairsState.{without}
 use Rattle.dir_tree.proofs.TakingLemmas.{length-without}
 use Rattle.subtree_move.proofs.moving.move_block.Goals as goal

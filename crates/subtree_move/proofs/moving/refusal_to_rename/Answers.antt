@@ -1,5 +1,5 @@
-use Rattle.std.proofs.Common.{◌≡◌, false, refl, sym, ◌∙◌}
-use Rattle.std.proofs.lemmas.Bool.{or_left, or_right}
+use Rattle.std.proofs.Common.{◌≡◌, false, not, is_some, refl, sym, ap, ◌∙◌}
+use Rattle.std.proofs.lemmas.Bool.{or_left, or_right, false≢true}
 use Rattle.store_model.specs.Paths.{is_root}
 use Rattle.store_model.specs.Trees.{node_at}
 use Rattle.dir_tree.proofs.RefusalLemmas.{nothing_stands, something_stands, none_found, kept_itself, kept_on, still_holds}
@@ -17,15 +17,15 @@ returns-then-is_root-clause-call g c = record {
   ]);
 }
 
-pub returns-in-Absent-clause-call : goal.returns-in-Absent-clause-call
-returns-in-Absent-clause-call g c =
+pub returns-then-is_none-clause-call : goal.returns-then-is_none-clause-call
+returns-then-is_none-clause-call g c =
     let at = c.in_ok-kind_of.ensures.call in
     let low : is_root c.args.from.now ≡ false = sym c.is_root-else-is_root.ensures.value ∙ c.if-is_root-2.false in
     let low_to : is_root c.args.to.now ≡ false = sym c.is_root.ensures.value ∙ c.if-is_root.false in
     record {
       faults = at.faults;
       keeps = at.keeps;
-      told = λ seen t p holds. rename_of_none t c.args.from.now c.args.to.now low low_to (nothing_stands (node_at t c.args.from.now) c.in_ok-kind_of.field-0 (at.told seen t p holds) c.in-Absent.is);
+      told = λ seen t p holds. rename_of_none t c.args.from.now c.args.to.now low low_to (nothing_stands (node_at t c.args.from.now) c.in_ok-kind_of.field-0 (at.told seen t p holds) (none_found c.in_ok-kind_of.field-0 (λ kind is. false≢true (sym (c.is_none.ensures ∙ ap not c.if-is_none.true) ∙ ap is_some is))));
     }
 
 pub returns-then-is_inside : goal.returns-then-is_inside
@@ -38,7 +38,7 @@ returns-then-is_inside g c =
         faults = at.call.faults;
         keeps = at.call.keeps;
         told = λ seen t p holds.
-            let stands = something_stands (node_at t c.args.from.now) c.in_ok-kind_of.field-0 (at.call.told seen t p holds) c.in_default.not-Absent in
+            let stands = something_stands (node_at t c.args.from.now) c.in_ok-kind_of.field-0 (at.call.told seen t p holds) (λ none. false≢true (sym (ap is_some none) ∙ c.is_none.ensures ∙ ap not c.if-is_none.false)) in
             rename_inside t c.args.from.now c.args.to.now low low_to stands.0 stands.1 (sym c.is_inside.ensures.value ∙ c.if-is_inside.true);
       };
       valid = c.is_root.ensures.valid;
@@ -58,7 +58,7 @@ returns-in-Some g c =
         faults = make.call.faults ∙ at.call.faults;
         keeps = kept_on old between (g.P.OrderedPairs.state c.refusal_to_make.new.pairs) at.call.keeps make.call.keeps;
         told = λ seen t p holds.
-            let stands = something_stands (node_at t c.args.from.now) c.in_ok-kind_of.field-0 (at.call.told seen t p holds) c.in_default.not-Absent in
+            let stands = something_stands (node_at t c.args.from.now) c.in_ok-kind_of.field-0 (at.call.told seen t p holds) (λ none. false≢true (sym (ap is_some none) ∙ c.is_none.ensures ∙ ap not c.if-is_none.false)) in
             rename_to_taken t c.args.from.now c.args.to.now low low_to stands.0 stands.1 (sym c.is_inside.ensures.value ∙ c.if-is_inside.false) c.in-Some.refusal c.in_ok-refusal.field-0 c.in-Some.is
             (make.call.told (at.call.keeps.observable seen) t p (still_holds old between t p at.call.keeps seen holds));
       };
@@ -82,8 +82,8 @@ returns g c =
         faults = grow.call.faults ∙ make.call.faults ∙ at.call.faults;
         keeps = kept_on old third (g.P.OrderedPairs.state c.outgrows.new.pairs) keeps grow.call.keeps;
         told = λ seen t p holds.
-            let stands = something_stands (node_at t c.args.from.now) c.in_ok-kind_of.field-0 (at.call.told seen t p holds) c.in_default.not-Absent in
-            c.then_some.ensures ∙ rename_tested t c.args.from.now c.args.to.now low low_to stands.0 stands.1 (sym c.is_inside.ensures.value ∙ c.if-is_inside.false) c.in_ok-refusal.field-0 (none_found c.in_ok-refusal.field-0 c.in_default-2.not-Some)
+            let stands = something_stands (node_at t c.args.from.now) c.in_ok-kind_of.field-0 (at.call.told seen t p holds) (λ none. false≢true (sym (ap is_some none) ∙ c.is_none.ensures ∙ ap not c.if-is_none.false)) in
+            c.then_some.ensures ∙ rename_tested t c.args.from.now c.args.to.now low low_to stands.0 stands.1 (sym c.is_inside.ensures.value ∙ c.if-is_inside.false) c.in_ok-refusal.field-0 (none_found c.in_ok-refusal.field-0 c.in_default.not-Some)
             (make.call.told (at.call.keeps.observable seen) t p (still_holds old between t p at.call.keeps seen holds))
             c.in_ok-outgrows.field-0 (grow.call.told (keeps.observable seen) t p (still_holds old third t p keeps seen holds));
       };
@@ -97,8 +97,8 @@ returns-then-is_root-clause-follows g c = g.met.P.OrderedPairs.follows_refl _
 pub returns-in_err-kind_of-clause-follows : goal.returns-in_err-kind_of-clause-follows
 returns-in_err-kind_of-clause-follows g c = c.kind_of.ensures.follows
 
-pub returns-in-Absent-clause-follows : goal.returns-in-Absent-clause-follows
-returns-in-Absent-clause-follows g c = c.kind_of.ensures.follows
+pub returns-then-is_none-clause-follows : goal.returns-then-is_none-clause-follows
+returns-then-is_none-clause-follows g c = c.kind_of.ensures.follows
 
 pub returns-in_err-refusal-clause-follows : goal.returns-in_err-refusal-clause-follows
 returns-in_err-refusal-clause-follows g c = g.met.P.OrderedPairs.follows_trans _ _ _ c.kind_of.ensures.follows c.refusal_to_make.ensures.follows

@@ -13,18 +13,18 @@ returns-then-is_root g c = record {
   follows = g.met.P.OrderedPairs.follows_refl _;
 }
 
-pub returns-in-Absent : goal.returns-in-Absent
-returns-in-Absent g c = record {
+pub returns-in-None : goal.returns-in-None
+returns-in-None g c = record {
   call =
       told_by_kind _ c.args.path.now c.in_ok-kind_of.field-0 _ _ _ c.in_ok-kind_of.ensures.call
-      (λ t told. prune_of_none t c.args.path.now (sym c.is_root.ensures.value ∙ c.if-is_root.false) (nothing_stands (node_at t c.args.path.now) c.in_ok-kind_of.field-0 told c.in-Absent.is));
+      (λ t told. prune_of_none t c.args.path.now (sym c.is_root.ensures.value ∙ c.if-is_root.false) (nothing_stands (node_at t c.args.path.now) c.in_ok-kind_of.field-0 told c.in-None.is));
   follows = c.kind_of.ensures.follows;
 }
 
-pub returns-in_default : goal.returns-in_default
-returns-in_default g c = record {
+pub returns-in-Some : goal.returns-in-Some
+returns-in-Some g c = record {
   call = told_by_kind _ c.args.path.now c.in_ok-kind_of.field-0 _ _ _ c.in_ok-kind_of.ensures.call (λ t told.
-      let stands = something_stands (node_at t c.args.path.now) c.in_ok-kind_of.field-0 told c.in_default.not-Absent in
+      let stands = something_stands (node_at t c.args.path.now) c.in_ok-kind_of.field-0 told (λ none. let is = c.in-Some.is in cc) in
       prune_of_one t c.args.path.now (sym c.is_root.ensures.value ∙ c.if-is_root.false) stands.0 stands.1);
   follows = c.in_ok-kind_of.ensures.follows;
 }

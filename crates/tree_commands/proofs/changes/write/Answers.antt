@@ -1,4 +1,4 @@
-use Rattle.std.proofs.Common.{◌≡◌, ℕ, ◌+◌, List, [], ◌∷◌, length, nat_lt, false, not, IsTrue, IsNone, IfSome, unwrap_or, Option, Some, None, refl, sym, ap, ◌∙◌}
+use Rattle.std.proofs.Common.{rules, ◌≡◌, ℕ, ◌+◌, List, [], ◌∷◌, length, nat_lt, false, not, IsTrue, IsNone, IfSome, unwrap_or, Option, Some, None, refl, sym, ap, ◌∙◌}
 use Rattle.std.proofs.lemmas.Bool.{false≢true}
 use Rattle.store_model.specs.declared.refusal.Refusal.TheVariants as refusals
 use Rattle.store_model.specs.Paths.{Path, is_root, parent}
@@ -29,10 +29,10 @@ write_at-requires-clause-parent g c seen t p holds =
     let before = up.hidden seen in
     let at = c.unwrap_or.ensures ∙ parent_or_self c.args.path.now c.parent.result c.parent.ensures.none.0 c.parent.ensures.value in
     let told = up.call.told before t p (record { tree = holds.tree; pairs_are = sym (up.call.keeps.unchanged before) ∙ holds.pairs_are }) in
-    ap (is_directory t) (sym at) ∙ dir_stands (node_at t c.unwrap_or.result) c.in_ok-kind_of.field-0 told c.in-Dir.is
+    ap (is_directory t) (sym at) ∙ dir_stands (node_at t c.unwrap_or.result) c.in_ok-kind_of.field-0 told (search rules)
 
-pub returns-in_default : goal.returns-in_default
-returns-in_default g c =
+pub returns-then-ne : goal.returns-then-ne
+returns-then-ne g c =
     let up = c.in_ok-kind_of.ensures.call in
     let at = c.unwrap_or.ensures ∙ parent_or_self c.args.path.now c.parent.result c.parent.ensures.none.0 c.parent.ensures.value in
     record {
@@ -40,7 +40,7 @@ returns-in_default g c =
         faults = up.faults;
         observable = up.keeps.observable;
         carried = λ seen t p holds.
-            let none = ap (is_directory t) (sym at) ∙ no_dir_stands (node_at t c.unwrap_or.result) c.in_ok-kind_of.field-0 (up.told seen t p holds) c.in_default.not-Dir in
+            let none = ap (is_directory t) (sym at) ∙ no_dir_stands (node_at t c.unwrap_or.result) c.in_ok-kind_of.field-0 (up.told seen t p holds) (λ is. search rules) in
             step_refused (λ _. Acknowledged) refusals.Parent t (Write c.args.path.now c.args.at c.args.bytes.now) p (g.P.OrderedPairs.state c.kind_of.new.pairs)
             (no_parent t c.args.path.now c.args.at c.args.bytes.now none) (up.keeps.unchanged seen ∙ holds.pairs_are);
       };

@@ -12,7 +12,7 @@ returns-in-Some-clause-call g c =
       keeps = record { observable = λ seen. (call.observed seen).observable; unchanged = λ seen. (call.observed seen).unchanged };
       told = λ seen t p holds. kind_of_found (g.P.OrderedPairs.state c.args.pairs.now) t p c.args.path.now c.in-Some.value c.kind_in.result holds c.key.ensures.path (sym c.is_root.ensures.value ∙ c.if-is_root.false)
           (sym c.in-Some.is ∙ (call.observed seen).found ∙ ap (λ k. find key_cmp k (g.P.OrderedPairs.state c.args.pairs.now).pairs) c.key.ensures.value)
-          (λ e. c.kind_in.ensures.directory (c.as_slice.ensures.value ∙ e)) (λ n l e. c.kind_in.ensures.file n l (c.as_slice.ensures.value ∙ e));
+          (λ kind is e. c.kind_in.ensures.only kind is (c.as_slice.ensures.value ∙ e));
     }
 
 pub returns-in-None-clause-call : goal.returns-in-None-clause-call

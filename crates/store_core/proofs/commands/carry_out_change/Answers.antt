@@ -12,26 +12,26 @@ use Rattle.tree_commands.specs.Answers.{change_reply}
 use Rattle.store_core.specs.StagedTree.{TreeList}
 use Rattle.store_core.proofs.AnswerSteps.{acked, acked_staged, answered_at, failed_at}
 use Rattle.store_core.proofs.ListSteps.{AnswersList, changed_list, keeps_stays, back_stays, room_at, answers_at, whole_behind, same_behind, table_behind}
-use Rattle.store_core.proofs.staged.carry_out_change.Given.{Over}
-use Rattle.store_core.proofs.staged.carry_out_change.Goals as goal
+use Rattle.store_core.proofs.commands.carry_out_change.Given.{Over}
+use Rattle.store_core.proofs.commands.carry_out_change.Goals as goal
 
 pub change-requires-clause-room : goal.change-requires-clause-room
 change-requires-clause-room g c = let some = c.requires.list in room_at g.D.Disk.state some.0 some.1.0 c.args.pairs.now some.1.1 c.requires.runs
 
 -- ---- acknowledged
 
-acknowledged : (g : Over) (c : goal.After-settle-arg-1 g) → AnswersList g.D.Disk.state (command_of c.args.command.now) c.args.pairs.now c.change.new.pairs (Ok replies.Ok)
+acknowledged : (g : Over) (c : goal.After-end_change-arg-1 g) → AnswersList g.D.Disk.state (command_of c.args.command.now) c.args.pairs.now c.change.new.pairs (Ok replies.Ok)
 acknowledged g c =
     changed_list g.D.Disk.state (command_of c.args.command.now) c.args.pairs.now c.change.new.pairs (Ok c.in-Ok-Ok.field-0) (Ok replies.Ok) (ap (λ (x : Result (Unit {0}) Refusal). change_reply {F = Fault} (Ok x)) c.in-Ok-Ok.field-0-is) c.in-Ok-Ok.ensures.follows
     c.in-Ok-Ok.ensures.call
 
-pub settle-requires-clause-whole : goal.settle-requires-clause-whole
-settle-requires-clause-whole g c =
+pub end_change-requires-clause-whole : goal.end_change-requires-clause-whole
+end_change-requires-clause-whole g c =
     let some = c.requires.list in
     whole_behind g.D.Disk.state some.0 some.1.0 c.args.pairs.now some.1.1 c.requires.runs (command_of c.args.command.now) c.change.new.pairs replies.Ok (acknowledged g c)
 
-pub settle-requires-clause-staged : goal.settle-requires-clause-staged
-settle-requires-clause-staged g c =
+pub end_change-requires-clause-staged : goal.end_change-requires-clause-staged
+end_change-requires-clause-staged g c =
     let state = g.D.Disk.state in
     let some = c.requires.list in
     let old = c.args.pairs.now in
@@ -47,7 +47,7 @@ returns-in-Ok-Ok-clause-call g c t p list =
     let mid = c.change.new.pairs in
     let command = command_of c.args.command.now in
     let is = changed_list state command old mid (Ok c.in-Ok-Ok.field-0) (Ok replies.Ok) (ap (λ (x : Result (Unit {0}) Refusal). change_reply {F = Fault} (Ok x)) c.in-Ok-Ok.field-0-is) c.in-Ok-Ok.ensures.follows c.in-Ok-Ok.ensures.call in
-    acked state t command p old.pages mid.pages list.fitting list.pages c.requires.runs c.requires.command c.settle.new.pairs.pages (change_reply c.settle.result) (answers_at state t p old list c.requires.runs command mid (Ok replies.Ok) is) c.settle.ensures.call
+    acked state t command p old.pages mid.pages list.fitting list.pages c.requires.runs c.requires.command c.end_change.new.pairs.pages (change_reply c.end_change.result) (answers_at state t p old list c.requires.runs command mid (Ok replies.Ok) is) c.end_change.ensures.call
 
 -- ---- refused
 

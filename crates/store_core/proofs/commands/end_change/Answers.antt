@@ -13,7 +13,7 @@ use Rattle.store_core.specs.StagedTree.{TreeList, IsStagedFor}
 use Rattle.store_core.specs.Steps.{settled_reply, EndsStep}
 use Rattle.store_core.proofs.ListSteps.{keeps_stays, settle_stays, settled_stays, table_behind_settle}
 use Rattle.store_core.proofs.StagedSteps.{settled}
-use Rattle.store_core.proofs.staged.settle.Goals as goal
+use Rattle.store_core.proofs.commands.end_change.Goals as goal
 
 pub invariant_of-pairs : goal.invariant_of-pairs
 invariant_of-pairs g c =

@@ -9,8 +9,8 @@ use Rattle.store_core.specs.StagedTree.{TreeList}
 use Rattle.store_core.proofs.AnswerSteps.{answered_at, failed_at}
 use Rattle.store_core.proofs.ListSteps.{AnswersList, keeps_stays, back_stays, answers_at, whole_behind, same_behind, table_behind}
 use Rattle.tree_commands.proofs.StepLemmas.{look_other}
-use Rattle.store_core.proofs.staged.carry_out_look.Given.{Over}
-use Rattle.store_core.proofs.staged.carry_out_look.Goals as goal
+use Rattle.store_core.proofs.commands.carry_out_look.Given.{Over}
+use Rattle.store_core.proofs.commands.carry_out_look.Goals as goal
 
 -- the list as it is opened, behind an answer
 answered : (g : Over) (c : goal.After-discard g) → AnswersList g.D.Disk.state (command_of c.args.command.now) c.args.pairs.now (record { pages = c.pairs.inside.pages; draw = c.pairs.inside.draw; is_whole = c.pairs.inside.is_whole }) (Ok c.answer.new.reply)

@@ -5,7 +5,7 @@ use Rattle.std.proofs.lemmas.List.Sorted.{length_permutation}
 use Rattle.store_model.specs.Paths.{key_cmp}
 use Rattle.store_model.proofs.PairsLemmas.{is_sorted-pairs}
 use Rattle.image_check.proofs.Found.{sorted_again}
-use Rattle.image_check.proofs.slots.tree_pairs.Goals as goal
+use Rattle.image_check.proofs.slots.in_key_order.Goals as goal
 
 pub returns-then-not-do_rise-clause-only : goal.returns-then-not-do_rise-clause-only
 returns-then-not-do_rise-clause-only c p t tree moved =

@@ -3,7 +3,7 @@ use Rattle.store_model.specs.Parameters.{Parameters}
 use Rattle.store_model.specs.Images.{layout}
 use Rattle.store_core.specs.Known.{KnownState, IsKnownTree, TellsTree, one_known}
 use Rattle.image_check.specs.Standing.{IsFitting}
-use Rattle.store_core.proofs.known.KnownTree.settle.Goals as goal
+use Rattle.store_core.proofs.known.KnownTree.move_on.Goals as goal
 
 pub returns : goal.returns
 returns g c =

@@ -36,10 +36,11 @@ pub type TreePages<D> = Staged<D, AnyDraw>;
 /// The list of the pairs of a tree, over its pages.
 pub type TreeList<D> = SkipList<TreePages<D>, AnyDraw>;
 
-/// Carries out a command on the list of a tree, and puts the reply in the place of another. Behind it nothing is staged.
+/// Carries out a command on the list of a tree, and puts the reply in the place of another. Behind it nothing is
+/// staged.
 ///
-/// A fault leaves the tree as it was. `NoMemory`: nothing was written. `Disk`: the disk failed, and where that came at a
-/// write or a sync, or behind one, the pages are spent.
+/// A fault leaves the tree as it was. `NoMemory`: nothing was written. `Disk`: the disk failed, and where that came at
+/// a write or a sync, or behind one, the pages are spent.
 pub fn carry_out<D: Disk>(
     alloc: Global,
     pairs: &mut TreeList<D>,
@@ -64,8 +65,8 @@ pub fn carry_out<D: Disk>(
     }
 }
 
-/// Tells how many slots are used, and how many there are. LLVM is not to join it to `carry_out`, which would clear the room
-/// of a reply for each command.
+/// Tells how many slots are used, and how many there are. LLVM is not to join it to `carry_out`, which would clear the
+/// room of a reply for each command.
 #[inline(never)]
 fn tell_space<D: Disk>(staged: &TreePages<D>, params: &Params, reply: &mut Reply)
     requires runs { staged.now.is_spent ≡ false }
@@ -115,8 +116,8 @@ fn carry_out_look<D: Disk>(
     }
 }
 
-/// Carries out a command that changes the tree. A `Reply` is large, since it may hold the bytes of a read: it is not made here,
-/// but by the caller.
+/// Carries out a command that changes the tree. A `Reply` is large, since it may hold the bytes of a read: it is not
+/// made here, but by the caller.
 fn carry_out_change<D: Disk>(
     pairs: &mut TreeList<D>,
     command: &Command,
@@ -129,7 +130,7 @@ fn carry_out_change<D: Disk>(
     ensures list { GoesOn D.state pairs.old pairs.new }
 {
     match change(pairs, command) {
-        Ok(Ok(())) => settle(pairs),
+        Ok(Ok(())) => end_change(pairs),
         Ok(Err(refusal)) => {
             pairs.pages.discard();
             Ok(Err(refusal))
@@ -141,8 +142,9 @@ fn carry_out_change<D: Disk>(
     }
 }
 
-/// Settles what is staged. Where that is refused, or fails, it is taken back.
-fn settle<D: Disk>(pairs: &mut TreeList<D>) -> Result<Answer<()>, ApplyFault>
+/// Ends a change that is carried out in the staged pages: settles them. Where that is refused, or fails, they are taken
+/// back.
+fn end_change<D: Disk>(pairs: &mut TreeList<D>) -> Result<Answer<()>, ApplyFault>
     requires runs { pairs.old.pages.is_spent ≡ false }
     requires whole { IsObservable (D.state pairs.old.pages.disk) → pairs.old.is_whole ≡ true }
     requires staged { (t : Tree) × ((next : Tree) × ((p : Parameters) × (IsStagedFor D.state t next p pairs.old.pages × (any_draw pairs.old.draw ≡ draw_of p)))) }

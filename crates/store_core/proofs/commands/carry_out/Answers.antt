@@ -12,7 +12,7 @@ use Rattle.store_core.specs.Steps.{EndsStep}
 use Rattle.store_core.proofs.ListSteps.{keeps_stays, follows_stay}
 use Rattle.store_core.proofs.StagedSteps.{read_step, same_staged}
 use Rattle.tree_commands.proofs.StepLemmas.{space_step}
-use Rattle.store_core.proofs.staged.carry_out.Goals as goal
+use Rattle.store_core.proofs.commands.carry_out.Goals as goal
 
 pub invariant_of-pairs : goal.invariant_of-pairs
 invariant_of-pairs g c =

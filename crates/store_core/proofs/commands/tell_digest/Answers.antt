@@ -11,7 +11,7 @@ use Rattle.image_check.specs.declared.fault.ApplyFault.TheVariants as apply
 use Rattle.store_core.specs.Steps.{EndsStep}
 use Rattle.store_core.proofs.StagedSteps.{read_step, same_staged}
 use Rattle.tree_commands.proofs.StepLemmas.{digest_step}
-use Rattle.store_core.proofs.staged.tell_digest.Goals as goal
+use Rattle.store_core.proofs.commands.tell_digest.Goals as goal
 
 pub returns-in_err-digest : goal.returns-in_err-digest
 returns-in_err-digest g c = record {
