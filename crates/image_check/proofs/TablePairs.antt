@@ -79,8 +79,8 @@ pairs_of_all [] = refl
 pairs_of_all (page ∷ ps) = ap₂ (λ (a b : List Pair). a ++ b) (pairs_of_page page) (pairs_of_all ps) ∙ sym (map-append pair_of (lowest_cells page) (flat_map lowest_cells ps))
 
 -- the pages of pairs hold them on level 0
-pairs_of_pages : (d : Draw) (s : List Pair) → 1 ≤ d.height → flat_map lowest_pairs (pages_of_pairs d s) ≡ s
-pairs_of_pages d s some = pairs_of_all (pages_of_pairs d s) ∙ ap (map pair_of) (cells_of_pages d s some) ∙ pairs_of_cells s
+pages_hold_pairs : (d : Draw) (s : List Pair) → 1 ≤ d.height → flat_map lowest_pairs (pages_of_pairs d s) ≡ s
+pages_hold_pairs d s some = pairs_of_all (pages_of_pairs d s) ∙ ap (map pair_of) (cells_of_pages d s some) ∙ pairs_of_cells s
 
 -- ---- the pairs of a table
 
@@ -140,7 +140,7 @@ pairs_place d ps law room ranked =
 pub table_pairs : (t : Tree) (p : Parameters) → IsParameters p → IsTree t → Fits t p → IsPermutation (pairs t p) (pairs_of_pages (table_of t p))
 unfolding draw_of pages
 table_pairs t p valid tree fits =
-    subst (λ s. IsPermutation s (pairs_of_pages (table_of t p))) (pairs_of_pages (draw_of p) (pairs t p) valid.some_level)
+    subst (λ s. IsPermutation s (pairs_of_pages (table_of t p))) (pages_hold_pairs (draw_of p) (pairs t p) valid.some_level)
     (pairs_place (draw_of p) (pages t p) (IsLawful-draw_of p valid) fits (tree_pages_by_rank t p valid tree fits))
 
 may_hold : (held : Option Page) → IsSlot held → MayHold held
