@@ -62,7 +62,7 @@ module _ {R : Type 0} (source_of : R → SourceState) (old new : LineState R) wh
   }
 
   -- no line, for a fault
-  pub fault_read : (fault : LineFault) → KeepsSource (source_of old.source) (source_of new.source) (Err {Line} fault) → EndsCall old new (Err fault) → (IsObservable (source_of old.source) → NextLine source_of old new (Err fault))
+  pub fault_read : (fault : LineFault) → KeepsSource {T = Line} (source_of old.source) (source_of new.source) (Err fault) → EndsCall old new (Err fault) → (IsObservable (source_of old.source) → NextLine source_of old new (Err fault))
       → ReadsLine source_of old new (Err fault)
   fault_read causes.Source source ends next = record {
     source = record { observable = source.observable; faults = source.faults };

@@ -1,5 +1,5 @@
 -- What is known between two turns of the loop, whatever the work, and what each way out of it leaves.
-use Rattle.std.proofs.Common.{◌≡◌, ℕ, ◌+◌, ◌≤◌, ◌<◌, true, false, Option, Some, None, Result, Ok, Err, refl, sym, ap, ◌∙◌, arith}
+use Rattle.std.proofs.Common.{◌≡◌, ℕ, ◌+◌, ◌≤◌, ◌<◌, Bool, true, false, Option, Some, None, Result, Ok, Err, refl, sym, ap, ◌∙◌, arith}
 use Rattle.std.proofs.lemmas.Bool.{false≢true}
 use Rattle.store_model.specs.declared.refusal.Refusal.{Refusal}
 use Rattle.store_model.specs.Parameters.{Parameters}
@@ -33,19 +33,19 @@ pub record IsAnswered {D : Type 0} (disk_of : D → DiskState) (asked : Option (
   pub answers : AnswersReading disk_of (reading_of turn) old new result
 
 module _ {D : Type 0} (disk_of : D → DiskState) (old new : StoreState D) (reply : Reply) where
-  -- something was asked for where it is said so, or a fault came in its answer
-  pub was_asked : (asked : Option (Result Command Refusal)) → AnswersAsked disk_of asked old new reply (Ok true) → IsAnswered disk_of asked old new (Ok reply)
-  was_asked (Some turn) answered = record { turn = turn; turn_is = refl; answers = answered.1 }
-  was_asked None answered = absurd (cc)
+  -- something was asked for where that is told, and where a fault came
+  pub was_asked : (told : Bool) (asked : Option (Result Command Refusal)) → told ≡ true → AnswersAsked disk_of asked old new reply (Ok told) → IsAnswered disk_of asked old new (Ok reply)
+  was_asked told (Some turn) is answered = record { turn = turn; turn_is = refl; answers = answered.1 }
+  was_asked told None is answered = let none = answered.0 in absurd (cc)
 
   pub fault_met : (fault : ApplyFault) (asked : Option (Result Command Refusal)) → AnswersAsked disk_of asked old new reply (Err fault) → IsAnswered disk_of asked old new (Err fault)
   fault_met fault (Some turn) answered = record { turn = turn; turn_is = refl; answers = answered }
-  fault_met fault None answered = absurd (cc)
+  fault_met fault None answered = let none = answered.0 in absurd (cc)
 
-  -- else nothing was, and nothing was done
-  pub none_asked : (asked : Option (Result Command Refusal)) → AnswersAsked disk_of asked old new reply (Ok false) → (asked ≡ None) × (new ≡ old)
-  none_asked (Some turn) answered = absurd (false≢true answered.0)
-  none_asked None answered = (refl, answered.1)
+  -- and nothing where that is told
+  pub none_asked : (told : Bool) (asked : Option (Result Command Refusal)) → told ≡ false → AnswersAsked disk_of asked old new reply (Ok told) → (asked ≡ None) × (new ≡ old)
+  none_asked told (Some turn) is answered = absurd (false≢true (sym is ∙ answered.0))
+  none_asked told None is answered = (refl, answered.1)
 
 module _ {D M : Type 0} (disk_of : D → DiskState) (Told : M → Type 0) (trees : M → Start → ℕ → Tree) (left : M → ℕ) (Live : M → Type 0) (Kept : Start → M → M → ℕ → Type 0) where
   -- What is known between two turns.
