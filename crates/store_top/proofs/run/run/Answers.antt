@@ -5,7 +5,7 @@ use Rattle.image_subcommands.specs.declared.status.Status.{Status}
 use Rattle.image_subcommands.specs.declared.status.Status.TheVariants as statuses
 use Rattle.image_subcommands.specs.Outside.{KeepsOutside, outside_of}
 use Rattle.store_top.specs.RunCall.{IsRun}
-use Rattle.store_top.specs.Runs.{AnswersLines}
+use Rattle.store_top.proofs.AnsweredLines.{AnswersLines}
 use Rattle.store_top.proofs.RunEnds.{nothing_opened, run_unopened, run_answered, run_outside, new_reader_is_unread}
 use Rattle.store_top.proofs.ScriptTurns.{script_begins, script_answered}
 use Rattle.store_top.proofs.run.run.Goals as goal
