@@ -58,9 +58,9 @@ name_held m name rows e = name_by (out-ArgMatches m).subcommand ∙ ap (option_m
     name_by None = refl
     name_by (Some b) = refl
 
--- a word with no arguments has no values
-pub no_values : (word : Text) (values : List Text) (found : Text → Option Text) → arguments_of word ≡ [] → map found (arguments_of word) ≡ map Some values → values ≡ []
-no_values word values found none held = same_values values [] (sym held ∙ ap (map found) none)
+-- a subcommand with no arguments has no values
+pub no_values : (name : Text) (values : List Text) (found : Text → Option Text) → arguments_of name ≡ [] → map found (arguments_of name) ≡ map Some values → values ≡ []
+no_values name values found none held = same_values values [] (sym held ∙ ap (map found) none)
 
 pub some_same : {A : Type 0} (x y : A) → Some x ≡ Some y → x ≡ y
 some_same x y e = ap (λ o. elim o [ None ↦ x | Some z ↦ z ]) e

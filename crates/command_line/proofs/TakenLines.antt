@@ -11,29 +11,29 @@ use Rattle.clap.specs.declared.builder.value_parser.ValueParser.TheVariants as p
 use Rattle.store_model.specs.Grammar.{number_limit}
 use Rattle.store_model.specs.Parameters.{slots_limit, height_limit}
 use Rattle.store_model.specs.Words.{commands_limit}
-use Rattle.command_line.specs.Line.{HoldsLine, arguments_of, big_word, format_word, line_of, without_help}
+use Rattle.command_line.specs.Line.{HoldsLine, arguments_of, big_subcommand, format_subcommand, line_of, without_help}
 use Rattle.command_line.proofs.WalkLemmas.{all_true, is_plain, walk_at, next_walk, plain_walked, passes_next, passes_end, ends_well, level_by, stopped_at, stops, stopping_passes}
 
--- a word as building leaves it
-abbrev built_word : Shape → Shape
-built_word word = built_leaf (inherited (with_leaf_noted (marked_built (line_of parsers.String).top)) word)
+-- a subcommand as building leaves it
+abbrev built_subcommand : Shape → Shape
+built_subcommand shape = built_leaf (inherited (with_leaf_noted (marked_built (line_of parsers.String).top)) shape)
 
 -- the line is taken, and the matches hold it
 pub record IsTaken (draws : ValueParser) (line : List Text) : Type 0 where
   pub taken : takes (line_of draws) line ≡ true
   pub held : HoldsLine line (subcommand_of (line_of draws) line)
 
--- ---- any word
+-- ---- any subcommand
 
-module _ (draws : ValueParser) (name : Text) (word : Shape) (rest : List Text)
+module _ (draws : ValueParser) (name : Text) (shape : Shape) (rest : List Text)
     (met : subcommand_met (names_of (built (line_of draws))) idle name ≡ Some name)
     (no_help : bytes_eq name (codes "help") ≡ false)
-    (found : find (λ s. answers_to name (label_of s)) (built (line_of draws)).subs ≡ Some (built_word word))
-    (passes : level_passes (built_word word) [] nothing_held rest false ≡ true) where
+    (found : find (λ s. answers_to name (label_of s)) (built (line_of draws)).subs ≡ Some (built_subcommand shape))
+    (passes : level_passes (built_subcommand shape) [] nothing_held rest false ≡ true) where
   top_stops : walk (built (line_of draws)).top.rules (names_of (built (line_of draws))) nothing_held (name ∷ rest) ≡ stopped_at name rest
   top_stops = stops (built (line_of draws)).top (names_of (built (line_of draws))) name rest met
 
-  -- the line is taken by the word that it names
+  -- the line is taken by the subcommand that it names
   pub taken_by : takes (line_of draws) (name ∷ rest) ≡ true
   taken_by =
       let app = built (line_of draws) in
@@ -45,29 +45,29 @@ module _ (draws : ValueParser) (name : Text) (word : Shape) (rest : List Text)
       (level_by app.top (names_of app) (name ∷ rest) _ (stopped_at name rest) top_stops (stopping_passes app.top (names_of app) name rest met no_help)
       (ap (λ (w : Walk). ends_well app.top (stopped_at name rest) (is_some (entered app w.stopped))) top_stops ∙ whole)))
 
-  -- and its matches are those of that word
-  pub entered_by : subcommand_of (line_of draws) (name ∷ rest) ≡ Some (rows_at (built_word word) rest)
+  -- and its matches are those of that subcommand
+  pub entered_by : subcommand_of (line_of draws) (name ∷ rest) ≡ Some (rows_at (built_subcommand shape) rest)
   entered_by =
       let app = built (line_of draws) in
-      let there : entered app (Some (name, rest)) ≡ Some (rows_at (built_word word) rest) = rw found refl in
+      let there : entered app (Some (name, rest)) ≡ Some (rows_at (built_subcommand shape) rest) = rw found refl in
       ap (λ (w : Walk). entered app w.stopped) top_stops ∙ there
 
--- ---- words with no argument
+-- ---- subcommands with no argument
 
 module _ (draws : ValueParser) (name : Text)
     (met : subcommand_met (names_of (built (line_of draws))) idle name ≡ Some name)
     (no_help : bytes_eq name (codes "help") ≡ false)
-    (found : find (λ s. answers_to name (label_of s)) (built (line_of draws)).subs ≡ Some (built_word (without_help name [])))
+    (found : find (λ s. answers_to name (label_of s)) (built (line_of draws)).subs ≡ Some (built_subcommand (without_help name [])))
     (none : arguments_of name ≡ []) where
   pub single_taken : IsTaken draws (name ∷ [])
   single_taken = record {
-    taken = taken_by draws name (without_help name []) [] met no_help found (level_by (built_word (without_help name [])) [] [] false (walk_at nothing_held 1) refl (passes_end _ _) refl);
+    taken = taken_by draws name (without_help name []) [] met no_help found (level_by (built_subcommand (without_help name [])) [] [] false (walk_at nothing_held 1) refl (passes_end _ _) refl);
     held = record {
-      word = name;
+      subcommand = name;
       values = [];
       rows = [];
       line_is = refl;
-      found_is = entered_by draws name (without_help name []) [] met no_help found (level_by (built_word (without_help name [])) [] [] false (walk_at nothing_held 1) refl (passes_end _ _) refl);
+      found_is = entered_by draws name (without_help name []) [] met no_help found (level_by (built_subcommand (without_help name [])) [] [] false (walk_at nothing_held 1) refl (passes_end _ _) refl);
       values_are = ap (map (λ id. first_of id [])) none;
     };
   }
@@ -97,7 +97,7 @@ one_passes parser text passes = ap (λ b. b && true) passes
 module _ (draws : ValueParser) (number count : Text) (number_plain : is_plain number ≡ true) (count_plain : is_plain count ≡ true)
     (number_passes : Passes (parsers.Unsigned 0 number_limit) number) (count_passes : Passes (parsers.Unsigned 1 commands_limit) count) where
   abbrev big : Shape
-  big = built_word big_word
+  big = built_subcommand big_subcommand
 
   abbrev behind_number : Walk
   behind_number = next_walk big.rules nothing_held 1 number
@@ -116,13 +116,13 @@ module _ (draws : ValueParser) (number count : Text) (number_plain : is_plain nu
 
   pub big_taken : IsTaken draws (codes "big" ∷ number ∷ count ∷ [])
   big_taken = record {
-    taken = taken_by draws (codes "big") big_word (number ∷ count ∷ []) refl refl refl big_passes;
+    taken = taken_by draws (codes "big") big_subcommand (number ∷ count ∷ []) refl refl refl big_passes;
     held = record {
-      word = codes "big";
+      subcommand = codes "big";
       values = number ∷ count ∷ [];
       rows = finished big.rules behind_count.held;
       line_is = refl;
-      found_is = entered_by draws (codes "big") big_word (number ∷ count ∷ []) refl refl refl big_passes ∙ ap (λ (w : Walk). Some (codes "big", finished big.rules w.held)) big_walks;
+      found_is = entered_by draws (codes "big") big_subcommand (number ∷ count ∷ []) refl refl refl big_passes ∙ ap (λ (w : Walk). Some (codes "big", finished big.rules w.held)) big_walks;
       values_are = refl;
     };
   }
@@ -133,7 +133,7 @@ module _ (draws : ValueParser) (slots height draw seed : Text)
     (slots_plain : is_plain slots ≡ true) (height_plain : is_plain height ≡ true) (draw_plain : is_plain draw ≡ true) (seed_plain : is_plain seed ≡ true)
     (slots_passes : Passes (parsers.Unsigned 1 slots_limit) slots) (height_passes : Passes (parsers.Unsigned 1 height_limit) height) (draw_passes : Passes draws draw) where
   abbrev format : Shape
-  format = built_word (format_word draws)
+  format = built_subcommand (format_subcommand draws)
 
   abbrev behind_slots : Walk
   behind_slots = next_walk format.rules nothing_held 1 slots
@@ -164,13 +164,13 @@ module _ (draws : ValueParser) (slots height draw seed : Text)
 
   pub format_taken : IsTaken draws (codes "format" ∷ slots ∷ height ∷ draw ∷ seed ∷ [])
   format_taken = record {
-    taken = taken_by draws (codes "format") (format_word draws) (slots ∷ height ∷ draw ∷ seed ∷ []) refl refl refl format_passes;
+    taken = taken_by draws (codes "format") (format_subcommand draws) (slots ∷ height ∷ draw ∷ seed ∷ []) refl refl refl format_passes;
     held = record {
-      word = codes "format";
+      subcommand = codes "format";
       values = slots ∷ height ∷ draw ∷ seed ∷ [];
       rows = finished format.rules behind_seed.held;
       line_is = refl;
-      found_is = entered_by draws (codes "format") (format_word draws) (slots ∷ height ∷ draw ∷ seed ∷ []) refl refl refl format_passes ∙ ap (λ (w : Walk). Some (codes "format", finished format.rules w.held)) format_walks;
+      found_is = entered_by draws (codes "format") (format_subcommand draws) (slots ∷ height ∷ draw ∷ seed ∷ []) refl refl refl format_passes ∙ ap (λ (w : Walk). Some (codes "format", finished format.rules w.held)) format_walks;
       values_are = refl;
     };
   }

@@ -1,12 +1,12 @@
--- How a command line is built: a command with arguments more, and a line with a word more.
+-- How a command line is built: a command with arguments more, and a line with a subcommand more.
 use Rattle.std.specs.Prelude.{◌≡◌, List, [], ◌∷◌, map, false}
 use Rattle.clap.specs.Simple.{App, app_of, with_rule, with_subcommand}
 use Rattle.clap.specs.Walk.{Rule, Text}
 use Rattle.clap.specs.declared.builder.command.Command.{Command}
 use Rattle.clap.specs.declared.builder.command.Command.TheViews.{out-Command}
-use Rattle.command_line.specs.Line.{IsWordOf, argument, without_help}
+use Rattle.command_line.specs.Line.{IsSubcommandOf, argument, without_help}
 use Rattle.command_line.specs.declared.line.Argument.{Argument}
-use Rattle.command_line.specs.declared.line.Word.{Word}
+use Rattle.command_line.specs.declared.line.Subcommand.{Subcommand}
 
 -- what `clap` reads of an argument
 abbrev pub rule_told : Argument → Rule
@@ -22,18 +22,13 @@ pub record AddsArguments (arguments : List Argument) (before after : Command) : 
   pub added_are : app_of after ≡ with_rules (app_of before) (map rule_told arguments)
   pub local : (out-Command after).has_globals ≡ (out-Command before).has_globals
 
--- the command is a word of this name with these arguments
+-- the command is a subcommand of this name with these arguments
 pub record IsBuilt (name : Text) (arguments : List Argument) (command : Command) : Type 0 where
-  pub word_is : app_of command ≡ with_rules (record { top = without_help name []; subs = [] }) (map rule_told arguments)
+  pub subcommand_is : app_of command ≡ with_rules (record { top = without_help name []; subs = [] }) (map rule_told arguments)
   pub local : (out-Command command).has_globals ≡ false
 
--- the line after has this word behind those of the line before
-pub record AddsWord (word : Word) (before after : Command) : Type 0 where
+-- the line after has this subcommand behind those of the line before
+pub record AddsSubcommand (subcommand : Subcommand) (before after : Command) : Type 0 where
   pub command : Command
-  pub is_word : IsWordOf word command
+  pub is_subcommand : IsSubcommandOf subcommand command
   pub added_is : app_of after ≡ with_subcommand (app_of before) (app_of command).top
-
--- the line after has these words behind those of the line before, one after another
-abbrev pub AddsWords : List Word → App → App → Type 0
-AddsWords [] before after = after ≡ before
-AddsWords (word ∷ words) before after = (command : Command) × IsWordOf word command × AddsWords words (with_subcommand before (app_of command).top) after

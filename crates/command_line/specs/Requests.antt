@@ -8,8 +8,8 @@ use Rattle.command_line.specs.declared.request.Request as own
 use Rattle.command_line.specs.declared.request.Request.TheVariants as own_requests
 use Rattle.command_line.specs.declared.line_read.LineRead.{LineRead}
 use Rattle.command_line.specs.declared.line_read.LineRead.TheVariants as lines
-use Rattle.command_line.specs.declared.words.Wanted.{Wanted}
-use Rattle.command_line.specs.declared.words.Wanted.TheVariants.{Usage, Existing, Fresh}
+use Rattle.command_line.specs.declared.image_file.Wanted.{Wanted}
+use Rattle.command_line.specs.declared.image_file.Wanted.TheVariants.{Usage, Existing, Fresh}
 
 -- what the program calls a request, as the definitions have it
 abbrev pub request_seen : own.Request → Request
@@ -33,7 +33,7 @@ IsInRange (own_requests.Big number count) = (1 ≤ count) × (count ≤ commands
 abbrev pub words_read : LineRead → List Text
 words_read (lines.Format slots height draw seed) = codes "format" ∷ slots.now ∷ height.now ∷ draw.now ∷ seed.now ∷ []
 words_read (lines.Big number count) = codes "big" ∷ number.now ∷ count.now ∷ []
-words_read (lines.Single word) = word.now ∷ []
+words_read (lines.Single name) = name.now ∷ []
 
 -- the file that a request needs: one that is there, or for `format` one of the image's length
 abbrev pub wanted_by : Request → Wanted

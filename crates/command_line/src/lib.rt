@@ -1,11 +1,14 @@
 //! The words of the command line behind the image's path, read by `clap`, and what they ask for.
 #![tactic(auto)]
 
+mod image_file;
+pub mod laws;
 mod line;
 mod line_read;
 mod request;
 mod words;
 
-pub use line::{MAX_COMMANDS, Word, command, word_command};
+pub use image_file::{Access, FileRequest, Wanted, wanted_file, wanted_len};
+pub use line::{MAX_COMMANDS, Subcommand, command, command_of};
 pub use request::Request;
-pub use words::{Wanted, Words, wanted_len};
+pub use words::Words;

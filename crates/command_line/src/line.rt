@@ -1,13 +1,14 @@
-//! The one definition of the command line: its words, their arguments and ranges, and what help says of them.
+//! The one definition of the command line: its subcommands, their arguments and ranges, and what help says of
+//! them.
 
 ghost use Rattle.std.specs.Prelude.{◌≡◌, false, [], IfOk, codes};
 ghost use Rattle.clap.specs.Simple.{app_of};
 ghost use Rattle.clap.specs.Walk.{rule_of};
 ghost use Rattle.clap.specs.declared.builder.command.Command.TheViews.{out-Command};
-ghost use Rattle.command_line.specs.Building.{AddsArguments, AddsWord, IsBuilt, rule_told};
-ghost use Rattle.command_line.specs.Line.{IsLine, IsWordOf, without_help, without_words};
+ghost use Rattle.command_line.specs.Building.{AddsArguments, AddsSubcommand, IsBuilt, rule_told};
+ghost use Rattle.command_line.specs.Line.{IsLine, IsSubcommandOf, without_help, without_subcommands};
 
-use self::Word::{Big, Check, Format, Run, Scrub, Wipe};
+use self::Subcommand::{Big, Check, Format, Run, Scrub, Wipe};
 use clap::builder::ValueParser;
 use clap::{Arg, Command};
 use std::alloc::{AllocError, Global};
@@ -16,9 +17,9 @@ use store_base::{MAX_HEIGHT, MAX_SLOTS};
 /// The most commands that `big` makes.
 pub const MAX_COMMANDS: u32 = 1_000_000;
 
-/// A word of the command line.
+/// A subcommand: what the first word behind the path of the image names.
 #[derive(Clone, Copy, Debug, PartialEq, Eq)]
-pub enum Word {
+pub enum Subcommand {
     /// `format SLOTS HEIGHT DRAW SEED`.
     Format,
     /// `run`.
@@ -33,7 +34,7 @@ pub enum Word {
     Big,
 }
 
-/// An argument of a word: its name, what help says of it, and what its value has to be.
+/// An argument of a subcommand: its name, what help says of it, and what its value has to be.
 struct Argument {
     name: &'static str,
     help: &'static str,
@@ -78,8 +79,8 @@ static BIG: [Argument; 2] = [
     },
 ];
 
-/// The words, in the order of the help.
-static WORDS: [Word; 6] = [Format, Run, Check, Scrub, Wipe, Big];
+/// The subcommands, in the order of the help.
+static SUBCOMMANDS: [Subcommand; 6] = [Format, Run, Check, Scrub, Wipe, Big];
 
 /// What `clap` has as the argument, which is required and has one value, which passes the parser.
 fn arg_of<'a>(alloc: Global, argument: &'static Argument) -> Arg<'a>
@@ -119,8 +120,8 @@ fn without_help<'a>(alloc: Global, name: &'a str, about: &'a str, notes: &'a str
         .disable_help_flag(true)
 }
 
-/// A word with these arguments.
-fn word_with<'a>(
+/// A subcommand with these arguments.
+fn subcommand_with<'a>(
     alloc: Global,
     name: &'a str,
     about: &'a str,
@@ -176,23 +177,23 @@ const BIG_NOTES: &str =
     "It prints four lines at the end: `ok N` and `no N`, how many commands were carried out and how many\n\
     were refused, `space USED SLOTS`, and `digest HEX`, the SHA-256 of the image.";
 
-/// The command of a word.
-pub fn word_command<'a>(alloc: Global, word: Word) -> Result<Command<'a>, AllocError>
-    ensures { IfOk result (IsWordOf word) }
+/// What `clap` has as the subcommand.
+pub fn command_of<'a>(alloc: Global, subcommand: Subcommand) -> Result<Command<'a>, AllocError>
+    ensures { IfOk result (IsSubcommandOf subcommand) }
 {
-    match word {
-        Word::Format => word_with(alloc, "format", FORMAT_ABOUT, FORMAT_NOTES, &FORMAT),
-        Word::Run => word_with(alloc, "run", RUN_ABOUT, RUN_NOTES, &[]),
-        Word::Check => word_with(alloc, "check", CHECK_ABOUT, CHECK_NOTES, &[]),
-        Word::Scrub => word_with(alloc, "scrub", SCRUB_ABOUT, SCRUB_NOTES, &[]),
-        Word::Wipe => word_with(alloc, "wipe", WIPE_ABOUT, WIPE_NOTES, &[]),
-        Word::Big => word_with(alloc, "big", BIG_ABOUT, BIG_NOTES, &BIG),
+    match subcommand {
+        Subcommand::Format => subcommand_with(alloc, "format", FORMAT_ABOUT, FORMAT_NOTES, &FORMAT),
+        Subcommand::Run => subcommand_with(alloc, "run", RUN_ABOUT, RUN_NOTES, &[]),
+        Subcommand::Check => subcommand_with(alloc, "check", CHECK_ABOUT, CHECK_NOTES, &[]),
+        Subcommand::Scrub => subcommand_with(alloc, "scrub", SCRUB_ABOUT, SCRUB_NOTES, &[]),
+        Subcommand::Wipe => subcommand_with(alloc, "wipe", WIPE_ABOUT, WIPE_NOTES, &[]),
+        Subcommand::Big => subcommand_with(alloc, "big", BIG_ABOUT, BIG_NOTES, &BIG),
     }
 }
 
-/// The command line with no words yet, of which one will be required.
-fn without_words<'a>(alloc: Global) -> Command<'a>
-    ensures line { app_of result ≡ without_words }
+/// The command line with no subcommands yet, of which one will be required.
+fn without_subcommands<'a>(alloc: Global) -> Command<'a>
+    ensures line { app_of result ≡ without_subcommands }
     ensures local { (out-Command result).has_globals ≡ false }
 {
     without_help(
@@ -210,20 +211,24 @@ fn without_words<'a>(alloc: Global) -> Command<'a>
     .subcommand_required(true)
 }
 
-/// The command line with one word more, behind the others.
-fn with_word<'a>(alloc: Global, line: Command<'a>, word: Word) -> Result<Command<'a>, AllocError>
-    ensures { IfOk result (AddsWord word line.entry) }
+/// The command line with one subcommand more, behind the others.
+fn add_subcommand<'a>(
+    alloc: Global,
+    line: Command<'a>,
+    subcommand: Subcommand,
+) -> Result<Command<'a>, AllocError>
+    ensures { IfOk result (AddsSubcommand subcommand line.entry) }
 {
-    line.subcommand(word_command(alloc, word)?)
+    line.subcommand(command_of(alloc, subcommand)?)
 }
 
 /// The command line.
 pub fn command<'a>(alloc: Global) -> Result<Command<'a>, AllocError>
     ensures { IfOk result (λ line. IsLine (app_of line)) }
 {
-    let mut line = without_words(alloc);
-    for word in &WORDS {
-        line = with_word(alloc, line, *word)?;
+    let mut line = without_subcommands(alloc);
+    for subcommand in &SUBCOMMANDS {
+        line = add_subcommand(alloc, line, *subcommand)?;
     }
     Ok(line)
 }

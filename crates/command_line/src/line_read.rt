@@ -13,14 +13,14 @@ ghost use Rattle.command_line.specs.Requests.{request_seen, words_read, IsInRang
 use crate::request::{Request, big_request, format_request, single_request};
 use clap::ArgMatches;
 
-/// A line as `clap` read it: a word, and the value of each of its arguments.
+/// A line as `clap` read it: a subcommand, and the value of each of its arguments.
 #[derive(Clone, Copy)]
 pub(crate) enum LineRead<'a> {
     /// `format`, with the slots, the height, the draw and the seed.
     Format(&'a str, &'a str, &'a str, &'a str),
     /// `big`, with the number and the count.
     Big(&'a str, &'a str),
-    /// A word with no arguments.
+    /// A subcommand with no arguments, by its name.
     Single(&'a str),
 }
 
@@ -36,11 +36,11 @@ impl<'a> LineRead<'a> {
     pub(crate) fn of(matches: &ArgMatches<'a>) -> Option<LineRead<'a>>
         ensures { (line : List (List ℕ)) → HoldsLine line (subcommand_rows_of matches.now) → option_map words_read result ≡ Some line }
     {
-        let (word, given) = matches.subcommand()?;
-        match word {
+        let (name, given) = matches.subcommand()?;
+        match name {
             "format" => LineRead::of_format(given),
             "big" => LineRead::of_big(given),
-            _ => Some(LineRead::Single(word)),
+            _ => Some(LineRead::Single(name)),
         }
     }
 
@@ -76,7 +76,7 @@ impl<'a> LineRead<'a> {
                 &["format", slots, height, draw, seed],
             ),
             LineRead::Big(number, count) => are(words, &["big", number, count]),
-            LineRead::Single(word) => are(words, &[word]),
+            LineRead::Single(name) => are(words, &[name]),
         }
     }
 
@@ -90,7 +90,7 @@ impl<'a> LineRead<'a> {
                 slots, height, draw, seed,
             ),
             LineRead::Big(number, count) => big_request(number, count),
-            LineRead::Single(word) => single_request(word),
+            LineRead::Single(name) => single_request(name),
         }
     }
 }

@@ -30,12 +30,12 @@ pub enum Request {
     Big(u32, u32),
 }
 
-/// What a word with no arguments asks for.
-pub(crate) fn single_request(word: &str) -> Option<Request>
-    ensures value { option_map request_seen result ≡ request_of (word.now ∷ []) }
+/// What a subcommand with no arguments asks for, by its name.
+pub(crate) fn single_request(name: &str) -> Option<Request>
+    ensures value { option_map request_seen result ≡ request_of (name.now ∷ []) }
     ensures valid { IfSome result IsInRange }
 {
-    match word {
+    match name {
         "run" => Some(Request::Run),
         "check" => Some(Request::Check),
         "scrub" => Some(Request::Scrub),
@@ -52,7 +52,7 @@ pub(crate) fn format_request(slots: &str, height: &str, draw: &str, seed: &str) 
     Some(Request::Format(params_of_values(slots, height, draw, seed)?))
 }
 
-/// The parameters that these words spell; `None` exactly where one of them spells nothing in its range.
+/// The parameters that these texts spell; `None` exactly where one of them spells nothing in its range.
 fn params_of_values(slots: &str, height: &str, draw: &str, seed: &str) -> Option<Params>
     ensures value { option_map Format result ≡ request_of (codes "format" ∷ slots.now ∷ height.now ∷ draw.now ∷ seed.now ∷ []) }
     ensures valid { IfSome result IsParameters }

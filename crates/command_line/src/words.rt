@@ -1,4 +1,4 @@
-//! The words of a command line, and the file that they need.
+//! The words of a command line, and what they ask for.
 
 ghost use Rattle.std.specs.Prelude.{◌≡◌, ◌≢◌, Some, None, IfSome, IfOk, map};
 ghost use Rattle.std.specs.Option.{option_map};
@@ -6,7 +6,7 @@ ghost use Rattle.std.specs.String.{string_bytes};
 ghost use Rattle.clap.specs.Simple.{subcommand_rows_of};
 ghost use Rattle.store_model.specs.Words.{request_of};
 ghost use Rattle.command_line.specs.Line.{HoldsLine};
-ghost use Rattle.command_line.specs.Requests.{request_seen, wanted_of, IsInRange};
+ghost use Rattle.command_line.specs.Requests.{request_seen, IsInRange};
 
 use crate::line;
 use crate::line_read::LineRead;
@@ -15,7 +15,7 @@ use clap::ArgMatches;
 use clap::error::ErrorKind;
 use std::alloc::Global;
 use std::marker::Model;
-use store_base::{NoMemory, image_len};
+use store_base::NoMemory;
 
 /// The words of a command line, behind the path of the image. Contracts see them as a list of texts.
 #[derive(Drop)]
@@ -94,30 +94,4 @@ fn asked(words: &[String], matches: &ArgMatches<'_>) -> Option<Request>
     } else {
         None
     }
-}
-
-/// The file that the words need.
-#[derive(Clone, Copy, Debug, PartialEq, Eq)]
-pub enum Wanted {
-    /// The words are not well formed.
-    Usage,
-    /// A file that is there.
-    Existing,
-    /// A file of so many bytes; where there is none, one is to be made of that many zeros.
-    Fresh(u64),
-}
-
-/// The file that the words need.
-/// `NoMemory`: it was not found out.
-pub fn wanted_len(words: &Words) -> Result<Wanted, NoMemory>
-    ensures { IfOk result (λ wanted. wanted ≡ wanted_of (request_of words.now)) }
-{
-    let Some(request) = words.request()? else {
-        return Ok(Wanted::Usage);
-    };
-    Ok(match request {
-        Request::Format(params) => Wanted::Fresh(image_len(params.slots())),
-        Request::Run | Request::Check | Request::Scrub | Request::Wipe | Request::Big(..) =>
-            Wanted::Existing,
-    })
 }

@@ -2,7 +2,7 @@
 -- A function of a few calls proves LeavesOnly by one step a call, and LeavesOnly-trans puts the steps together.
 use Rattle.std.proofs.Common.{ℕ, ◌+◌, ◌≤◌, List, length, subst, sym, ◌∙◌, inl, inr, ⊎_elim, arith, Result, Ok}
 use Rattle.disk_model.specs.DiskState.{DiskState, IsObservable, IsDurable, IsSound, MayLeaveOnly}
-use Rattle.disk_model.specs.DiskCalls.{SameOutside, IgnoresRange, Torn, Elapses, LeavesOnly, IsCall, IsRead, IsWrite, IsSync}
+use Rattle.disk_model.specs.DiskCalls.{SameOutside, Torn, Elapses, LeavesOnly, IsCall, IsRead, IsWrite, IsSync}
 use Rattle.disk_model.proofs.Images.{SameOutside-within}
 
 pub Elapses-refl : (disk : DiskState) → IsSound disk → Elapses disk disk
@@ -63,6 +63,10 @@ MayLeaveOnly-durable disk P durable here image left = subst P (sym (durable imag
 -- what a sync that succeeded says
 pub IsDurable-sync : {T E : Type 0} (old new : DiskState) (value : T) → IsObservable old → IsSync {T = T} {E = E} old new (Ok value) → IsDurable new
 IsDurable-sync old new value observable sync = (sync.observed observable).durable
+
+-- whether an image has P does not rest on its bytes in the range
+abbrev pub IgnoresRange : ℕ → ℕ → (List ℕ → Type 0) → Type 0
+IgnoresRange at n P = (image other : List ℕ) → SameOutside at n image other → P image → P other
 
 module _ {T E : Type 0} (old new : DiskState) (result : Result T E) (P : List ℕ → Type 0) (observable : IsObservable old) where
   -- a read, failed or not

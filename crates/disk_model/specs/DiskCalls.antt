@@ -10,10 +10,6 @@ pub record SameOutside (at n : ℕ) (old new : List ℕ) : Type 0 where
   pub below : (i : ℕ) → i < at → slice_index new i ≡ slice_index old i
   pub above : (i : ℕ) → at + n ≤ i → slice_index new i ≡ slice_index old i
 
--- whether an image has P does not rest on its bytes in the range
-abbrev pub IgnoresRange : ℕ → ℕ → (List ℕ → Type 0) → Type 0
-IgnoresRange at n P = (image other : List ℕ) → SameOutside at n image other → P image → P other
-
 -- one of these images, with any bytes in the range
 abbrev pub Torn : ℕ → ℕ → (List ℕ → Type 0) → List ℕ → Type 0
 Torn at n images image = (whole : List ℕ) × images whole × SameOutside at n whole image

@@ -4,8 +4,8 @@ use store_base::DiskFault;
 
 /// A disk over another one, some of whose calls fail: those whose numbers are listed, and all from one number on.
 ///
-/// The calls of `read_at`, `write_at` and `sync` are numbered from 0, in the order in which they come. A call that fails
-/// here does not reach the disk below; every other call is that disk's.
+/// The calls of `read_at`, `write_at` and `sync` are numbered from 0, in the order in which they come. A call that
+/// fails here does not reach the disk below; every other call is that disk's.
 #[derive(Drop)]
 pub struct FailingDisk<D: Disk> {
     disk: D,

@@ -15,7 +15,7 @@ pub data Failed : Type 0 where
 pub record Row : Type 0 where
   -- the number that the program ends with
   pub code : ℕ
-  -- which words may end so
+  -- which subcommands may end so
   pub of_format : Bool
   pub of_run : Bool
   pub of_check : Bool
@@ -77,7 +77,7 @@ row WrongLength = record (with_code 11) { of_format = true; refuses_disk = true 
 
 -- ---- what follows from it
 
--- how each word may end
+-- how each subcommand may end
 abbrev pub IsFormatStatus : Status → Type 0
 IsFormatStatus status = IsTrue (row status).of_format
 

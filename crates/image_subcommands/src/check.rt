@@ -1,4 +1,4 @@
-//! The word `check`: tells what an image is, and writes nothing to it.
+//! The subcommand `check`: tells what an image is, and writes nothing to it.
 
 ghost use Rattle.image_subcommands.specs.CheckCall.{IsCheck};
 ghost use Rattle.image_subcommands.specs.Outside.{KeepsOutside, outside_of};

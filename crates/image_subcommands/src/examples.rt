@@ -1,4 +1,5 @@
-//! Worked examples of what this crate defines, each the contract of a function with an empty body and proved by computing.
+//! Worked examples of what this crate defines, each the contract of a function with an empty body and proved by
+//! computing.
 #![tactic(auto, unfolding(crate::specs::Reports::report_text, crate::specs::Compute::everything))]
 
 ghost use Rattle.std.specs.Prelude.{◌≡◌, ◌++◌, ◌∷◌, [], codes};

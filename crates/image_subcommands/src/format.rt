@@ -1,4 +1,4 @@
-//! The word `format`: writes the image of the empty tree.
+//! The subcommand `format`: writes the image of the empty tree.
 
 ghost use Rattle.std.specs.Prelude.{◌≡◌};
 ghost use Rattle.image_subcommands.specs.Endings as endings;

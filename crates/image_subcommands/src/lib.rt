@@ -1,7 +1,8 @@
-//! The words that need no store: `format`, `wipe`, `check` and `scrub`, each a call on a disk, a source and a sink; and how a
-//! call of any word ends: its status and its outcome.
+//! The subcommands that need no store: `format`, `wipe`, `check` and `scrub`, each a call on a disk, a source and a
+//! sink; and how a call of any subcommand ends: its status and its outcome.
 //!
-//! Each word has a file with its call, and a file of specs/ with what it promises.
+//! Each subcommand has a file with its call, and a file of specs/ with what it promises. Which words ask for it is said
+//! in `command_line`.
 #![tactic(auto)]
 
 mod check;

@@ -73,8 +73,8 @@ fn status_of(verdict: Verdict) -> Status
     }
 }
 
-/// Prints the line of a verdict, in one put, and answers how the call ends: as the verdict says, or with `SinkFault` where the
-/// sink failed.
+/// Prints the line of a verdict, in one put, and answers how the call ends: as the verdict says, or with `SinkFault`
+/// where the sink failed.
 fn print_verdict<W: Sink>(sink: &mut W, verdict: Verdict) -> Status
     ensures { PrintsVerdict verdict (W.state sink.old) (W.state sink.new) result }
 {
@@ -84,8 +84,8 @@ fn print_verdict<W: Sink>(sink: &mut W, verdict: Verdict) -> Status
     }
 }
 
-/// Prints the line of a verdict, and answers how the call ends; for a fault that came in place of a verdict nothing is printed.
-/// It takes no memory, so once the disk was changed the call can't end for want of it.
+/// Prints the line of a verdict, and answers how the call ends; for a fault that came in place of a verdict nothing is
+/// printed. It takes no memory, so once the disk was changed the call can't end for want of it.
 pub fn print_report<W: Sink>(sink: &mut W, judged: Result<Verdict, Fault>) -> Status
     ensures { PrintsReport W.state judged sink.old sink.new result }
 {

@@ -1,4 +1,4 @@
-//! The word `scrub`: recovers an image, and makes its free slots zero.
+//! The subcommand `scrub`: recovers an image, and makes its free slots zero.
 
 ghost use Rattle.image_subcommands.specs.Outside.{KeepsOutside, outside_of};
 ghost use Rattle.image_subcommands.specs.ScrubCall.{IsScrub};

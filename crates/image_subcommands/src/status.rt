@@ -20,8 +20,8 @@ pub enum Status {
     Usage,
     /// A take from the source failed. The image is the layout of the tree after the answered lines.
     SourceFault,
-    /// A put into the sink failed. With `run` the image is the layout of the tree after the answered lines, with `big` that of
-    /// the tree after all commands; with `scrub` it is scrubbed, where scrubbing leaves the layout of a tree.
+    /// A put into the sink failed. With `run` the image is the layout of the tree after the answered lines, with `big`
+    /// that of the tree after all commands; with `scrub` it is scrubbed, where scrubbing leaves the layout of a tree.
     SinkFault,
     /// A read, a write or a sync of the disk failed.
     DiskFault,
@@ -30,7 +30,8 @@ pub enum Status {
     TooLong,
     /// The disk does not start with the header of some image of its length. Nothing was written.
     NotImage,
-    /// What recovery would leave is the layout of no tree, or for `scrub` what scrubbing would leave. Nothing was written.
+    /// What recovery would leave is the layout of no tree, or for `scrub` what scrubbing would leave. Nothing was
+    /// written.
     Damaged,
     /// Memory ran out.
     NoMemory,

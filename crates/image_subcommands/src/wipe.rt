@@ -1,4 +1,4 @@
-//! The word `wipe`: makes every byte of a disk zero.
+//! The subcommand `wipe`: makes every byte of a disk zero.
 
 ghost use Rattle.std.specs.Prelude.{◌≡◌};
 ghost use Rattle.image_subcommands.specs.Endings as endings;

@@ -2,11 +2,11 @@
 use Rattle.std.proofs.Common.{◌≡◌, ℕ, ◌<◌, ◌≤◌, List, [], ◌∷◌, length, refl, sym, ap, ◌∙◌, subst, arith, false, eqb, IsTrue, Some, None, Result, Ok, Err, IfOk, IfSome, IsSome, IsErrOf}
 use Rattle.std.specs.List.{list_all}
 use Rattle.std.proofs.lemmas.Bool.{cond-false, cond-true, le-leb, lt-leb, ne_eqb, and_from}
-use Rattle.store_model.specs.Paths.{Path, is_name, is_path, fits_field}
+use Rattle.store_model.specs.Paths.{Path, is_name, is_path, fits_field, field_limit}
 use Rattle.store_model.specs.Grammar.{path_of, names_of}
 use Rattle.path_keys.specs.declared.paths.PathFault.{PathFault}
 use Rattle.path_keys.specs.declared.paths.PathFault.TheVariants.{Syntax, TooLong}
-use Rattle.path_keys.specs.Reading.{parts_of, IsOfNames, IsParsed}
+use Rattle.path_keys.specs.Reading.{parts_of, IsOfNames}
 use Rattle.path_keys.proofs.NameBytes.{field_len-split, root_field}
 
 path_of-names : (rest : List ℕ) → 1 ≤ length rest → path_of (47 ∷ rest) ≡ names_of (parts_of rest)
@@ -26,6 +26,12 @@ path_of-nil = refl
 path_of-root : path_of (47 ∷ []) ≡ Some []
 unfolding path_of
 path_of-root = refl
+
+-- what reading a text gives
+abbrev pub IsParsed : List ℕ → Result Path PathFault → Type 0
+IsParsed text (Ok p) = (path_of text ≡ Some p) × IsTrue (is_path p) × (length text ≤ field_limit)
+IsParsed text (Err Syntax) = path_of text ≡ None
+IsParsed text (Err TooLong) = (p : Path) × (path_of text ≡ Some p) × (fits_field p ≡ false) × (field_limit < length text)
 
 parsed_after_slash : (rest : List ℕ) (r : Result Path PathFault) → 1 ≤ length rest → IsOfNames rest r → IsParsed (47 ∷ rest) r
 parsed_after_slash rest (Ok p) h of = (

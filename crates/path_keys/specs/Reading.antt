@@ -1,8 +1,7 @@
 -- What is read from a text.
 use Rattle.std.specs.Prelude.{◌≡◌, ℕ, ◌<◌, ◌≤◌, List, length, Option, Result, Ok, Err, Some, None, IsTrue, true, false, ◌==◌}
 use Rattle.std.specs.List.{list_all, slice_split}
-use Rattle.store_model.specs.Paths.{Path, is_name, is_path, is_root, fits_field, field, field_limit}
-use Rattle.store_model.specs.Grammar.{path_of}
+use Rattle.store_model.specs.Paths.{Path, is_name, is_path, is_root, field, field_limit}
 use Rattle.path_keys.specs.declared.paths.PathFault.{PathFault}
 use Rattle.path_keys.specs.declared.paths.PathFault.TheVariants.{Syntax, TooLong}
 
@@ -14,12 +13,6 @@ abbrev pub IsOfNames : List ℕ → Result Path PathFault → Type 0
 IsOfNames text (Ok p) = (list_all is_name (parts_of text) ≡ true) × (length text < field_limit) × (p ≡ parts_of text)
 IsOfNames text (Err Syntax) = list_all is_name (parts_of text) ≡ false
 IsOfNames text (Err TooLong) = (list_all is_name (parts_of text) ≡ true) × (field_limit ≤ length text)
-
--- what reading a text gives
-abbrev pub IsParsed : List ℕ → Result Path PathFault → Type 0
-IsParsed text (Ok p) = (path_of text ≡ Some p) × IsTrue (is_path p) × (length text ≤ field_limit)
-IsParsed text (Err Syntax) = path_of text ≡ None
-IsParsed text (Err TooLong) = (p : Path) × (path_of text ≡ Some p) × (fits_field p ≡ false) × (field_limit < length text)
 
 -- the bytes are the field of no path other than the root
 abbrev pub HasNoPath : List ℕ → Type 0

@@ -116,8 +116,8 @@ fn digits_value(digits: &[u8]) -> Option<u32>
     Some(value)
 }
 
-/// The bytes that a field spells, in the room that is lent, a byte for two of the field: `-` for none, or pairs of hexadecimal
-/// digits of either case.
+/// The bytes that a field spells, in the room that is lent, a byte for two of the field: `-` for none, or pairs of
+/// hexadecimal digits of either case.
 pub fn read_bytes<'a>(text: &[u8], room: &'a mut [u8]) -> Option<&'a [u8]>
     requires { length text.now ≤ 2 * length room.old }
     ensures value { MatchOption result (content_of text.now ≡ None) (λ bytes. content_of text.now ≡ Some bytes.now) }

@@ -70,7 +70,8 @@ fn time_sort(rt: &HostRuntime, pairs: &PairList) -> Option<u64>
     if rise(&keys) { Some(time) } else { None }
 }
 
-/// Lays the pairs out, at most 268,435,456 of them with distinct keys, and prints how long that takes, beside the sort of its keys.
+/// Lays the pairs out, at most 268,435,456 of them with distinct keys, and prints how long that takes, beside the sort
+/// of its keys.
 fn lay_out(rt: &HostRuntime, params: &Params, pairs: &PairList) -> Option<Layout>
     ensures { IfSome result (λ layout. length layout ≡ params.now.slots) }
 {

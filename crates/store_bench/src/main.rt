@@ -7,11 +7,11 @@
 //! | `lists COUNT` | the calls on a skip list over pages in memory | the same keys in std's ordered map |
 //! | `table SLOTS` | the calls on an ordered table | their reads and writes of slots |
 //!
-//! What was done is printed to standard output, and the times, which differ from one time to the next, to standard error.
-//! `image SLOTS` writes an image to standard output, of which each slot has a page.
+//! What was done is printed to standard output, and the times, which differ from one time to the next, to standard
+//! error. `image SLOTS` writes an image to standard output, of which each slot has a page.
 //!
-//! Nothing is promised of it. A function answers `None` where memory ran out or a call failed, which ends the program with
-//! status 1.
+//! Nothing is promised of it. A function answers `None` where memory ran out or a call failed, which ends the program
+//! with status 1.
 #![tactic(auto)]
 
 mod build;

@@ -31,7 +31,8 @@ enum Call {
     Removal,
 }
 
-/// What is timed: the name of a kind of calls, the call, and whether its page is one of those that were there from the beginning.
+/// What is timed: the name of a kind of calls, the call, and whether its page is one of those that were there from the
+/// beginning.
 static KINDS: [(&str, Call, bool); 4] = [
     ("search of a label that is there", Call::Search, true),
     ("search of one that is not", Call::Search, false),
@@ -64,8 +65,8 @@ fn page_of(number: u32) -> Page {
     Page::new(label, Cell::with_value(key, Value::new(&[1])))
 }
 
-/// Slots in memory, the draw that places pages in them, the page of the next call, with its label, and how many nanoseconds
-/// it takes to look at the clock.
+/// Slots in memory, the draw that places pages in them, the page of the next call, with its label, and how many
+/// nanoseconds it takes to look at the clock.
 #[derive(Drop)]
 struct Table {
     slots: MemSlots,
@@ -198,8 +199,8 @@ impl Table {
         Some(())
     }
 
-    /// Times a call for the page with this number. Before it and before the bare reads and writes its slots are read once, so
-    /// that they are as near for either.
+    /// Times a call for the page with this number. Before it and before the bare reads and writes its slots are read
+    /// once, so that they are as near for either.
     fn time(&mut self, rt: &HostRuntime, call: Call, number: u32) -> Option<Times> {
         self.choose(number);
         let (from, reads) = self.reach(call)?;
@@ -215,8 +216,8 @@ impl Table {
         Some(Times { calls, bare, made })
     }
 
-    /// The times of a round of each kind of calls, on slots that hold the pages 0 to `used` - 1: the page of an insertion is the one
-    /// that is then taken out.
+    /// The times of a round of each kind of calls, on slots that hold the pages 0 to `used` - 1: the page of an
+    /// insertion is the one that is then taken out.
     fn round(&mut self, rt: &HostRuntime, used: u32, round: u32) -> Option<[Times; 4]> {
         let mut sums = [Times::NONE; 4];
         for i in 0..CALLS {

@@ -53,7 +53,8 @@ pub fn tell(rt: &HostRuntime, count: u64, what: &str, name: &str) -> Option<()> 
     println!(rt; "{count} {what} {name}").ok()
 }
 
-/// Prints the ratio of the times of so many calls, how long one took on the average, and how much it made of what is counted.
+/// Prints the ratio of the times of so many calls, how long one took on the average, and how much it made of what is
+/// counted.
 pub fn print(rt: &HostRuntime, name: &str, calls: u64, times: &Times, counted: &str) -> Option<()> {
     let (ratio, calls) = (times.ratio(), calls.max(1));
     let (whole, part, time) = (ratio / 100, ratio % 100, times.calls / calls);

@@ -1,5 +1,5 @@
-//! The program `hstore IMAGE WORDS..`: opens the image's file, keeps other programs off it, and carries out the words on
-//! it, with standard input as the script and standard output for the replies. It prints nothing else.
+//! The program `hstore IMAGE WORDS..`: opens the image's file, keeps other programs off it, and carries out the words
+//! on it, with standard input as the script and standard output for the replies. It prints nothing else.
 //!
 //! That a file, its lock, standard input and standard output do what is asked of them is assumed here. All else is
 //! the library's.
@@ -14,7 +14,7 @@ use std::os::fd::AsRawFd;
 use std::process::ExitCode;
 use std::{env, fs, io};
 use store_base::NoMemory;
-use store_top::{Outcome, Status, Wanted, Words, top, wanted_len};
+use store_top::{Access, FileRequest, Outcome, Status, Wanted, Words, top, wanted_file};
 
 /// The status where the file cannot be opened, made or locked, or what stands at the path is no file.
 const NO_FILE: u8 = 12;
@@ -22,28 +22,15 @@ const NO_FILE: u8 = 12;
 /// The descriptor of standard error, the last of the standard streams.
 const LAST_STREAM: i32 = 2;
 
-/// The word that reads its image and never writes to it.
-const READING_WORD: &str = "check";
-
-/// What the words do with the image's file.
-#[derive(Clone, Copy)]
-enum Access {
-    /// They read it, and others may read it meanwhile.
-    Read,
-    /// They read it and write to it, and nobody else has it meanwhile.
-    Write,
-}
-
-/// The image's path, what is done with its file, and the words behind it.
+/// The path of the image, and the words behind it.
 struct CommandLine {
     image: String,
-    access: Access,
     words: Words,
 }
 
 /// Why there is no command line.
 enum BadCommandLine {
-    /// There is no image word, or a word is not UTF-8 or cannot be read.
+    /// There is no path of an image, or a word is not UTF-8 or cannot be read.
     Usage,
     /// Memory ran out.
     NoMemory,
@@ -70,28 +57,19 @@ fn command_line(rt: &HostRuntime) -> Result<CommandLine, BadCommandLine> {
     let (_, Some(image)) = (args.next(), args.next()) else {
         return Err(BadCommandLine::Usage);
     };
-    let mut access = Access::Write;
     let mut words = Words::new(rt.alloc());
     for word in args {
-        // it takes no words beside it, so where it is served it is the only one
-        if word.as_str() == READING_WORD {
-            access = Access::Read;
-        }
         words.push(word.as_str())?;
     }
-    Ok(CommandLine {
-        image,
-        access,
-        words,
-    })
+    Ok(CommandLine { image, words })
 }
 
-/// Keeps other programs off a file until it is closed: all of them, or those that write to it. It does not wait; where
-/// another program has the file, that is an error.
+/// Keeps other programs off a file until it is closed: all of them, or those that write to it where it is only read. It
+/// does not wait; where another program has the file, that is an error.
 fn lock(file: &File, access: Access) -> io::Result<()> {
     match access {
-        Access::Read => file.try_lock_shared()?,
-        Access::Write => file.try_lock()?,
+        Access::Reading => file.try_lock_shared()?,
+        Access::Writing => file.try_lock()?,
     }
     Ok(())
 }
@@ -102,8 +80,8 @@ fn open(rt: &HostRuntime, path: &str, access: Access) -> io::Result<File> {
         return Err(io::Error::from(ErrorKind::InvalidInput));
     }
     let file = match access {
-        Access::Read => File::open(rt, path),
-        Access::Write => File::options().read(true).write(true).open(rt, path),
+        Access::Reading => File::open(rt, path),
+        Access::Writing => File::options().read(true).write(true).open(rt, path),
     }?;
     lock(&file, access)?;
     Ok(file)
@@ -111,10 +89,10 @@ fn open(rt: &HostRuntime, path: &str, access: Access) -> io::Result<File> {
 
 /// Opens a file for writing; where there is none, makes one of so many zeros.
 fn open_or_make(rt: &HostRuntime, path: &str, len: u64) -> io::Result<File> {
-    match open(rt, path, Access::Write) {
+    match open(rt, path, Access::Writing) {
         Err(error) if error.kind() == ErrorKind::NotFound => {
             let file = File::create_new(rt, path)?;
-            lock(&file, Access::Write)?;
+            lock(&file, Access::Writing)?;
             file.set_len(len)?;
             Ok(file)
         }
@@ -139,36 +117,35 @@ fn disk_of(file: File) -> io::Result<FileDisk> {
     Ok(FileDisk::new(file, len))
 }
 
-/// Carries out the words on the disk.
-fn serve(rt: &HostRuntime, words: &Words, disk: FileDisk) -> Status {
+/// Carries out the words on the disk, with the standard streams as the script and for the replies.
+fn call_top(rt: &HostRuntime, words: &Words, disk: FileDisk) -> Status {
     let (source, sink) = (StdSource::new(rt.stdin()), StdSink::new(rt.stdout()));
     let Outcome { status, .. } = top(rt.alloc(), words, disk, source, sink);
     status
 }
 
 /// The status that the program ends with.
-fn run(rt: &HostRuntime) -> u8 {
-    let CommandLine {
-        image,
-        access,
-        words,
-    } = match command_line(rt) {
+fn exit_code(rt: &HostRuntime) -> u8 {
+    let CommandLine { image, words } = match command_line(rt) {
         Ok(line) => line,
         Err(BadCommandLine::Usage) => return Status::Usage.code(),
         Err(BadCommandLine::NoMemory) => return Status::NoMemory.code(),
     };
-    let opened = match wanted_len(&words) {
+    let FileRequest { wanted, access } = match wanted_file(&words) {
+        Ok(file) => file,
         Err(NoMemory) => return Status::NoMemory.code(),
-        Ok(Wanted::Usage) => return Status::Usage.code(),
-        Ok(Wanted::Existing) => open(rt, image.as_str(), access),
-        Ok(Wanted::Fresh(len)) => open_or_make(rt, image.as_str(), len),
+    };
+    let opened = match wanted {
+        Wanted::Usage => return Status::Usage.code(),
+        Wanted::Existing => open(rt, image.as_str(), access),
+        Wanted::Fresh(len) => open_or_make(rt, image.as_str(), len),
     };
     match opened.and_then(disk_of) {
-        Ok(disk) => serve(rt, &words, disk).code(),
+        Ok(disk) => call_top(rt, &words, disk).code(),
         Err(_) => NO_FILE,
     }
 }
 
 fn main(rt: HostRuntime) -> ExitCode {
-    ExitCode::from(run(&rt))
+    ExitCode::from(exit_code(&rt))
 }

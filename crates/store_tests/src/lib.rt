@@ -4,8 +4,8 @@
 //! The replies, images, digests and counts that are wanted come from outside: from the format and the script language,
 //! worked out by hand or by a program of its own that keeps a tree as a map and lays it out from nothing.
 //!
-//! They stand in a crate of their own since a crate with tests is proved twice, and as rows of tables, each kind with one
-//! loop, since each test function is proved too.
+//! They stand in a crate of their own since a crate with tests is proved twice, and as rows of tables, each kind with
+//! one loop, since each test function is proved too.
 #![tactic(auto)]
 
 #[cfg(test)]

@@ -1,3 +1,4 @@
+pub mod AnsweredLines
 pub mod BigEnds
 pub mod CostLemmas
 pub mod CrashLemmas

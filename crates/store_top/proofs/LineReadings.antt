@@ -1,5 +1,5 @@
 -- What a line asks for.
-use Rattle.std.proofs.Common.{◌≡◌, ℕ, ◌<◌, ◌≤◌, List, length, Some, Result, Ok, Err, refl, sym, ap, subst, ◌∙◌, if◌then◌else◌}
+use Rattle.std.proofs.Common.{◌≡◌, ℕ, ◌<◌, ◌≤◌, List, length, Some, None, Result, Ok, Err, refl, sym, ap, subst, ◌∙◌, if◌then◌else◌}
 use Rattle.std.proofs.lemmas.Bool.{lt-ltb, le-ltb}
 use Rattle.store_model.specs.declared.refusal.Refusal.{Refusal}
 use Rattle.store_model.specs.declared.refusal.Refusal.TheVariants as refusals
@@ -10,6 +10,7 @@ use Rattle.script_lines.specs.LineState.{LineState, KeepsSource, EndsCall, NextL
 use Rattle.script_lines.specs.declared.lines.Line.{Line}
 use Rattle.script_lines.specs.declared.lines.Line.TheVariants as answers
 use Rattle.script_lines.specs.declared.lines.LineFault.{LineFault}
+use Rattle.script_lines.specs.declared.lines.LineFault.TheVariants as causes
 use Rattle.script_lines.specs.declared.command.Command.{Command}
 use Rattle.script_lines.specs.Parsing.{reading_of}
 use Rattle.store_top.specs.Runs.{reading, ReadsLine}
@@ -37,24 +38,58 @@ module _ {R : Type 0} (source_of : R → SourceState) (old new : LineState R) wh
   }
 
   -- a line that is longer
-  long_read : (asked : Result Command Refusal) → KeepsSource (source_of old.source) (source_of new.source) (Ok answers.Long) → EndsCall old new (Ok answers.Long)
-      → (IsObservable (source_of old.source) → NextLine source_of old new (Ok answers.Long)) → reading_of asked ≡ Err refusals.Long
-      → ReadsLine source_of old new (Ok (Some asked))
-  long_read asked source ends next refused = record {
+  long_read : KeepsSource (source_of old.source) (source_of new.source) (Ok answers.Long) → EndsCall old new (Ok answers.Long) → (IsObservable (source_of old.source) → NextLine source_of old new (Ok answers.Long))
+      → ReadsLine source_of old new (Ok (Some (Err refusals.Long)))
+  long_read source ends next = record {
     source = record { observable = source.observable; faults = source.faults };
     live = (λ e. refl, λ e. ends.live.1 refl);
     limit = ends.limit;
     in_limit = ends.in_limit;
     falls = ends.falls;
-    next = λ o. let line = next o in (line.0, refused ∙ sym (reading_long line.0 line.1), line.2);
+    next = λ o. let line = next o in (line.0, sym (reading_long line.0 line.1), line.2);
   }
 
-  module _ (line : Result Line LineFault) (source : KeepsSource (source_of old.source) (source_of new.source) line) (ends : EndsCall old new line) (next : IsObservable (source_of old.source) → NextLine source_of old new line)
-      (asked : Result Command Refusal) where
-    pub reads_text : line ≡ Ok answers.Text → reading_of asked ≡ parse new.text → length new.text ≤ line_limit → ReadsLine source_of old new (Ok (Some asked))
-    reads_text is = text_read asked (subst (KeepsSource (source_of old.source) (source_of new.source)) is source) (subst (EndsCall old new) is ends)
-        (λ o. subst (NextLine source_of old new) is (next o))
+  -- the end of the script
+  end_read : KeepsSource (source_of old.source) (source_of new.source) (Ok answers.End) → EndsCall old new (Ok answers.End) → (IsObservable (source_of old.source) → NextLine source_of old new (Ok answers.End))
+      → ReadsLine source_of old new (Ok None)
+  end_read source ends next = record {
+    source = record { observable = source.observable; faults = source.faults };
+    live = (λ e. refl, λ e. ends.live.1 refl);
+    limit = ends.limit;
+    in_limit = ends.in_limit;
+    falls = ends.falls;
+    next = next;
+  }
 
-    pub reads_long : line ≡ Ok answers.Long → reading_of asked ≡ Err refusals.Long → ReadsLine source_of old new (Ok (Some asked))
-    reads_long is = long_read asked (subst (KeepsSource (source_of old.source) (source_of new.source)) is source) (subst (EndsCall old new) is ends)
-        (λ o. subst (NextLine source_of old new) is (next o))
+  -- no line, for a fault
+  pub fault_read : (fault : LineFault) → KeepsSource {T = Line} (source_of old.source) (source_of new.source) (Err fault) → EndsCall old new (Err fault) → (IsObservable (source_of old.source) → NextLine source_of old new (Err fault))
+      → ReadsLine source_of old new (Err fault)
+  fault_read causes.Source source ends next = record {
+    source = record { observable = source.observable; faults = source.faults };
+    live = ends.live;
+    limit = ends.limit;
+    in_limit = ends.in_limit;
+    falls = tt;
+    next = next;
+  }
+  fault_read causes.TooLong source ends next = record {
+    source = record { observable = source.observable; faults = source.faults };
+    live = ends.live;
+    limit = ends.limit;
+    in_limit = ends.in_limit;
+    falls = tt;
+    next = next;
+  }
+
+  module _ (line : Line) (source : KeepsSource (source_of old.source) (source_of new.source) (Ok line)) (ends : EndsCall old new (Ok line)) (next : IsObservable (source_of old.source) → NextLine source_of old new (Ok line)) where
+    pub reads_text : (asked : Result Command Refusal) → line ≡ answers.Text → reading_of asked ≡ parse new.text → length new.text ≤ line_limit → ReadsLine source_of old new (Ok (Some asked))
+    reads_text asked is = text_read asked (subst (λ (l : Line). KeepsSource (source_of old.source) (source_of new.source) (Ok l)) is source) (subst (λ (l : Line). EndsCall old new (Ok l)) is ends)
+        (λ o. subst (λ (l : Line). NextLine source_of old new (Ok l)) is (next o))
+
+    pub reads_long : line ≡ answers.Long → ReadsLine source_of old new (Ok (Some (Err refusals.Long)))
+    reads_long is = long_read (subst (λ (l : Line). KeepsSource (source_of old.source) (source_of new.source) (Ok l)) is source) (subst (λ (l : Line). EndsCall old new (Ok l)) is ends)
+        (λ o. subst (λ (l : Line). NextLine source_of old new (Ok l)) is (next o))
+
+    pub reads_end : line ≡ answers.End → ReadsLine source_of old new (Ok None)
+    reads_end is = end_read (subst (λ (l : Line). KeepsSource (source_of old.source) (source_of new.source) (Ok l)) is source) (subst (λ (l : Line). EndsCall old new (Ok l)) is ends)
+        (λ o. subst (λ (l : Line). NextLine source_of old new (Ok l)) is (next o))

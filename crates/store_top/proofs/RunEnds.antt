@@ -34,7 +34,8 @@ use Rattle.image_subcommands.specs.Endings.{attach_status}
 use Rattle.image_subcommands.specs.Outside.{Outside, outside_of, KeepsOutside}
 use Rattle.store_top.specs.Promises.{PromisesImage, PromisesCrashes}
 use Rattle.store_top.specs.RunCall.{RunsFrom, IsRun}
-use Rattle.store_top.specs.Runs.{RepliesKept, KeepsLimit, AnswersLines, IsReady, IsUnread, run_replies, run_trees}
+use Rattle.store_top.specs.Runs.{RepliesKept, KeepsLimit, IsReady, IsUnread, run_replies, run_trees}
+use Rattle.store_top.proofs.AnsweredLines.{AnswersLines}
 use Rattle.image_subcommands.specs.Statuses.{Row, row, IsRunStatus, IsEndOfRun, IsRefusedImage, IsPastHeader, IsBetweenLines, MayComeFirst}
 use Rattle.store_top.proofs.CostLemmas.{run_refused, run_counts}
 use Rattle.store_top.proofs.CrashLemmas.{crashes_refused, crashes_behind, opened_represents}

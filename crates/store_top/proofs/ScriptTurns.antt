@@ -29,7 +29,8 @@ use Rattle.store_top.specs.declared.lines.Script.{Script}
 use Rattle.image_subcommands.specs.declared.status.Status.{Status}
 use Rattle.image_subcommands.specs.declared.status.Status.TheVariants as statuses
 use Rattle.image_subcommands.specs.Endings.{line_status, apply_status, ended_status}
-use Rattle.store_top.specs.Runs.{reading, run_trees, ReadsLine, AnswersLines, KeepsLimit, IsUnread}
+use Rattle.store_top.specs.Runs.{reading, run_trees, ReadsLine, KeepsLimit, IsUnread}
+use Rattle.store_top.proofs.AnsweredLines.{AnswersLines}
 use Rattle.store_top.specs.ScriptWork.{Halfway, KeepsEnds, ScriptTold, ScriptLive, script_trees, ScriptKept, ScriptDue, ScriptEnds}
 use Rattle.store_top.specs.Turns.{Start, start_of, RepliesTo, Stops, Asks, IsNext, Begins, AnswersAll}
 use Rattle.store_top.proofs.RunLemmas as run

@@ -1,5 +1,5 @@
 -- What is known between two turns of the loop, whatever the work, and what each way out of it leaves.
-use Rattle.std.proofs.Common.{◌≡◌, ℕ, ◌+◌, ◌≤◌, ◌<◌, Result, Ok, Err, refl, sym, ap, ◌∙◌, arith}
+use Rattle.std.proofs.Common.{◌≡◌, ℕ, ◌+◌, ◌≤◌, ◌<◌, Bool, true, false, Option, Some, None, Result, Ok, Err, refl, sym, ap, ◌∙◌, arith}
 use Rattle.std.proofs.lemmas.Bool.{false≢true}
 use Rattle.store_model.specs.declared.refusal.Refusal.{Refusal}
 use Rattle.store_model.specs.Parameters.{Parameters}
@@ -17,7 +17,7 @@ use Rattle.image_subcommands.specs.declared.status.Status.{Status}
 use Rattle.image_subcommands.specs.declared.status.Status.TheVariants as statuses
 use Rattle.image_subcommands.specs.Endings.{apply_status}
 use Rattle.store_top.specs.Runs.{AnswersReading, IsReady}
-use Rattle.store_top.specs.Turns.{Start, start_of, RepliesTo, Stops, Asks, StoreSoFar, Begins, AnswersAll}
+use Rattle.store_top.specs.Turns.{Start, start_of, RepliesTo, Stops, Asks, StoreSoFar, Begins, AnswersAll, AnswersAsked}
 use Rattle.store_top.proofs.StoreTurns.{is_answered, store_start, store_more, store_failed, store_ends}
 
 -- a fault of the store never leaves the call done
@@ -25,6 +25,27 @@ pub not_done : (fault : ApplyFault) → apply_status fault ≡ statuses.Done →
 not_done apply.Disk e = cc
 not_done apply.NoMemory e = cc
 not_done apply.Stopped e = cc
+
+-- what was asked for, and its answer
+pub record IsAnswered {D : Type 0} (disk_of : D → DiskState) (asked : Option (Result Command Refusal)) (old new : StoreState D) (result : Result Reply ApplyFault) : Type 0 where
+  pub turn : Result Command Refusal
+  pub turn_is : asked ≡ Some turn
+  pub answers : AnswersReading disk_of (reading_of turn) old new result
+
+module _ {D : Type 0} (disk_of : D → DiskState) (old new : StoreState D) (reply : Reply) where
+  -- something was asked for where that is told, and where a fault came
+  pub was_asked : (told : Bool) (asked : Option (Result Command Refusal)) → told ≡ true → AnswersAsked disk_of asked old new reply (Ok told) → IsAnswered disk_of asked old new (Ok reply)
+  was_asked told (Some turn) is answered = record { turn = turn; turn_is = refl; answers = answered.1 }
+  was_asked told None is answered = let none = answered.0 in absurd (cc)
+
+  pub fault_met : (fault : ApplyFault) (asked : Option (Result Command Refusal)) → AnswersAsked disk_of asked old new reply (Err fault) → IsAnswered disk_of asked old new (Err fault)
+  fault_met fault (Some turn) answered = record { turn = turn; turn_is = refl; answers = answered }
+  fault_met fault None answered = let none = answered.0 in absurd (cc)
+
+  -- and nothing where that is told
+  pub none_asked : (told : Bool) (asked : Option (Result Command Refusal)) → told ≡ false → AnswersAsked disk_of asked old new reply (Ok told) → (asked ≡ None) × (new ≡ old)
+  none_asked told (Some turn) is answered = absurd (false≢true (sym is ∙ answered.0))
+  none_asked told None is answered = (refl, answered.1)
 
 module _ {D M : Type 0} (disk_of : D → DiskState) (Told : M → Type 0) (trees : M → Start → ℕ → Tree) (left : M → ℕ) (Live : M → Type 0) (Kept : Start → M → M → ℕ → Type 0) where
   -- What is known between two turns.

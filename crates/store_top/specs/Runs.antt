@@ -30,9 +30,7 @@ use Rattle.store_core.specs.StoreCalls.{Applies}
 use Rattle.image_subcommands.specs.declared.status.Status.{Status}
 use Rattle.image_subcommands.specs.declared.status.Status.TheVariants as statuses
 use Rattle.store_top.specs.Costs.{CountsLines}
-use Rattle.image_subcommands.specs.Outside.{KeepsOutside}
 use Rattle.store_top.specs.Promises.{PromisesReplies, CountsReplies, PromisesCrashes}
-use Rattle.image_subcommands.specs.Statuses.{IsEndOfRun}
 
 -- the replies to the lines of a script
 abbrev pub run_replies : Tree → List ℕ → Parameters → List model.Reply
@@ -135,14 +133,3 @@ pub record ChangesByLines (status : Status) (done : ℕ) (trees : ℕ → Tree) 
   -- lines that change nothing only read it; the others write and sync just the commits of the slots that differ
   pub quiet : (status ≡ statuses.DiskFault → ⊥) → IsUnchanged trees done → ReadsOnly old new
   pub counts : CountsLines status done trees p old new
-
--- The lines of a script were answered, from a store on, and the call ended so, with so many lines carried out.
-pub record AnswersLines {D R W : Type 0} (disk_of : D → DiskState) (source_of : R → SourceState) (sink_of : W → SinkState) (status : Status) (done : ℕ)
-    (store store_new : StoreState D) (reader reader_new : LineState R) (sink sink_new : W) : Type 0 where
-  pub ends : IsEndOfRun status
-  pub outside : KeepsOutside status (disk_of store.disk) (disk_of store_new.disk) (source_of reader.source) (source_of reader_new.source) (sink_of sink) (sink_of sink_new)
-  pub limit : sources.IsObservable (source_of reader.source) → KeepsLimit status (source_of reader.source) (source_of reader_new.source)
-  pub replies : sources.IsObservable (source_of reader.source) → disks.IsObservable (disk_of store.disk)
-      → RepliesKept status done (run_replies store.tree (source_of reader.source).left store.params) (source_of reader.source) (source_of reader_new.source) (sink_of sink) (sink_of sink_new)
-  pub changes : sources.IsObservable (source_of reader.source) → disks.IsObservable (disk_of store.disk)
-      → ChangesByLines status done (run_trees store.tree (source_of reader.source).left store.params) store.params (disk_of store.disk) (disk_of store_new.disk)

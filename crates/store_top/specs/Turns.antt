@@ -2,8 +2,7 @@
 --
 -- A work asks for one thing after another. What it tells, keeps and ends with are relations of its own, each over the work as it
 -- was at first and as it is, and over how many turns were made; what the store does is said here, once for every work.
-use Rattle.std.specs.Prelude.{◌≡◌, ℕ, ◌+◌, ◌≤◌, ◌<◌, ◌^◌, Bool, false, IsTrue, Result, Ok, Err, Option, Some, None, IsOk}
-use Rattle.std.specs.Option.{option_map}
+use Rattle.std.specs.Prelude.{◌≡◌, ℕ, ◌+◌, ◌≤◌, ◌<◌, ◌^◌, Bool, true, false, IsTrue, Result, Ok, Err, Option, Some, None, IsOk}
 use Rattle.store_model.specs.Parameters.{Parameters}
 use Rattle.store_model.specs.Trees.{Tree}
 use Rattle.store_model.specs.Scripts.{answer_by}
@@ -15,7 +14,6 @@ use Rattle.gate_journal.specs.Disks.{KeepsDisk}
 use Rattle.gate_journal.specs.Places.{Made, ReadsOnly}
 use Rattle.script_lines.specs.declared.command.Command.{Command}
 use Rattle.script_lines.specs.declared.reply.Reply.{Reply}
-use Rattle.script_lines.specs.InPlace.{in_place}
 use Rattle.script_lines.specs.Parsing.{reading_of}
 use Rattle.script_lines.specs.Replies.{reply_of}
 use Rattle.image_check.specs.declared.fault.ApplyFault.{ApplyFault}
@@ -23,10 +21,12 @@ use Rattle.image_check.specs.Standing.{Stands}
 use Rattle.store_core.specs.StoreState.{StoreState}
 use Rattle.image_subcommands.specs.declared.status.Status.{Status}
 use Rattle.image_subcommands.specs.declared.status.Status.TheVariants as statuses
+use Rattle.store_top.specs.declared.work.Asked.{Asked}
+use Rattle.store_top.specs.declared.work.Asked.TheVariants as asking
 use Rattle.store_top.specs.Costs.{run_writes, run_syncs}
 use Rattle.image_subcommands.specs.Endings.{apply_status, ended_status}
 use Rattle.store_top.specs.Promises.{RepresentsOneOf}
-use Rattle.store_top.specs.Runs.{ChangesByLines, IsUnchanged}
+use Rattle.store_top.specs.Runs.{AnswersReading, ChangesByLines, IsUnchanged}
 use Rattle.image_subcommands.specs.Statuses.{disk_faults_by}
 
 -- ---- the work
@@ -40,9 +40,14 @@ pub record Start : Type 0 where
 abbrev pub start_of : {D : Type 0} → (D → DiskState) → StoreState D → Start
 start_of disk_of store = record { tells = (disk_of store.disk).is_observable; tree = store.tree; params = store.params }
 
--- what is asked for, where the command stands in a place that was lent
-abbrev pub asked_in : {E : Type 0} → Command → Result (Option (Result (Unit {0}) Refusal)) E → Result (Option (Result Command Refusal)) E
-asked_in command (Ok asked) = Ok (option_map (in_place command) asked)
+-- what is asked for, where the command stands in a place that was lent; nothing at the end
+abbrev pub asked_for : Command → Asked → Option (Result Command Refusal)
+asked_for command asking.Command = Some (Ok command)
+asked_for command (asking.Refused refusal) = Some (Err refusal)
+asked_for command asking.End = None
+
+abbrev pub asked_in : {E : Type 0} → Command → Result Asked E → Result (Option (Result Command Refusal)) E
+asked_in command (Ok asked) = Ok (asked_for command asked)
 asked_in command (Err error) = Err error
 
 -- what may be asked for falls where something is
@@ -111,6 +116,13 @@ module _ {D : Type 0} (disk_of : D → DiskState) (Told : Type 0) (trees : ℕ �
     pub changes : Told → disks.IsObservable (disk_of first.disk) → ChangesByLines status done trees first.params (disk_of first.disk) (disk_of new.disk)
 
 -- ---- all turns
+
+module _ {D : Type 0} (disk_of : D → DiskState) where
+  -- What is asked for is answered, in the place of a reply. Where nothing is, nothing is done, and that is told by `false`.
+  abbrev pub AnswersAsked : Option (Result Command Refusal) → StoreState D → StoreState D → Reply → Result Bool ApplyFault → Type 0
+  AnswersAsked (Some asked) old new reply (Ok answered) = (answered ≡ true) × AnswersReading disk_of (reading_of asked) old new (Ok reply)
+  AnswersAsked (Some asked) old new reply (Err fault) = AnswersReading disk_of (reading_of asked) old new (Err fault)
+  AnswersAsked None old new reply result = (result ≡ Ok false) × (new ≡ old)
 
 module _ {D M : Type 0} (disk_of : D → DiskState) where
   -- A work of which nothing was asked yet, for this store.

@@ -1,4 +1,4 @@
-//! The word `big`: opens an image, carries out the commands that a number gives, and sums them up.
+//! The subcommand `big`: opens an image, carries out the commands that a number gives, and sums them up.
 
 ghost use Rattle.std.specs.Prelude.{◌≡◌, ◌++◌};
 ghost use Rattle.store_model.specs.Commands.{reply_text};
@@ -92,15 +92,7 @@ pub fn big<D: Disk, R: Source, W: Sink>(
 {
     let mut store = match Store::attach(alloc, disk) {
         Ok(store) => store,
-        Err((fault, disk)) => {
-            return Outcome {
-                status: fault.into(),
-                done: 0,
-                disk,
-                source,
-                sink,
-            };
-        }
+        Err((fault, disk)) => return Outcome::idle(fault.into(), disk, source, sink),
     };
     let (mut sink, mut done) = (sink, 0);
     let ended = answer_generated(&mut store, &mut sink, &mut done, number, count);

@@ -23,14 +23,14 @@ use script_lines::{Sink, Source};
 use std::alloc::Global;
 use store_base::NoMemory;
 
-/// Carries out the words of a command line on a disk: `format` makes the image of the empty tree, `run` answers the script
-/// that the source has and writes the replies to the sink, `check` prints a line that tells what the disk holds, `scrub`
-/// recovers the image, makes its free slots zero and prints such a line, `wipe` makes every byte zero, `big` carries out the
-/// commands that a number gives and prints four lines that sum them up.
+/// Carries out the words of a command line on a disk: `format` makes the image of the empty tree, `run` answers the
+/// script that the source has and writes the replies to the sink, `check` prints a line that tells what the disk holds,
+/// `scrub` recovers the image, makes its free slots zero and prints such a line, `wipe` makes every byte zero, `big`
+/// carries out the commands that a number gives and prints four lines that sum them up.
 ///
-/// Words that are not well formed end with `Usage`, and then nothing is called; nor is anything called where memory runs out
-/// while the words are read. What each word promises is one record: how it ends, which status comes exactly where, and what
-/// stands then of the disk, the source and the sink.
+/// Words that are not well formed end with `Usage`, and then nothing is called; nor is anything called where memory
+/// runs out while the words are read. What each subcommand promises is one record: how it ends, which status comes
+/// exactly where, and what stands then of the disk, the source and the sink.
 pub fn top<D: Disk, R: Source, W: Sink>(
     alloc: Global,
     words: &Words,
@@ -46,7 +46,7 @@ pub fn top<D: Disk, R: Source, W: Sink>(
     // The disk, the source and the sink: a second call can follow on this one, and each failed call is the status.
     ensures outside { KeepsOutside result.status (D.state disk) (D.state result.disk) (R.state source) (R.state result.source) (W.state sink) (W.state result.sink) }
 
-    // What each word does.
+    // What each subcommand does.
     ensures format { (p : Parameters) → request_of words.now ≡ Some (Format p) → IsFormat D.state p (outside_of disk source sink) result }
     ensures run { request_of words.now ≡ Some Run → IsRun D.state R.state W.state (outside_of disk source sink) result }
     ensures check { request_of words.now ≡ Some Check → IsCheck D.state W.state (outside_of disk source sink) result }

@@ -4,10 +4,9 @@ ghost use Rattle.std.specs.Prelude.{◌≡◌, ◌<◌, ◌+◌, ◌^◌, ◌∷
 ghost use Rattle.script_lines.specs.Replies.{reply_of};
 ghost use Rattle.store_top.specs.Generations.{count_refused};
 
-use crate::work::Work;
+use crate::work::{Asked, Work};
 use image_subcommands::Status;
 use script_lines::{Command, Generator, Reply};
-use store_model::Refusal;
 
 /// The commands that a number gives, so many of them.
 #[derive(Drop)]
@@ -48,13 +47,13 @@ impl Work for Generated {
 
     ghost ends = { λ start first new done status. GeneratedEnds start first new done status };
 
-    fn next(&mut self, command: &mut Command) -> Result<Option<Result<(), Refusal>>, Status> {
+    fn next(&mut self, command: &mut Command) -> Result<Asked, Status> {
         if self.left == 0 {
-            return Ok(None);
+            return Ok(Asked::End);
         }
         self.left -= 1;
         *command = self.generator.next();
-        Ok(Some(Ok(())))
+        Ok(Asked::Command)
     }
 
     fn answered(&mut self, reply: &Reply) -> Result<(), Status> {

@@ -1,8 +1,8 @@
 //! The store as one call: words, an image, a script in; replies, a status and the image out.
 //!
-//! Served are the words `format SLOTS HEIGHT DRAW SEED`, `run`, `check`, `scrub`, `wipe` and `big NUMBER COUNT`, and in a script
-//! every command. Other words end with `Status::Usage`. Each word has a file with its call, and a file of specs/ with what it
-//! promises: `run` and `big` here, those that need no store in `image_words`.
+//! Served are the words `format SLOTS HEIGHT DRAW SEED`, `run`, `check`, `scrub`, `wipe` and `big NUMBER COUNT`, and
+//! in a script every command. Other words end with `Status::Usage`. Each subcommand has a file with its call, and a
+//! file of specs/ with what it promises: `run` and `big` here, those that need no store in `image_subcommands`.
 #![tactic(auto)]
 
 mod big;
@@ -14,5 +14,5 @@ mod uncalled;
 mod work;
 
 pub use call::top;
-pub use command_line::{Wanted, Words, wanted_len};
+pub use command_line::{Access, FileRequest, Wanted, Words, wanted_file, wanted_len};
 pub use image_subcommands::{Outcome, Status};

@@ -1,4 +1,4 @@
-//! The word `run`: opens an image and answers a script.
+//! The subcommand `run`: opens an image and answers a script.
 
 ghost use Rattle.std.specs.Prelude.{◌≡◌};
 ghost use Rattle.image_subcommands.specs.Endings.{ended_status};
@@ -36,26 +36,12 @@ pub fn run<D: Disk, R: Source, W: Sink>(
 {
     let reader = match LineReader::new(alloc, source) {
         Ok(reader) => reader,
-        Err((_, source)) => {
-            return Outcome {
-                status: Status::NoMemory,
-                done: 0,
-                disk,
-                source,
-                sink,
-            };
-        }
+        Err((_, source)) => return Outcome::idle(Status::NoMemory, disk, source, sink),
     };
     let mut store = match Store::attach(alloc, disk) {
         Ok(store) => store,
         Err((fault, disk)) => {
-            return Outcome {
-                status: fault.into(),
-                done: 0,
-                disk,
-                source: reader.into_source(),
-                sink,
-            };
+            return Outcome::idle(fault.into(), disk, reader.into_source(), sink);
         }
     };
     let (mut script, mut done) = (Script { reader, sink }, 0);

@@ -20,16 +20,10 @@ pub(crate) fn usage<D: Disk, R: Source, W: Sink>(disk: D, source: R, sink: W) ->
     ensures nothing { CallsNothing (outside_of disk source sink) result }
     ensures outside { KeepsOutside result.status (D.state disk) (D.state result.disk) (R.state source) (R.state result.source) (W.state sink) (W.state result.sink) }
 {
-    Outcome {
-        status: Status::Usage,
-        done: 0,
-        disk,
-        source,
-        sink,
-    }
+    Outcome::idle(Status::Usage, disk, source, sink)
 }
 
-/// Memory ran out while the words were read. That is how every word may end.
+/// Memory ran out while the words were read. That is how every subcommand may end.
 pub(crate) fn no_memory<D: Disk, R: Source, W: Sink>(
     disk: D,
     source: R,
@@ -45,11 +39,5 @@ pub(crate) fn no_memory<D: Disk, R: Source, W: Sink>(
     ensures wipe { IsWipe D.state (outside_of disk source sink) result }
     ensures big { (number count : ℕ) → IsBig D.state W.state number count (outside_of disk source sink) result }
 {
-    Outcome {
-        status: Status::NoMemory,
-        done: 0,
-        disk,
-        source,
-        sink,
-    }
+    Outcome::idle(Status::NoMemory, disk, source, sink)
 }

@@ -1,10 +1,10 @@
 //! The one loop that answers commands, whatever they come from.
 
-ghost use Rattle.std.specs.Prelude.{◌≡◌};
+ghost use Rattle.std.specs.Prelude.{◌≡◌, Some};
 ghost use Rattle.script_lines.specs.InPlace.{in_place};
-ghost use Rattle.script_lines.specs.Parsing.{reading_of};
-ghost use Rattle.store_top.specs.Runs.{AnswersReading, IsReady};
-ghost use Rattle.store_top.specs.Turns.{Begins, AnswersAll};
+ghost use Rattle.script_lines.specs.declared.command.Command.{Command};
+ghost use Rattle.store_top.specs.Runs.{IsReady};
+ghost use Rattle.store_top.specs.Turns.{AnswersAll, AnswersAsked, Begins, asked_for};
 
 use disk_model::Disk;
 use image_subcommands::Status;
@@ -12,10 +12,34 @@ use script_lines::{Command, Reply};
 use store_core::{ApplyFault, Store};
 use store_model::Refusal;
 
-/// What asks a store for one thing after another, and takes the replies: the lines of a script, or commands that a number gives.
+/// What a work asks for next.
+#[derive(Clone, Copy)]
+pub enum Asked {
+    /// The command that stands in the place that was lent.
+    Command,
+    /// Nothing that could be carried out: the refusal is the reply.
+    Refused(Refusal),
+    /// Nothing more: the work is at its end.
+    End,
+}
+
+impl Asked {
+    /// What a line asks for that was read into the place that was lent.
+    pub fn by_reading(reading: Result<(), Refusal>) -> Asked
+        ensures { (command : Command) → asked_for command result ≡ Some (in_place command reading) }
+    {
+        match reading {
+            Ok(()) => Asked::Command,
+            Err(refusal) => Asked::Refused(refusal),
+        }
+    }
+}
+
+/// What asks a store for one thing after another, and takes the replies: the lines of a script, or commands that a
+/// number gives.
 ///
-/// A turn is a call of `next`, the answer of the store, and a call of `answered`. The members speak of a start, of the work as it
-/// was then and as it is, and of how many turns were made.
+/// A turn is a call of `next`, the answer of the store, and a call of `answered`. The members speak of a start, of the
+/// work as it was then and as it is, and of how many turns were made.
 pub trait Work {
     ghost use Rattle.std.specs.Prelude.{◌≤◌, ◌+◌, ℕ, Result, IfOk, OnOk};
     ghost use Rattle.store_model.specs.Trees.{Tree};
@@ -45,10 +69,10 @@ pub trait Work {
     /// What holds where the turns ended with this status.
     ghost ends: { Start → Self → Self → ℕ → Status → Type 0 };
 
-    /// Puts what is asked for next in the place of a command, or says why it is refused; `None` at the end. `Err` has the status
-    /// of a call that a fault of the work ended; nothing is asked for behind it. Behind a refusal, `None` and `Err` any command
-    /// may stand there.
-    fn next(&mut self, command: &mut Command) -> Result<Option<Result<(), Refusal>>, Status>
+    /// Says what is asked for next; a command is put in the place that is lent. `Err` has the status of a call that a
+    /// fault of the work ended; nothing is asked for behind it. Where no command is asked for, any may stand in the
+    /// place.
+    fn next(&mut self, command: &mut Command) -> Result<Asked, Status>
         requires { live self.old }
         ensures live { OnOk result (live self.new) }
         ensures falls { IfOk (asked_in command.new result) (FallsAt (left self.old) (left self.new)) }
@@ -63,26 +87,31 @@ pub trait Work {
             → IsTurn told trees ends kept start first self.new (done + 1) result };
 }
 
-/// Answers what is asked for, in the place of a reply: the command is carried out, and a refusal is the reply.
-fn answer<D: Disk>(
+/// Answers what is asked for, in the place of a reply: the command is carried out, and a refusal is the reply. `false`:
+/// nothing was asked for, and nothing is done.
+fn answer_asked<D: Disk>(
     store: &mut Store<D>,
-    asked: Result<(), Refusal>,
+    asked: Asked,
     command: &Command,
     reply: &mut Reply,
-) -> Result<(), ApplyFault>
-    ensures { AnswersReading D.state (reading_of (in_place command.now asked)) store.old store.new (in_place reply.new result) }
+) -> Result<bool, ApplyFault>
+    ensures { AnswersAsked D.state (asked_for command.now asked) store.old store.new reply.new result }
 {
     match asked {
-        Ok(()) => store.apply_into(command, reply),
-        Err(refusal) => {
-            reply.put_refusal(refusal);
-            Ok(())
+        Asked::Command => {
+            store.apply_into(command, reply)?;
+            Ok(true)
         }
+        Asked::Refused(refusal) => {
+            reply.put_refusal(refusal);
+            Ok(true)
+        }
+        Asked::End => Ok(false),
     }
 }
 
-/// Answers all that the work asks for, each before the next is asked, and counts in `done` what was carried out. `Err` has the
-/// status of a call that a fault ended.
+/// Answers all that the work asks for, each before the next is asked, and counts in `done` what was carried out. `Err`
+/// has the status of a call that a fault ended.
 pub fn answer_all<J: Work, D: Disk>(
     work: &mut J,
     store: &mut Store<D>,
@@ -110,8 +139,7 @@ fn answer_each<J: Work, D: Disk>(
     requires none { done.old ≡ 0 }
     ensures { AnswersAll D.state J.told J.trees J.ends result done.new store.old store.new work.old work.new }
 {
-    'turns: while let Some(asked) = work.next(command)? {
-        answer(store, asked, command, reply)?;
+    'turns: while answer_asked(store, work.next(command)?, command, reply)? {
         *done += 1;
         work.answered(reply)?;
     }

@@ -23,8 +23,8 @@ fn expect_next(rt: &impl Abort, machine: &mut Machine, next: &Next<'_>) {
     expect(rt, holds, "the next call", next.word);
 }
 
-/// Looks whether a crash at each call of the disk of a call with the word, on this image, leaves what the next one comes to.
-/// A crash that comes between the same writes and syncs as the one before it leaves the same.
+/// Looks whether a crash at each call of the disk of a call with the word, on this image, leaves what the next one
+/// comes to. A crash that comes between the same writes and syncs as the one before it leaves the same.
 pub fn expect_next_at_each_call(
     rt: &impl Abort,
     machine: &mut Machine,
@@ -64,8 +64,8 @@ fn finds_old(
     is_old
 }
 
-/// Looks whether a run finds one of these images, the old one and the new one, where it may be, also where the runs that
-/// recover it crash in turn at each of their calls.
+/// Looks whether a run finds one of these images, the old one and the new one, where it may be, also where the runs
+/// that recover it crash in turn at each of their calls.
 fn expect_old_or_new(
     rt: &impl Abort,
     machine: &mut Machine,
@@ -83,8 +83,8 @@ fn expect_old_or_new(
     expect_next_at_each_call(rt, machine, &left, choice, &next);
 }
 
-/// Which images a crash of this run of one command may leave: the old one where the command was not acknowledged, and the new
-/// one where something was written, and the command was acknowledged if the run came to its end.
+/// Which images a crash of this run of one command may leave: the old one where the command was not acknowledged, and
+/// the new one where something was written, and the command was acknowledged if the run came to its end.
 fn may_leave(crashed: &Machine) -> [bool; 2] {
     let ended = crashed.ended;
     let answered = crashed.written() == b"ok\n".as_slice();
@@ -126,8 +126,8 @@ fn expect_commands(rt: &impl Abort, machine: &mut Machine, command: &str, images
     }
 }
 
-/// The format of a tree, the script that makes it, and a command that changes it: a file moves within one slot, and three
-/// slots change, since a page goes on from one to another.
+/// The format of a tree, the script that makes it, and a command that changes it: a file moves within one slot, and
+/// three slots change, since a page goes on from one to another.
 static CHANGES: [[&str; 3]; 2] = [
     [
         "format 1 1 ruler zeros",

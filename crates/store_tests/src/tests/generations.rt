@@ -1,4 +1,5 @@
-//! The word `big`: the four lines that sum up the commands of a number, and what is left where the disk or the sink fails.
+//! The word `big`: the four lines that sum up the commands of a number, and what is left where the disk or the sink
+//! fails.
 
 use super::support::{CALM, LEAST, Machine, Outside, expect, fields, number};
 use std::process::Abort;
@@ -96,8 +97,8 @@ fn expect_after(rt: &impl Abort, machine: &mut Machine, image: &[u8], done: u64)
     expect(rt, is_found, "tree", "a fault");
 }
 
-/// Looks whether the commands of number 7 end where the disk fails from this call on, and whether the next run finds the tree
-/// after those that are told as carried out, or after one more.
+/// Looks whether the commands of number 7 end where the disk fails from this call on, and whether the next run finds
+/// the tree after those that are told as carried out, or after one more.
 fn expect_fault(rt: &impl Abort, machine: &mut Machine, from: u64) {
     generate_seven(rt, machine, "big 7 10", &Outside { from, ..SHORT });
     let done = machine.ended.done;

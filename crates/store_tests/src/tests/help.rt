@@ -1,26 +1,33 @@
-//! The help of the command line and of each word, as `clap` renders it from the one definition of the command line.
+//! The help of the command line and of each subcommand, as `clap` renders it from the one definition of the command
+//! line.
 
 use super::support::expect;
 use clap::Command;
-use command_line::{Word, command, word_command};
+use command_line::{Subcommand, command, command_of};
 use std::alloc::Global;
 use std::process::Abort;
 
-/// What a word is called with what stands before it on a command line, in the order of the help; first the command line itself.
-static WORDS: [(Option<Word>, &str); 7] = [
+/// What a subcommand is called with what stands before it on a command line, in the order of the help; first the
+/// command line itself.
+static SUBCOMMANDS: [(Option<Subcommand>, &str); 7] = [
     (None, "./hstore IMAGE"),
-    (Some(Word::Format), "./hstore IMAGE format"),
-    (Some(Word::Run), "./hstore IMAGE run"),
-    (Some(Word::Check), "./hstore IMAGE check"),
-    (Some(Word::Scrub), "./hstore IMAGE scrub"),
-    (Some(Word::Wipe), "./hstore IMAGE wipe"),
-    (Some(Word::Big), "./hstore IMAGE big"),
+    (Some(Subcommand::Format), "./hstore IMAGE format"),
+    (Some(Subcommand::Run), "./hstore IMAGE run"),
+    (Some(Subcommand::Check), "./hstore IMAGE check"),
+    (Some(Subcommand::Scrub), "./hstore IMAGE scrub"),
+    (Some(Subcommand::Wipe), "./hstore IMAGE wipe"),
+    (Some(Subcommand::Big), "./hstore IMAGE big"),
 ];
 
-/// The command of a word, or the whole one, whose help calls it so.
-fn command_of<'a>(rt: &impl Abort, alloc: Global, word: Option<Word>, called: &str) -> Command<'a> {
-    let command = match word {
-        Some(word) => word_command(alloc, word),
+/// What `clap` has as the subcommand, or the whole command line, whose help calls it so.
+fn command_called<'a>(
+    rt: &impl Abort,
+    alloc: Global,
+    subcommand: Option<Subcommand>,
+    called: &str,
+) -> Command<'a> {
+    let command = match subcommand {
+        Some(subcommand) => command_of(alloc, subcommand),
         None => command(alloc),
     };
     command
@@ -36,10 +43,17 @@ fn expect_text(rt: &impl Abort, command: &mut Command<'_>, name: &str, text: &st
     expect(rt, holds, "help", name);
 }
 
-/// Looks whether the help of a word, or of the whole, which is called so, is this part of the text, behind its name.
-fn expect_part(rt: &impl Abort, alloc: Global, word: Option<Word>, called: &str, part: &str) {
+/// Looks whether the help of a subcommand, or of the whole, which is called so, is this part of the text, behind its
+/// name.
+fn expect_part(
+    rt: &impl Abort,
+    alloc: Global,
+    subcommand: Option<Subcommand>,
+    called: &str,
+    part: &str,
+) {
     let (name, text) = part.split_once('\n').expect(rt, "a line");
-    let mut command = command_of(rt, alloc, word, called);
+    let mut command = command_called(rt, alloc, subcommand, called);
     expect_text(rt, &mut command, name, text);
 }
 
@@ -47,14 +61,14 @@ fn expect_part(rt: &impl Abort, alloc: Global, word: Option<Word>, called: &str,
 fn help_has_its_text(rt: HostRuntime) {
     let mut parts = TEXT.split("== ");
     assert!(rt; parts.next() == Some(""));
-    for (word, called) in &WORDS {
-        expect_part(&rt, rt.alloc(), *word, *called, parts.next().unwrap_or(""));
+    for (subcommand, called) in &SUBCOMMANDS {
+        expect_part(&rt, rt.alloc(), *subcommand, *called, parts.next().unwrap_or(""));
     }
     assert!(rt; parts.next().is_none());
 }
 
-/// The help: each part behind a line with the name of the command whose help it is, first that of the whole. `bin/texts` reads
-/// it from here, from the first such line on to the end of this file.
+/// The help: each part behind a line with the name of the command whose help it is, first that of the whole.
+/// `bin/texts` reads it from here, from the first such line on to the end of this file.
 static TEXT: &str = "\
 == hstore
 Keeps directories and files in one file, the image. Its bytes tell what it holds now, and nothing of

@@ -3,9 +3,9 @@
 use super::support::{Machine, expect, fields, number, status_of};
 use std::process::Abort;
 
-/// What a row shows; the format and the script of an image; what is written over: blocks that are copied to another place,
-/// where from and where to, both counted in blocks, and bytes at their places; what `check` prints; and a script for the tree
-/// that the image represents, or `-` where it represents none.
+/// What a row shows; the format and the script of an image; what is written over: blocks that are copied to another
+/// place, where from and where to, both counted in blocks, and bytes at their places; what `check` prints; and a
+/// script for the tree that the image represents, or `-` where it represents none.
 static IMAGES: &str = "\
     nothing is written over|format 1 1 ruler zeros|make /a\n|||clean 1 1 0 0\n|make /a\n#\
     a byte in a free slot|format 4 2 ruler zeros|make /Ua\n||36873:127|damaged\n|-#\

@@ -77,8 +77,8 @@ fn failing_calls_end_with_their_status(rt: HostRuntime) {
 /// A store over a disk that may fail.
 type FailingStore = Store<FailingDisk<MemDisk>>;
 
-/// A store in the image that the script leaves on that of the empty tree with one slot, where the record of the disk has so
-/// much room, and these calls of it fail.
+/// A store in the image that the script leaves on that of the empty tree with one slot, where the record of the disk
+/// has so much room, and these calls of it fail.
 fn store_of(
     rt: &impl Abort,
     alloc: Global,
@@ -105,7 +105,8 @@ fn store_in(
     attached.ok().expect(rt, "a store")
 }
 
-/// The fault with which the store answers the command that makes the directory `/a`, or else the one that lists the root.
+/// The fault with which the store answers the command that makes the directory `/a`, or else the one that lists the
+/// root.
 fn fault_of(rt: &impl Abort, store: &mut FailingStore, makes: bool) -> Option<ApplyFault> {
     let parsed = if makes {
         parse_command(b"make /a")

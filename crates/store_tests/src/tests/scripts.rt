@@ -4,9 +4,9 @@ use super::support::{CALM, Machine, expect, fields, number, numbers};
 use std::alloc::Global;
 use std::process::Abort;
 
-/// What a row shows; the format; the script and its replies; the lines that are answered, and the writes and syncs, two syncs
-/// of opening the image among them; what `check` prints of the image that is left; and another script that leaves the same
-/// image, or `-` where none is tried.
+/// What a row shows, by which a test names it; the format; the script and its replies; the lines that are answered, and
+/// the writes and syncs, two syncs of opening the image among them; what `check` prints of the image that is left; and
+/// another script that leaves the same image, or `-` where none is tried.
 static ROWS: &str = "\
     the least image with a directory|format 1 1 ruler zeros|\
         make /a\nlist /\ndigest\n|\
@@ -16,15 +16,15 @@ static ROWS: &str = "\
         |\
         |\
         0 0 2|clean 0 0 0 0\n|-#\
-    the page of `/UU` displaces that of `/Ua` round the end, and leaves no trace when it goes|format 4 2 ruler zeros|\
+    `/Ua` alone, before `/UU` comes|format 4 2 ruler zeros|\
         make /Ua\n|\
         ok\n|\
         1 12 7|clean 2 1 0 0\n|-#\
-    the page of `/UU` displaces that of `/Ua` round the end, and leaves no trace when it goes|format 4 2 ruler zeros|\
+    the page of `/UU` displaces that of `/Ua` round the end|format 4 2 ruler zeros|\
         make /Ua\nmake /UU\ndigest\n|\
         ok\nok\ndigest 6ea198fbc585bd8b52d7deaf09a133ff43ae63be96172c38d1564b4fabd3fb55\n|\
         3 29 12|clean 3 2 0 0\n|make /UU\nmake /Ua\n#\
-    the page of `/UU` displaces that of `/Ua` round the end, and leaves no trace when it goes|format 4 2 ruler zeros|\
+    the page of `/UU`, which displaced that of `/Ua`, leaves no trace when it goes|format 4 2 ruler zeros|\
         make /Ua\nmake /UU\nremove /UU\ndigest\n|\
         ok\nok\nok\ndigest e0eca01441d60b26cfaacd420894a311570cf27c6ccfd9ee4ea36f547e61270f\n|\
         4 46 17|clean 2 1 0 0\n|make /Ua\n#\
@@ -32,30 +32,30 @@ static ROWS: &str = "\
         make /Ua\nmake /UU\nmake /a\nrename /a /A\nspace\n|\
         ok\nno full 3 2\nok\nno full 3 2\nspace 2 2\n|\
         5 19 12|clean 2 2 0 0\n|-#\
-    a page of its own and one more on the level above have no room; a page for both has|format 2 2 ruler zeros|\
+    both pages go with `/Ua`|format 2 2 ruler zeros|\
         make /Ua\nremove /Ua\n|\
         ok\nok\n|\
         2 24 12|clean 0 0 0 0\n|#\
-    ten pairs to a page, and thirty-one leaders|format 1 1 ruler zeros|\
+    ten pairs to a page, and no room for an eleventh|format 1 1 ruler zeros|\
         make /a\nmake /b\nmake /c\nmake /d\nmake /e\nmake /f\nmake /g\nmake /h\nmake /i\nmake /j\nmake /k\nread /z 0 1\n\
         |\
         ok\nok\nok\nok\nok\nok\nok\nok\nok\nok\nno full 2 1\nno missing\n|\
         12 70 52|clean 1 10 0 0\n|-#\
-    ten pairs to a page, and thirty-one leaders|format 33 2 ruler zeros|\
+    thirty-one leaders to a page, and no room for one more|format 33 2 ruler zeros|\
         make /Ua\nmake /Ub\nmake /Uc\nmake /Ud\nmake /Ue\nmake /Uf\nmake /Ug\nmake /Uh\nmake /Ui\nmake /Uj\nmake /Uk\n\
         make /Ul\nmake /Um\nmake /Un\nmake /Uo\nmake /Up\nmake /Uq\nmake /Ur\nmake /Us\nmake /Ut\nmake /Uu\nmake /Uv\n\
         make /Uw\nmake /Ux\nmake /Uy\nmake /Uz\nmake /UA\nmake /UB\nmake /UC\nmake /UD\nmake /UE\nmake /UF\nspace\n|\
         ok\nok\nok\nok\nok\nok\nok\nok\nok\nok\nok\nok\nok\nok\nok\nok\nok\nok\nok\nok\nok\nok\nok\nok\nok\nok\nok\nok\n\
         ok\nok\nok\nno full 34 33\nspace 32 33\n|\
         33 997 157|clean 32 31 0 0\n|-#\
-    ten pairs to a page, and thirty-one leaders|format 4 1 ruler zeros|\
+    an eleventh pair on a page of its own, which goes when the first is removed|format 4 1 ruler zeros|\
         make /a\nmake /b\nmake /c\nmake /d\nmake /e\nmake /f\nmake /g\nmake /h\nmake /i\nmake /j\nmake /k\nspace\n\
         remove /a\nspace\ndigest\n|\
         ok\nok\nok\nok\nok\nok\nok\nok\nok\nok\nok\nspace 2 4\nok\nspace 1 4\n\
         digest 0363bc8386527107b8566064d0a30c76cc00942dac856582ea8c523efddcda40\n|\
         15 89 62|clean 1 10 0 0\n|make /b\nmake /c\nmake /d\nmake /e\nmake /f\nmake /g\nmake /h\nmake /i\nmake /j\n\
         make /k\n#\
-    a removal shifts one page back, and leaves the one that starts behind the hole|format 8 2 ruler zeros|\
+    three pages, of which two start one behind the other|format 8 2 ruler zeros|\
         make /UD\nmake /UE\nmake /Ud\ndigest\n|\
         ok\nok\nok\ndigest 3c39e4e87e454c7db07da53e0704d8615bb942b538d92e6fda18eb98c4c0629f\n|\
         4 36 17|clean 4 3 0 0\n|-#\
@@ -63,25 +63,25 @@ static ROWS: &str = "\
         make /UD\nmake /UE\nmake /Ud\nremove /UD\ndigest\n|\
         ok\nok\nok\nok\ndigest 13fe738acbd22788fbb6ab57591fec005e680904e7a216c6269e1c40959994b0\n|\
         5 53 22|clean 3 2 0 0\n|make /Ud\nmake /UE\n#\
-    files|format 4 1 ruler zeros|\
+    a file of no byte, and no file where none can be|format 4 1 ruler zeros|\
         write /f 1 00\nwrite /f 0 -\nlist /\nwrite / 0 00\ncut / 0\nread / 0 1\n|\
         no gap\nok\nf f 0\nend\nno kind\nno kind\nno kind\n|\
         6 7 7|clean 1 0 1 0\n|write /f 0 -\n#\
-    files|format 4 1 ruler zeros|\
+    bytes within a file, and at its end|format 4 1 ruler zeros|\
         write /f 0 010203\nwrite /f 1 FF\nread /f 0 10\nread /f 3 1\nread /f 4 1\nread /f 0 4096\nread /f 0 4097\n\
         read /f 1 0\ncut /f 1\nlist /\ndigest\n|\
         ok\nok\nok 01ff03\nok -\nno gap\nok 01ff03\nno big\nok -\nok\nf f 1\nend\n\
         digest abb54772e1f998e9c38990dc64518c75750fd5d56d97d63ad10f781fdf837769\n|\
         11 21 17|clean 1 0 1 1\n|write /f 0 01\n#\
-    files|format 8 2 ruler zeros|\
+    the page of a file on two levels|format 8 2 ruler zeros|\
         write /U 0 00\nspace\ndigest\n|\
         ok\nspace 2 8\ndigest 7d1da848bc710cdf0cd0d73bc5368efcacba6af023a85dabe8cc8da42af86b16\n|\
         3 12 7|clean 2 0 1 1\n|-#\
-    what leaves all as it is writes nothing|format 4 1 ruler zeros|\
+    a file of one byte|format 4 1 ruler zeros|\
         write /f 0 41\n|\
         ok\n|\
         1 7 7|clean 1 0 1 1\n|-#\
-    what leaves all as it is writes nothing|format 4 1 ruler zeros|\
+    what leaves that file as it is writes nothing|format 4 1 ruler zeros|\
         write /f 0 41\nwrite /f 0 41\nwrite /f 1 -\ncut /f 1\nlist /f\nread /g 0 0\n|\
         ok\nok\nok\nok\nno kind\nno missing\n|\
         6 7 7|clean 1 0 1 1\n|write /f 0 41\n#\
@@ -90,20 +90,20 @@ static ROWS: &str = "\
         write /f 4294967295 -\ncut /f 4294967295\nread /f 0 4294967296\nread /f 00 1\nread /f 1 4096\n|\
         ok\nno big\nno gap\nno gap\nno gap\nno gap\nno syntax\nno syntax\nok -\n|\
         9 7 7|clean 1 0 1 1\n|-#\
-    renames|format 4 1 ruler zeros|\
+    renames that are refused|format 4 1 ruler zeros|\
         make /d\nrename /d /d/x\nrename /d /d\nrename / /x\nrename /q /\nrename /q /r\nrename /d /x/y\n|\
         ok\nno inside\nno exists\nno root\nno root\nno missing\nno parent\n|\
         7 7 7|clean 1 1 0 0\n|make /d\n#\
-    renames|format 4 1 ruler zeros|\
+    a rename of a directory with a file|format 4 1 ruler zeros|\
         make /a\nwrite /a/f 0 41\nrename /a /b\nread /b/f 0 1\nlist /a\nlist /b/f\ndigest\n|\
         ok\nok\nok\nok 41\nno missing\nno kind\n\
         digest 382bd4e341a909256fa1b3096693001cfae74277a782af70437ed9459723ee22\n|\
         7 21 17|clean 1 1 1 1\n|make /b\nwrite /b/f 0 41\n#\
-    renames|format 4 1 ruler zeros|\
+    a rename of a file, and none below it|format 4 1 ruler zeros|\
         write /f 0 41\nrename /f /f/x\nmake /f/x\nwrite /f/x 0 00\nmake /f\nrename /f /g\n|\
         ok\nno inside\nno parent\nno parent\nno exists\nok\n|\
         6 14 12|clean 1 0 1 1\n|write /g 0 41\n#\
-    renames|format 4 1 ruler zeros|\
+    a rename of a file into another directory, and of both|format 4 1 ruler zeros|\
         make /a\nmake /b\nwrite /a/f 0 4142\nrename /a/f /b/g\nrename /b /a/b\nrename /a /c\nrename /c/b /b\nremove /c\n\
         digest\n|\
         ok\nok\nok\nok\nok\nok\nok\nok\ndigest becdb2255f1660d2a90b9502398fc848f2d476ff20d53dfc9fb594b026aa8e78\n|\
@@ -132,7 +132,7 @@ static ROWS: &str = "\
         no syntax\nno syntax\nno syntax\nno syntax\nno syntax\nno syntax\nno syntax\nno syntax\nno syntax\nno syntax\n\
         no syntax\nno syntax\nno syntax\n|\
         13 0 2|clean 0 0 0 0\n|#\
-    lines that spell no command|format 4 1 ruler zeros|\
+    paths that are too long, before anything else is looked at|format 4 1 ruler zeros|\
         make /xxxxxxxxxxxxxxxxxxxxxxxxxxxxxxxxxxxxxxxxxxxxxxxxxxxxxxxxxxxxxxxxxxxxxxxxxxxxxxxxxxxxxxxxxxxxxxxxxxxxxxxxxxxxxxxxxxxxxxxx\n\
         prune /xxxxxxxxxxxxxxxxxxxxxxxxxxxxxxxxxxxxxxxxxxxxxxxxxxxxxxxxxxxxxxxxxxxxxxxxxxxxxxxxxxxxxxxxxxxxxxxxxxxxxxxxxxxxxxxxxxxxxxxx\n\
         rename /a /xxxxxxxxxxxxxxxxxxxxxxxxxxxxxxxxxxxxxxxxxxxxxxxxxxxxxxxxxxxxxxxxxxxxxxxxxxxxxxxxxxxxxxxxxxxxxxxxxxxxxxxxxxxxxxxxxxxxxxxx\n\
@@ -140,14 +140,14 @@ static ROWS: &str = "\
         write /x/y 5 00\nspace|\
         no path\nno path\nno path\nno syntax\nno parent\nspace 0 4\n|\
         6 0 2|clean 0 0 0 0\n|#\
-    the draw `sha256`|format 7 3 sha256 counting|\
+    the draw `sha256` of twelve directories|format 7 3 sha256 counting|\
         make /a\nmake /b\nmake /c\nmake /d\nmake /e\nmake /f\nmake /g\nmake /h\nmake /i\nmake /j\nmake /k\nmake /l\n\
         space\ndigest\n|\
         ok\nok\nok\nok\nok\nok\nok\nok\nok\nok\nok\nok\nspace 4 7\n\
         digest d3a9a2d5737cda9518a4a482840f154f6d937f5adcf9f52f476d9ad2213c2c67\n|\
         14 94 62|clean 4 12 0 0\n|make /l\nmake /k\nmake /j\nmake /i\nmake /h\nmake /g\nmake /f\nmake /e\nmake /d\n\
         make /c\nmake /b\nmake /a\n#\
-    the draw `sha256`|format 5 4 sha256 counting|\
+    the draw `sha256` of a tree that is pruned|format 5 4 sha256 counting|\
         make /i\nwrite /i/f 0 00\nrename /i /j\nremove /j\nprune /j\ndigest\n|\
         ok\nok\nok\nno notempty\nok\ndigest dfe31505032efe26cca4efe99401cee501f09a33b6a44b1d13d252e433cdd3b3\n|\
         6 63 22|clean 0 0 0 0\n|";
@@ -159,8 +159,8 @@ fn expect_answers(rt: &impl Abort, ran: &Machine, row: [&str; 9]) {
     expect(rt, ran.ended.calls == [writes, syncs], "calls", row[0]);
 }
 
-/// Looks whether the script of the row leads to what the row says. The image that another script leaves is made in a machine
-/// of its own.
+/// Looks whether the script of the row leads to what the row says. The image that another script leaves is made in a
+/// machine of its own.
 fn expect_row(rt: &impl Abort, ran: &mut Machine, other: &mut Machine, row: [&str; 9]) {
     ran.make(rt, row[1], row[2]);
     expect_answers(rt, ran, row);
@@ -179,9 +179,9 @@ fn scripts_are_answered(rt: HostRuntime) {
     }
 }
 
-/// A script of texts, each so many times, on the image of the empty tree with four slots, its replies, and how many lines are
-/// carried out: lines at the limit and past it, and files of many bytes. In the second row a line has 8,192 bytes, and one has
-/// one byte more; the last line has no LF.
+/// A script of texts, each so many times, on the image of the empty tree with four slots, its replies, and how many
+/// lines are carried out: lines at the limit and past it, and files of many bytes. In the second row a line has 8,192
+/// bytes, and one has one byte more; the last line has no LF.
 static LONG_ROWS: &str = "\
     1 write /f 0 ;256 5a;1 \nwrite /f 256 00\nspace\ncut /f 256\ncut /f 257\n|1 ok\nok\nspace 1 4\nok\nno gap\n|5#\
     1 write /ff 0 ;4090 c3;1 \n;8193 x;1 \n\nread /ff 0 4096\nspace|1 ok\nno long\nok ;4090 c3;1 \nspace 2 4\n|4#\

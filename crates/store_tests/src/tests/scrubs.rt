@@ -8,8 +8,9 @@ use super::support::{
 use disk_model::StopChoice;
 use std::process::Abort;
 
-/// What a row shows; the image, as in the tables of images that no script leaves; what `check` prints of it; what `scrub`
-/// prints, and its writes and syncs; and a script for the tree whose layout is left, or `-` where the image is left as it was.
+/// What a row shows; the image, as in the tables of images that no script leaves; what `check` prints of it; what
+/// `scrub` prints, and its writes and syncs; and a script for the tree whose layout is left, or `-` where the image is
+/// left as it was.
 static SCRUBBINGS: &str = "\
     a layout|format 1 1 ruler zeros|make /a\n|||clean 1 1 0 0\n|\
         clean 1 1 0 0\n|0 2|make /a\n#\
@@ -100,8 +101,8 @@ fn a_crash_leaves_what_the_next_scrub_ends(rt: HostRuntime) {
     }
 }
 
-/// Looks whether a wipe of this image, of one slot, that a crash cuts short leaves all bytes of it but the first, or a first one
-/// that is zero.
+/// Looks whether a wipe of this image, of one slot, that a crash cuts short leaves all bytes of it but the first, or a
+/// first one that is zero.
 fn expect_whole_or_none(rt: &impl Abort, machine: &mut Machine, image: &[u8], choice: StopChoice) {
     // A byte and a sync, five blocks and a sync: from call 8 on none is left to fail.
     for from in 0..9 {

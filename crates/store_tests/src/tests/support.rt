@@ -1,14 +1,14 @@
 //! What the tests share: a machine in memory, on which `top` is called, and the fields of a row of a table.
 //!
-//! Tables are texts, each with rows parted by `#` and fields parted by `|`: a text is a constant by itself, and the proof
-//! of a function takes long for many constants. What a call comes to stays in the machine, so that nothing is handed out
-//! that owns memory.
+//! Tables are texts, each with rows parted by `#` and fields parted by `|`: a text is a constant by itself, and the
+//! proof of a function takes long for many constants. What a call comes to stays in the machine, so that nothing is
+//! handed out that owns memory.
 
 use disk_model::{FailingDisk, MemDisk, StopChoice};
 use script_lines::{MemSink, MemSource};
 use std::alloc::Global;
 use std::process::Abort;
-use store_top::{Wanted, Words, top, wanted_len};
+use store_top::{FileRequest, Wanted, Words, top, wanted_file};
 
 /// A seed of zeros, which the word `zeros` stands for.
 const ZEROS: &str = "0000000000000000000000000000000000000000000000000000000000000000";
@@ -119,9 +119,9 @@ fn words_of(rt: &impl Abort, alloc: Global, text: &str) -> Words {
     words
 }
 
-/// The file that these words need.
-pub fn wanted_of(rt: &impl Abort, alloc: Global, text: &str) -> Wanted {
-    wanted_len(&words_of(rt, alloc, text)).expect(rt, "memory")
+/// The file that these words need, and what is done with it.
+pub fn file_of(rt: &impl Abort, alloc: Global, text: &str) -> FileRequest {
+    wanted_file(&words_of(rt, alloc, text)).expect(rt, "memory")
 }
 
 /// A copy of the bytes.
@@ -257,7 +257,7 @@ impl Machine {
 
     /// Makes the image of the empty tree, by these words.
     pub fn format(&mut self, rt: &impl Abort, words: &str) {
-        let len = match wanted_of(rt, self.alloc, words) {
+        let len = match file_of(rt, self.alloc, words).wanted {
             Wanted::Fresh(len) => len,
             _ => 0,
         };

@@ -1,20 +1,26 @@
-//! Words of the command line: the file that they need, and how a call ends that refuses or wipes.
+//! The command line: the file that its words need, and how a call ends that refuses or wipes.
 
 use super::support::{
-    CALM, LEAST, Machine, NEVER, NOT_IMAGE, Outside, expect, fields, number, wanted_of,
+    CALM, LEAST, Machine, NEVER, NOT_IMAGE, Outside, expect, fields, file_of, number,
 };
 use std::alloc::Global;
 use std::process::Abort;
-use store_top::{Wanted, Words, wanted_len};
+use store_top::{Access, FileRequest, Wanted, Words, wanted_len};
 
-/// Words, parted by blanks, and the file that they need: none since they ask for nothing (`usage`), one that is there
-/// (`existing`), or one of so many bytes.
+/// Words, parted by blanks, and the file that they need: none since they ask for nothing (`usage`), one that is there,
+/// which is only read (`read`) or is written, too (`existing`), or one of so many bytes.
 static WANTED: &str = "\
     run|existing#\
-    check|existing#\
+    check|read#\
     scrub|existing#\
     wipe|existing#\
     run now|usage#\
+    check x|usage#\
+    check check|usage#\
+    run check|usage#\
+    Check|usage#\
+    big check 1|usage#\
+    format check 1 ruler 0000000000000000000000000000000000000000000000000000000000000000|usage#\
     Run|usage#\
     format 1 1 ruler 0000000000000000000000000000000000000000000000000000000000000000|20480#\
     format 4 2 sha256 0000000000000000000000000000000000000000000000000000000000000000|45056#\
@@ -39,8 +45,8 @@ static WANTED: &str = "\
     format 4 1 ruler 0000000000000000000000000000000000000000000000000000000000000000 now|usage#\
     format|usage";
 
-/// The same for words that a parser of command lines might take for something. The first is one word with no letter, and so
-/// is the last word of the second, each of which has a blank behind it.
+/// The same for words that a parser of command lines might take for something. The first is one word with no letter,
+/// and so is the last word of the second, each of which has a blank behind it.
 static STRAY: &str = "\
     \x20|usage#\
     run  |usage# run|usage#\
@@ -62,37 +68,43 @@ static STRAY: &str = "\
     format +4 1 ruler 0000000000000000000000000000000000000000000000000000000000000000|usage#\
     big 7 2000 now|usage";
 
-/// The file that the word for it names.
-fn file_of(rt: &impl Abort, word: &str) -> Wanted {
-    match word {
+/// The file that the word for it names: only that of a `check` is only read.
+fn file_named(rt: &impl Abort, word: &str) -> FileRequest {
+    let wanted = match word {
         "usage" => Wanted::Usage,
-        "existing" => Wanted::Existing,
+        "existing" | "read" => Wanted::Existing,
         len => Wanted::Fresh(number(rt, len)),
-    }
+    };
+    let access = match word {
+        "read" => Access::Reading,
+        _ => Access::Writing,
+    };
+    FileRequest { wanted, access }
 }
 
-/// Looks whether the words need this file, and whether a call with them on a disk of no byte is refused before anything is
-/// done just where no file will do.
-fn expect_file(rt: &impl Abort, alloc: Global, machine: &mut Machine, words: &str, wanted: Wanted) {
-    expect(rt, wanted_of(rt, alloc, words) == wanted, "file", words);
+/// Looks whether the words need the file that this word names, and whether a call with them on a disk of no byte is
+/// refused before anything is done just where no file will do.
+fn expect_file(rt: &impl Abort, alloc: Global, machine: &mut Machine, words: &str, word: &str) {
+    let file = file_named(rt, word);
+    expect(rt, file_of(rt, alloc, words) == file, "file", words);
     machine.clear(rt, 0);
     machine.call(rt, words, "make /a\n");
     let is_refused = (machine.ended.status == 2) & (machine.ended.done == 0);
-    expect(rt, is_refused == (wanted == Wanted::Usage), "status", words);
+    expect(rt, is_refused == (file.wanted == Wanted::Usage), "status", words);
 }
 
 /// Looks whether the words of each row need the file that it names.
 fn expect_files(rt: &impl Abort, alloc: Global, machine: &mut Machine, table: &str) {
     for row in table.split('#') {
         let [words, word, ..] = fields(row);
-        expect_file(rt, alloc, machine, words, file_of(rt, word));
+        expect_file(rt, alloc, machine, words, word);
     }
 }
 
 #[test]
 fn words_tell_the_file_that_they_need(rt: HostRuntime) {
     let mut machine = Machine::new(rt.alloc());
-    expect_file(&rt, rt.alloc(), &mut machine, "", Wanted::Usage);
+    expect_file(&rt, rt.alloc(), &mut machine, "", "usage");
     expect_files(&rt, rt.alloc(), &mut machine, WANTED);
     expect_files(&rt, rt.alloc(), &mut machine, STRAY);
 }
@@ -106,9 +118,9 @@ fn there_is_memory_for_a_thousand_words(rt: HostRuntime) {
     assert!(rt; wanted_len(&words).expect(&rt, "memory") == Wanted::Usage);
 }
 
-/// What a row shows; the format and the script of an image, or none where the disk has 20,480 zeros; places where another byte
-/// is put; the first call of the disk that fails, or `-`; and the status of a call that formats the disk as the least image: an
-/// image is refused by its first byte, and one of another length by the length.
+/// What a row shows; the format and the script of an image, or none where the disk has 20,480 zeros; places where
+/// another byte is put; the first call of the disk that fails, or `-`; and the status of a call that formats the disk
+/// as the least image: an image is refused by its first byte, and one of another length by the length.
 static FORMATTED: &str = "\
     a disk that fails||||0|5#\
     zeros||||-|0#\
@@ -116,8 +128,8 @@ static FORMATTED: &str = "\
     an image of four slots|format 4 2 ruler zeros|||-|11#\
     other bytes|||0 20479|-|0";
 
-/// Looks whether formatting the disk as the least image, where the disk fails from this call on, ends so: it makes one, or
-/// changes nothing.
+/// Looks whether formatting the disk as the least image, where the disk fails from this call on, ends so: it makes one,
+/// or changes nothing.
 fn expect_format(rt: &impl Abort, machine: &mut Machine, from: u64, status: u8, row: &str) {
     let before = machine.copy(rt);
     machine.call_in(rt, LEAST, b"", &Outside { from, ..CALM });

@@ -1,8 +1,8 @@
-use Rattle.std.proofs.Common.{◌≡◌, ◌∙◌, ◌||◌, ◌+◌, ◌<◌, ℕ, List, [], ◌∷◌, map, drop, length, get_or, ap, sym, drop-cons, add-one, arith}
+use Rattle.std.proofs.Common.{◌≡◌, ◌∙◌, ◌||◌, ◌+◌, ◌<◌, ℕ, List, ◌∷◌, map, drop, length, get_or, ap, sym, drop-cons, add-one, arith}
 use Rattle.std.proofs.Math.Bool.{or-false}
 use Rattle.std.proofs.lemmas.List.{drop_all}
 use Rattle.clap.specs.Simple.{App, app_of, with_rule}
-use Rattle.clap.specs.Walk.{Rule, rule_of}
+use Rattle.clap.specs.Walk.{Rule}
 use Rattle.clap.specs.declared.builder.command.Command.TheViews.{out-Command}
 use Rattle.command_line.specs.Building.{rule_told, with_rules}
 use Rattle.command_line.specs.declared.line.Argument.{Argument}

@@ -20,4 +20,4 @@ unfolding request_of
 returns-in-wipe-clause-value c = rw c.in-wipe.is refl
 
 pub returns-in_default-clause-value : goal.returns-in_default-clause-value
-returns-in_default-clause-value c = sym (other_single c.args.word.now c.in_default.not-run c.in_default.not-check c.in_default.not-scrub c.in_default.not-wipe)
+returns-in_default-clause-value c = sym (other_single c.args.name.now c.in_default.not-run c.in_default.not-check c.in_default.not-scrub c.in_default.not-wipe)

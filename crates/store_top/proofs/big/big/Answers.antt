@@ -10,8 +10,9 @@ use Rattle.store_top.proofs.big.big.Goals as goal
 pub returns-in-Err-clause-big : goal.returns-in-Err-clause-big
 returns-in-Err-clause-big g c =
     let before = outside_of c.args.disk c.args.source c.args.sink in
-    subst (λ (status : Status). IsBig g.D.Disk.state g.W.Sink.state c.args.number c.args.count before (record { status = status; done = 0; disk = c.in-Err.disk; source = c.args.source; sink = c.args.sink })) (sym c.into.ensures)
-    (big_unopened g.D.Disk.state g.W.Sink.state g.met.D.Disk.sound c.args.number c.args.count before c.in-Err.fault c.in-Err.disk c.in-Err.ensures.call.refused)
+    subst (λ after. IsBig g.D.Disk.state g.W.Sink.state c.args.number c.args.count before after) (sym c.idle.ensures)
+    (subst (λ (status : Status). IsBig g.D.Disk.state g.W.Sink.state c.args.number c.args.count before (record { status = status; done = 0; disk = c.in-Err.disk; source = c.args.source; sink = c.args.sink })) (sym c.into.ensures)
+    (big_unopened g.D.Disk.state g.W.Sink.state g.met.D.Disk.sound c.args.number c.args.count before c.in-Err.fault c.in-Err.disk c.in-Err.ensures.call.refused))
 
 pub answer_generated-ended-requires : goal.answer_generated-ended-requires
 answer_generated-ended-requires g c = record {

@@ -5,7 +5,7 @@ use Rattle.image_subcommands.specs.declared.status.Status.{Status}
 use Rattle.image_subcommands.specs.declared.status.Status.TheVariants as statuses
 use Rattle.image_subcommands.specs.Outside.{KeepsOutside, outside_of}
 use Rattle.store_top.specs.RunCall.{IsRun}
-use Rattle.store_top.specs.Runs.{AnswersLines}
+use Rattle.store_top.proofs.AnsweredLines.{AnswersLines}
 use Rattle.store_top.proofs.RunEnds.{nothing_opened, run_unopened, run_answered, run_outside, new_reader_is_unread}
 use Rattle.store_top.proofs.ScriptTurns.{script_begins, script_answered}
 use Rattle.store_top.proofs.run.run.Goals as goal
@@ -13,16 +13,18 @@ use Rattle.store_top.proofs.run.run.Goals as goal
 pub returns-in-Err-clause-run : goal.returns-in-Err-clause-run
 returns-in-Err-clause-run g c =
     let before = outside_of c.args.disk c.args.source c.args.sink in
-    subst (λ source. IsRun g.D.Disk.state g.R.Source.state g.W.Sink.state before (record { status = statuses.NoMemory; done = 0; disk = c.args.disk; source = source; sink = c.args.sink })) (sym c.in-Err.ensures.err)
-    (run_unopened g.D.Disk.state g.R.Source.state g.W.Sink.state g.met.D.Disk.sound before faults.NoMemory c.args.disk (nothing_opened (g.D.Disk.state c.args.disk) (g.met.D.Disk.sound c.args.disk)))
+    subst (λ after. IsRun g.D.Disk.state g.R.Source.state g.W.Sink.state before after) (sym c.idle.ensures)
+    (subst (λ source. IsRun g.D.Disk.state g.R.Source.state g.W.Sink.state before (record { status = statuses.NoMemory; done = 0; disk = c.args.disk; source = source; sink = c.args.sink })) (sym c.in-Err.ensures.err)
+    (run_unopened g.D.Disk.state g.R.Source.state g.W.Sink.state g.met.D.Disk.sound before faults.NoMemory c.args.disk (nothing_opened (g.D.Disk.state c.args.disk) (g.met.D.Disk.sound c.args.disk))))
 
 pub returns-in-Err-attach-clause-run : goal.returns-in-Err-attach-clause-run
 returns-in-Err-attach-clause-run g c =
     let before = outside_of c.args.disk c.args.source c.args.sink in
     let source_is = c.into_source.ensures ∙ ap (λ (r : LineState g.row.R.Denot). r.source) c.in-Ok.ensures.ok in
-    subst (λ source. IsRun g.D.Disk.state g.R.Source.state g.W.Sink.state before (record { status = c.into.result; done = 0; disk = c.in-Err-attach.disk; source = source; sink = c.args.sink })) (sym source_is)
+    subst (λ after. IsRun g.D.Disk.state g.R.Source.state g.W.Sink.state before after) (sym c.idle-in-Err-attach.ensures)
+    (subst (λ source. IsRun g.D.Disk.state g.R.Source.state g.W.Sink.state before (record { status = c.into.result; done = 0; disk = c.in-Err-attach.disk; source = source; sink = c.args.sink })) (sym source_is)
     (subst (λ (status : Status). IsRun g.D.Disk.state g.R.Source.state g.W.Sink.state before (record { status = status; done = 0; disk = c.in-Err-attach.disk; source = c.args.source; sink = c.args.sink })) (sym c.into.ensures)
-    (run_unopened g.D.Disk.state g.R.Source.state g.W.Sink.state g.met.D.Disk.sound before c.in-Err-attach.fault c.in-Err-attach.disk c.in-Err-attach.ensures.call.refused))
+    (run_unopened g.D.Disk.state g.R.Source.state g.W.Sink.state g.met.D.Disk.sound before c.in-Err-attach.fault c.in-Err-attach.disk c.in-Err-attach.ensures.call.refused)))
 
 pub answer_all-ended-requires-clause-begins : goal.answer_all-ended-requires-clause-begins
 answer_all-ended-requires-clause-begins g c =

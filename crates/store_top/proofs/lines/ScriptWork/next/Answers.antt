@@ -1,15 +1,37 @@
-use Rattle.std.specs.Option.{option_map}
+use Rattle.std.proofs.Common.{Ok, Some, None, Err, ap, sym, subst, ◌∙◌, length, arith, List, ℕ}
 use Rattle.std.proofs.lemmas.Result.{err_from_is_err_and}
+use Rattle.store_model.specs.Grammar.{parse}
+use Rattle.store_model.specs.declared.refusal.Refusal.TheVariants as refusals
 use Rattle.script_lines.specs.InPlace.{in_place}
+use Rattle.store_top.specs.Runs.{ReadsLine}
+use Rattle.store_top.proofs.LineReadings.{fault_read, reads_text, reads_long, reads_end}
 use Rattle.store_top.proofs.ScriptTurns.{script_next, at_line_fault}
 use Rattle.store_top.proofs.lines.ScriptWork.next.Goals as goal
 
-pub returns-in_err-next_reading-clause-turn : goal.returns-in_err-next_reading-clause-turn
-returns-in_err-next_reading-clause-turn g c =
+pub returns-in_err-next_line-clause-turn : goal.returns-in_err-next_line-clause-turn
+returns-in_err-next_line-clause-turn g c =
     let status = err_from_is_err_and c.from_residual.result c.from_residual.ensures.1 in
+    let call = c.in_err-next_line.ensures in
     λ start first done kept. rw (status.1, status.2)
-    (at_line_fault g.R.Source.state g.W.Sink.state start first c.args.self.now.reader c.next_reading.new.reader c.args.self.now.sink done kept c.in_err-next_reading.field-0.0 c.in_err-next_reading.ensures)
+    (at_line_fault g.R.Source.state g.W.Sink.state start first c.args.self.now.reader c.next_line.new.self c.args.self.now.sink done kept c.in_err-next_line.field-0.0
+    (fault_read g.R.Source.state c.args.self.now.reader c.next_line.new.self c.in_err-next_line.field-0.0 call.source call.ends call.answer))
 
-pub returns-clause-turn : goal.returns-clause-turn
-returns-clause-turn g c =
-    λ start first done kept. script_next g.R.Source.state g.W.Sink.state start first c.args.self.now.reader c.next_reading.new.reader c.args.self.now.sink done kept (option_map (in_place c.next_reading.new.command) c.in_ok-next_reading.field-0) c.in_ok-next_reading.ensures
+pub returns-in-Text-clause-turn : goal.returns-in-Text-clause-turn
+returns-in-Text-clause-turn g c =
+    let call = c.in_ok-next_line.ensures in
+    let reads = reads_text g.R.Source.state c.args.self.now.reader c.next_line.new.self c.in_ok-next_line.field-0 call.source call.ends call.answer (in_place c.read_command.new.command c.read_command.result) c.in-Text.is
+    (c.read_command.ensures ∙ ap parse c.text.ensures.value) (omega (arith, c.text.ensures.fits, ap (λ (text : List ℕ). length text) c.text.ensures.value)) in
+    λ start first done kept. script_next g.R.Source.state g.W.Sink.state start first c.args.self.now.reader c.next_line.new.self c.args.self.now.sink done kept _
+    (subst (λ asked. ReadsLine g.R.Source.state c.args.self.now.reader c.next_line.new.self (Ok asked)) (sym (c.by_reading.ensures c.read_command.new.command)) reads)
+
+pub returns-in-Long-clause-turn : goal.returns-in-Long-clause-turn
+returns-in-Long-clause-turn g c =
+    let call = c.in_ok-next_line.ensures in
+    λ start first done kept. script_next g.R.Source.state g.W.Sink.state start first c.args.self.now.reader c.next_line.new.self c.args.self.now.sink done kept (Some (Err refusals.Long))
+    (reads_long g.R.Source.state c.args.self.now.reader c.next_line.new.self c.in_ok-next_line.field-0 call.source call.ends call.answer c.in-Long.is)
+
+pub returns-in-End-clause-turn : goal.returns-in-End-clause-turn
+returns-in-End-clause-turn g c =
+    let call = c.in_ok-next_line.ensures in
+    λ start first done kept. script_next g.R.Source.state g.W.Sink.state start first c.args.self.now.reader c.next_line.new.self c.args.self.now.sink done kept None
+    (reads_end g.R.Source.state c.args.self.now.reader c.next_line.new.self c.in_ok-next_line.field-0 call.source call.ends call.answer c.in-End.is)
