@@ -62,7 +62,13 @@ fn help_has_its_text(rt: HostRuntime) {
     let mut parts = TEXT.split("== ");
     assert!(rt; parts.next() == Some(""));
     for (subcommand, called) in &SUBCOMMANDS {
-        expect_part(&rt, rt.alloc(), *subcommand, *called, parts.next().unwrap_or(""));
+        expect_part(
+            &rt,
+            rt.alloc(),
+            *subcommand,
+            *called,
+            parts.next().unwrap_or(""),
+        );
     }
     assert!(rt; parts.next().is_none());
 }

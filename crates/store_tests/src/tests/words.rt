@@ -90,7 +90,12 @@ fn expect_file(rt: &impl Abort, alloc: Global, machine: &mut Machine, words: &st
     machine.clear(rt, 0);
     machine.call(rt, words, "make /a\n");
     let is_refused = (machine.ended.status == 2) & (machine.ended.done == 0);
-    expect(rt, is_refused == (file.wanted == Wanted::Usage), "status", words);
+    expect(
+        rt,
+        is_refused == (file.wanted == Wanted::Usage),
+        "status",
+        words,
+    );
 }
 
 /// Looks whether the words of each row need the file that it names.
