@@ -64,8 +64,8 @@ invariant_of-pairs g c =
     let s = c.pairs.inside in
     let some = c.requires.list in
     let same = same_behind state some.0 some.1.0 c.args.pairs.now some.1.1 c.requires.runs (command_of c.args.command.now) _ (replies.No c.in-Ok-Err.refusal) (λ is other. cc) (refused g c) in
-    subst (λ (x : StagedState g.row.D.Denot AnyDraw). KeepsList (any_draw s.draw) s.is_whole (pages_state state x) s.known) (sym c.discard.ensures)
-    (keeps_stays state (any_draw s.draw) s.is_whole s.known s.pages _ (back_stays state s.pages same) c.pairs.invariant)
+    subst (λ (x : StagedState g.row.D.Denot AnyDraw). KeepsList (any_draw s.draw) s.is_whole (pages_state state x) s.walk.known) (sym c.discard.ensures)
+    (keeps_stays state (any_draw s.draw) s.is_whole s.walk.known s.pages _ (back_stays state s.pages same) c.pairs.invariant)
 
 pub returns-in-Ok-Err-clause-call : goal.returns-in-Ok-Err-clause-call
 returns-in-Ok-Err-clause-call g c t p list =
