@@ -45,9 +45,8 @@ impl Request {
     {
         match self {
             Request::Format(params) => Wanted::Fresh(image_len(params.slots())),
-            Request::Run | Request::Check | Request::Scrub | Request::Wipe | Request::Big(..) => {
-                Wanted::Existing
-            }
+            Request::Run | Request::Check | Request::Scrub | Request::Wipe | Request::Big(..) =>
+                Wanted::Existing,
         }
     }
 
@@ -58,7 +57,7 @@ impl Request {
         match self {
             Request::Check => Access::Reading,
             Request::Format(_) | Request::Run | Request::Scrub | Request::Wipe | Request::Big(..) =>
-                { Access::Writing }
+                Access::Writing,
         }
     }
 }
