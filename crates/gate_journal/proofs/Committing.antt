@@ -9,12 +9,12 @@ use Rattle.disk_model.specs.DiskCalls.{overwrite}
 use Rattle.disk_model.proofs.Images.{SameOutside-overwrite, take-drop-overwrite}
 use Rattle.gate_journal.specs.Places.{IsApart, SameAt}
 use Rattle.gate_journal.specs.Changes.{Changes, AreChanges, OutsideEntry, AreJournaled, AreErased, with_first, with_slots, RecoversToEither}
-use Rattle.gate_journal.specs.Phases.{table_slot, redo_slot, HasTable, HasEmptyJournal}
+use Rattle.gate_journal.specs.Phases.{table_slot, HasTable, HasEmptyJournal}
 use Rattle.gate_journal.proofs.Phases.JournalPhase.{Journaling, Flagging, Redoing, Clearing, Erasing}
 use Rattle.gate_journal.proofs.Areas.{areas, marks_end, shadow_end, table_end}
 use Rattle.gate_journal.proofs.Places.{SameAt-refl, SameAt-trans, SameAt-outside, bytes_at-same}
 use Rattle.gate_journal.proofs.Entries.{slice_index-overwrite}
-use Rattle.gate_journal.proofs.Phases.{HasRedo, JournalPhase, InPhase, recovered_in_phase, settled_empty, same_settled}
+use Rattle.gate_journal.proofs.Phases.{redo_slot, HasRedo, JournalPhase, InPhase, recovered_in_phase, settled_empty, same_settled}
 
 -- a place outside the marks and the shadow blocks of the changed slots
 abbrev pub OutsideJournal : ℕ → Changes → ℕ → Type 0

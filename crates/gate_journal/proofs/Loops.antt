@@ -7,7 +7,8 @@ use Rattle.gate_journal.specs.declared.commit.Pass.{Pass}
 use Rattle.gate_journal.specs.declared.commit.Pass.TheVariants.{Journal, Table, Erase}
 use Rattle.disk_model.specs.DiskState.{DiskState, IsObservable, IsSound}
 use Rattle.disk_model.specs.DiskCalls.{IsSync, overwrite}
-use Rattle.gate_journal.specs.Places.{SameAt, Keeps, Reaches, Makes, Comes}
+use Rattle.gate_journal.specs.Places.{SameAt, Keeps, Reaches, Makes}
+use Rattle.gate_journal.proofs.SoFar.{Comes}
 use Rattle.gate_journal.specs.Changes.{Changes, AreChanges, OutsideEntry, HasEntry, with_first}
 use Rattle.gate_journal.specs.Passes.{slot_writes, OutsideWrite, HasWritten, OutsidePass, HasPassed}
 use Rattle.gate_journal.proofs.Areas.{areas}

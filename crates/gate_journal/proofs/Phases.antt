@@ -6,9 +6,17 @@ use Rattle.std.proofs.lemmas.List.{take_all, drop-drop, ext_get_or, length-repli
 use Rattle.store_model.specs.Lists.{zeros, numbers_below}
 use Rattle.store_model.specs.Parameters.{block_len, shadow_at, table_at, image_len}
 use Rattle.store_model.specs.Images.{bytes_at, is_flag_set, is_marked, recovered_slot, recovered, journal_len}
-use Rattle.gate_journal.specs.Phases.{table_slot, redo_slot, HasTable, HasEmptyJournal, settled}
+use Rattle.gate_journal.specs.Phases.{table_slot, HasTable, HasEmptyJournal}
 use Rattle.gate_journal.proofs.Areas.{areas, journal_end, table_end, shadow_end, marks_end}
 use Rattle.gate_journal.proofs.Slots.{flat_map-blocks, flat_map-same}
+
+-- the slot that the journal of the image has in its place: its shadow block where it is marked
+abbrev pub redo_slot : ℕ → List ℕ → ℕ → List ℕ
+redo_slot slots image i = bytes_at image (if is_marked image i then shadow_at slots i else table_at slots i) block_len
+
+-- the header and the table of the image, with an empty journal between
+abbrev pub settled : ℕ → List ℕ → List ℕ
+settled slots image = take block_len image ++ zeros (journal_len slots) ++ flat_map (table_slot slots image) (numbers_below slots)
 
 -- the image has the header of the target, and its journal leads to the table of the target
 pub record HasRedo (slots : ℕ) (target image : List ℕ) : Type 0 where

@@ -7,12 +7,12 @@ use Rattle.store_model.specs.Lists.{zeros, numbers_below}
 use Rattle.store_model.specs.Parameters.{mark_at, shadow_at, table_at, image_len}
 use Rattle.store_model.specs.Images.{bytes_at, is_flag_set, is_marked, recovered_slot, recovered, journal_len}
 use Rattle.gate_journal.specs.Places.{IsApart, SameAt, IsZeroAt}
-use Rattle.gate_journal.specs.Phases.{table_slot, redo_slot, HasTable, HasEmptyJournal, settled}
+use Rattle.gate_journal.specs.Phases.{table_slot, HasTable, HasEmptyJournal}
 use Rattle.gate_journal.specs.Recovery.{OutsideMarked, AreRedone, RecoversAs}
 use Rattle.gate_journal.proofs.Areas.{areas, journal_end, marks_end, shadow_end, table_end}
 use Rattle.gate_journal.proofs.Places.{bytes_at-same}
 use Rattle.gate_journal.proofs.Slots.{block-flat_map, length-flat_map-blocks}
-use Rattle.gate_journal.proofs.Phases.{HasRedo, recovered_clear, recovered_set, settled_empty, same_settled}
+use Rattle.gate_journal.proofs.Phases.{redo_slot, settled, HasRedo, recovered_clear, recovered_set, settled_empty, same_settled}
 use Rattle.gate_journal.proofs.Committing.{table_apart, HasTable-same, clear_flag}
 use Rattle.gate_journal.proofs.Redoing.{before_table}
 

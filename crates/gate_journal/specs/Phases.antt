@@ -1,17 +1,11 @@
 -- How a table and its redo journal stand in an image.
-use Rattle.std.specs.Prelude.{◌≡◌, ℕ, ◌<◌, ◌≤◌, List, ◌++◌, take, slice_index, if◌then◌else◌}
-use Rattle.std.specs.List.{flat_map}
-use Rattle.store_model.specs.Lists.{zeros, numbers_below}
-use Rattle.store_model.specs.Parameters.{block_len, gate_at, shadow_at, table_at}
-use Rattle.store_model.specs.Images.{bytes_at, is_marked, journal_len}
+use Rattle.std.specs.Prelude.{◌≡◌, ℕ, ◌<◌, ◌≤◌, List, take, slice_index}
+use Rattle.store_model.specs.Parameters.{block_len, gate_at, table_at}
+use Rattle.store_model.specs.Images.{bytes_at}
 
 -- a slot of the table as it stands in the image
 abbrev pub table_slot : ℕ → List ℕ → ℕ → List ℕ
 table_slot slots image i = bytes_at image (table_at slots i) block_len
-
--- the slot that the journal of the image has in its place: its shadow block where it is marked
-abbrev pub redo_slot : ℕ → List ℕ → ℕ → List ℕ
-redo_slot slots image i = bytes_at image (if is_marked image i then shadow_at slots i else table_at slots i) block_len
 
 -- the image has the header and the table of the target
 pub record HasTable (slots : ℕ) (target image : List ℕ) : Type 0 where
@@ -21,7 +15,3 @@ pub record HasTable (slots : ℕ) (target image : List ℕ) : Type 0 where
 -- gate block, marks and shadow are zero
 abbrev pub HasEmptyJournal : ℕ → List ℕ → Type 0
 HasEmptyJournal slots image = (place : ℕ) → gate_at ≤ place → place < table_at slots 0 → slice_index image place ≡ 0
-
--- the header and the table of the image, with an empty journal between
-abbrev pub settled : ℕ → List ℕ → List ℕ
-settled slots image = take block_len image ++ zeros (journal_len slots) ++ flat_map (table_slot slots image) (numbers_below slots)

@@ -49,13 +49,6 @@ pub record Reaches {T E : Type 0} (places : ℕ → Type 0) (Done : List ℕ →
   pub keeps : Keeps places old new
   pub done : OnOk result (Done new.bytes)
 
--- A loop over the calls has come so far: calls that all answered Ok, the places that they kept, what the disk reads,
--- and the writes that were made.
-pub record Comes (places : ℕ → Type 0) (Done : List ℕ → Type 0) (writes : ℕ) (old new : DiskState) : Type 0 where
-  pub keeps : Keeps places old new
-  pub done : Done new.bytes
-  pub made : Made writes 0 old new
-
 -- Calls that read only: the disk reads the same, a crash may leave the same, and nothing was written or synced.
 pub record ReadsOnly (old new : DiskState) : Type 0 where
   pub leaves : LeavesOnly old new old.crash_images

@@ -2,7 +2,7 @@
 
 ghost use Rattle.std.specs.Prelude.{◌≡◌, ◌≤◌, length, IfOk, IfErr};
 ghost use Rattle.seeded_draw.specs.AnyDrawn.{any_draw};
-ghost use Rattle.store_model.specs.Parameters.{height_limit};
+ghost use Rattle.store_model.specs.Parameters.{IsParameters, height_limit};
 ghost use Rattle.store_model.specs.Draws.{draw_of};
 ghost use Rattle.store_model.specs.Pages.{pages_of_pairs};
 ghost use Rattle.store_model.specs.Placement.{place};
@@ -31,6 +31,13 @@ fn build_by<W: Draw>(alloc: Global, draw: &W, pairs: &PairList) -> Result<Layout
     Ok(place_pages(alloc, draw, pages)?)
 }
 
+/// Says that the parameters are some, so that their height is one. It costs nothing.
+fn reveal_params(params: &Params)
+    ensures { IsParameters params.now }
+{
+    let _ = params.height();
+}
+
 /// The layout of a list of pairs with distinct keys, at most 268,435,456 of them, in whatever order they come: the
 /// pairs are sorted by key, cut into groups and pages, and the pages placed by rank (Blelloch and Golovin 2007).
 ///
@@ -43,6 +50,6 @@ pub fn build(alloc: Global, params: &Params, pairs: &PairList) -> Result<Layout,
     ensures fits { IfOk result (λ _. length (pages_of_pairs (draw_of params.now) (by_key pairs.now)) ≤ params.now.slots) }
     ensures full { IfErr result (IsRefusal (draw_of params.now) pairs.now) }
 {
-    let _height = params.height();
+    reveal_params(params);
     build_by(alloc, &AnyDraw::new(params), pairs)
 }

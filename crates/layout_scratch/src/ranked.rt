@@ -10,7 +10,7 @@ ghost use Rattle.store_model.specs.Pairs.{IsPair, IsPairs};
 ghost use Rattle.layout_scratch.specs.Sorting.{HasDistinctKeys, by_key};
 ghost use Rattle.layout_scratch.specs.Ranks.{key_of, pairs_of, AreRanked};
 
-use node_pages::PairList;
+use node_pages::{PairList, reveal_pair};
 use seeded_draw::Draw;
 use std::alloc::Global;
 use std::cmp::Ordering;
@@ -64,13 +64,11 @@ impl Ord for Ranked<'_> {
     }
 }
 
-/// Says what the types of a key and of a value know, that the two are a pair. It costs nothing: a proof has it only
-/// from calls that promise it, and none of the bytes is read.
+/// Says that a key and a value are a pair, as `reveal_pair` says of the two. It costs nothing.
 fn reveal(pair: &(Key, Value))
     ensures { IsPair pair.now }
 {
-    let _ = pair.0.as_bytes();
-    let _ = pair.1.as_slice();
+    reveal_pair(&pair.0, &pair.1);
 }
 
 /// The pairs as they come, each with the level of its key.

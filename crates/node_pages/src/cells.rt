@@ -20,6 +20,7 @@ use crate::cell_area::{cell_len, room};
 use crate::cell_bytes::{cells_between, key_part, push_cell, read_cell, read_key};
 use crate::page::Page;
 use crate::pages::Pages;
+use crate::reveal::reveal_lead;
 use crate::sequence::too_long;
 use std::alloc::Global;
 use std::marker::Model;
@@ -94,6 +95,13 @@ impl Cells {
         self.count
     }
 
+    /// Says that each cell is one of its level, and that they are fewer than 2^32. It costs nothing.
+    pub fn reveal(&self)
+        ensures valid { IsCellList self.now }
+    {
+        let _ = self.len();
+    }
+
     /// Whether it has none.
     pub fn is_empty(&self) -> bool
         ensures { IsTrue result ↔ (self.now.cells ≡ []) }
@@ -116,7 +124,7 @@ impl Cells {
         ensures value { IfSome (slice_get self.now.cells i) (λ cell. cell.key ≡ result.now) }
         ensures valid { IsKey result.now }
     {
-        let _ = self.len();
+        self.reveal();
         key_part(self.bytes_between(i, i + 1))
     }
 
@@ -163,7 +171,7 @@ impl Cells {
         ensures value { result ≡ record { level = self.now.level; lead = model_lead lead.now; index = number } }
         ensures valid { IsLabel result }
     {
-        let _ = lead.key_bytes();
+        reveal_lead(lead);
         Label {
             level: self.level,
             lead: *lead,
@@ -181,7 +189,7 @@ impl Cells {
         requires within { index < length (runs (page_room self.now.level) self.now.cells) }
         ensures { slice_get (pages_from self.now.level (model_lead lead.now) first self.now.cells) index ≡ Some result }
     {
-        let _ = self.len();
+        self.reveal();
         let label = self.label(lead, first + index);
         let (done, past) = self.run(index);
         Page::of_run(label, (past - done) as u8, self.bytes_between(done, past))
@@ -203,7 +211,7 @@ impl Cells {
         ensures call { IsPagePut (P.state pages.old) (P.state pages.new) (page_of_run self.now.level (model_lead lead.now) (first + index) (take (page_room self.now.level) (drop (page_room self.now.level * index) self.now.cells))) result }
         ensures follows { P.follows pages.old pages.new }
     {
-        let _ = self.len();
+        self.reveal();
         let (done, past) = self.run(index);
         pages.put_run(
             &self.label(lead, first + index),
@@ -218,7 +226,7 @@ impl Cells {
         requires within { index < length (runs (page_room self.now.level) self.now.cells) }
         ensures { IsTrue result ↔ (slice_get (pages_from self.now.level (model_lead lead.now) first self.now.cells) index ≡ Some page.now) }
     {
-        let _ = self.len();
+        self.reveal();
         let (done, past) = self.run(index);
         if !page.has_bytes(self.bytes_between(done, past)) {
             return false;

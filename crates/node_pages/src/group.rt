@@ -31,7 +31,7 @@ pub fn append_group(pages: &mut PageList, lead: &Lead, cells: &Cells) -> Result<
     ensures ok { OnOk result (pages.new ≡ pages.old ++ group_pages cells.now.level (model_lead lead.now) cells.now.cells) }
     ensures err { OnErr result ((n : ℕ) × (pages.new ≡ pages.old ++ take n (group_pages cells.now.level (model_lead lead.now) cells.now.cells))) }
 {
-    let _ = cells.len();
+    cells.reveal();
     for index in 0..cells.page_count() {
         pages.push(cells.page(lead, 0, index))?;
     }

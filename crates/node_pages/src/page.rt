@@ -263,7 +263,7 @@ impl Page {
         requires { at ≤ length self.now.cells }
         ensures { IsTrue result ↔ IsStrictlySortedBy key_cmp (map (λ c. c.key) (take at self.now.cells) ++ key.now ∷ map (λ c. c.key) (drop at self.now.cells)) }
     {
-        let _ = self.len();
+        self.reveal();
         self.are_below(at, key) && self.are_above(at, key)
     }
 
@@ -278,7 +278,7 @@ impl Page {
     fn takes(&self, at: u32, cell: &Cell) -> bool
         ensures { IsTrue result ↔ TakesCell self.now at cell.now }
     {
-        let _ = self.len();
+        self.reveal();
         self.may_take(at, cell) && self.is_between(at, &cell.key)
     }
 
@@ -317,6 +317,13 @@ impl Page {
         ensures valid { IsPage self.now }
     {
         u32::from(self.slot[COUNT_AT])
+    }
+
+    /// Says that it is a page, as a proof needs it that looks into one. It costs nothing.
+    pub fn reveal(&self)
+        ensures valid { IsPage self.now }
+    {
+        let _ = self.len();
     }
 
     /// Its bytes in an image.
@@ -366,7 +373,7 @@ impl Page {
         ensures value { IfSome (slice_get self.now.cells i) (λ cell. cell.key ≡ result.now) }
         ensures valid { IsPage self.now × IsKey result.now }
     {
-        let _ = self.len();
+        self.reveal();
         cell_bytes::key_part(self.bytes_between(i, i + 1))
     }
 

@@ -88,8 +88,8 @@ impl<T> Sequence<T> {
     }
 }
 
-/// What a list at its greatest length answers: the count of what it has is a number below 2^32, and takes no further one.
-/// It is answered as want of memory, which the list would come to not much later.
+/// What a list at its greatest length answers: the count of what it has is a number below 2^32, and takes no further
+/// one. It is answered as want of memory, which the list would come to not much later.
 pub(crate) fn too_long() -> NoMemory {
     NoMemory
 }

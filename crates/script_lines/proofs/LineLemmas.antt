@@ -6,7 +6,18 @@ use Rattle.std.proofs.lemmas.List.Splits.{slice_split_none, slice_split_at, leng
 use Rattle.std.proofs.lemmas.List.Sums.{prefix_len_passes, prefix_len_stops}
 use Rattle.std.proofs.lemmas.Bool.{cases_lt, eqb-true, lt-ltb, le-ltb}
 use Rattle.store_model.specs.Scripts.{lines}
-use Rattle.script_lines.specs.Lines.{HasNoEnd, all_but_last, ended_lines, FindsEnd}
+use Rattle.script_lines.specs.Lines.{HasNoEnd, all_but_last, ended_lines}
+
+-- the first LF stands at this place
+pub record EndsAt (bytes : List ℕ) (place : ℕ) : Type 0 where
+  pub within : place < length bytes
+  pub before : HasNoEnd (take place bytes)
+  pub parts : bytes ≡ take place bytes ++ 10 ∷ drop (place + 1) bytes
+
+-- the place of the first LF, if there is one
+abbrev pub FindsEnd : List ℕ → Option ℕ → Type 0
+FindsEnd bytes None = HasNoEnd bytes
+FindsEnd bytes (Some place) = EndsAt bytes place
 
 is_end : ℕ → Bool
 is_end c = c == 10

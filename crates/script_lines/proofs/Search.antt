@@ -4,7 +4,7 @@ use Rattle.std.proofs.lemmas.List.{append-nil, append_assoc, length-append, leng
 use Rattle.std.proofs.lemmas.List.Elements.{All-append}
 use Rattle.std.proofs.lemmas.Bool.{cases_lt, cases_eq, lt-ltb, le-ltb, eq-eqb, ne_eqb}
 use Rattle.store_model.specs.Scripts.{line_limit}
-use Rattle.script_lines.specs.Lines.{HasNoEnd, ended_lines, EndsAt}
+use Rattle.script_lines.specs.Lines.{HasNoEnd, ended_lines}
 use Rattle.script_lines.specs.SourceState.{SourceState, IsObservable}
 use Rattle.script_lines.specs.LineState.{LineState, left, to_come, Answers, NextLine, KeepsSource, Adds, Fills, unread}
 use Rattle.script_lines.specs.declared.lines.Line.{Line}
@@ -12,7 +12,7 @@ use Rattle.script_lines.specs.declared.lines.Line.TheVariants as answers
 use Rattle.script_lines.specs.declared.lines.LineFault.{LineFault}
 use Rattle.script_lines.specs.declared.lines.LineFault.TheVariants as causes
 use Rattle.std.specs.List.{position}
-use Rattle.script_lines.proofs.LineLemmas.{ended_lines-blank, ended_lines-none, FindsEnd-position}
+use Rattle.script_lines.proofs.LineLemmas.{EndsAt, ended_lines-blank, ended_lines-none, FindsEnd-position}
 use Rattle.script_lines.proofs.StateLemmas.{Moves, take-add, Moves-refl, Moves-drop, Moves-adds, Answers-trans, Answers-adds, Answers-blank, Answers-line, Answers-last, Answers-end, FailsBetween-breaks, PassesLimit-overflows}
 
 -- no LF in either, no LF in both

@@ -3,14 +3,14 @@ use Rattle.std.proofs.Common.{◌≡◌, ℕ, suc, ◌+◌, ◌-◌, ◌<◌, tr
 use Rattle.std.proofs.lemmas.List.{append-nil, append_assoc, length-append, length-drop, take-append-drop, drop-drop, take_at, drop_at, take-take, drop-take, take_more, get_or_at, length-take-le}
 use Rattle.std.proofs.lemmas.List.Elements.{All-append}
 use Rattle.store_model.specs.Scripts.{lines}
-use Rattle.script_lines.specs.Lines.{HasNoEnd, ended_lines, EndsAt}
+use Rattle.script_lines.specs.Lines.{HasNoEnd, ended_lines}
 use Rattle.script_lines.specs.SourceState.{SourceState, IsObservable}
 use Rattle.script_lines.specs.LineState.{LineState, left, to_come, ended_within, Takes, Answers, FailsBetween, PassesLimit, NextLine, Adds, Overflows, Breaks}
 use Rattle.script_lines.specs.declared.lines.Line.{Line}
 use Rattle.script_lines.specs.declared.lines.Line.TheVariants as answers
 use Rattle.script_lines.specs.declared.lines.LineFault.{LineFault}
 use Rattle.script_lines.specs.declared.lines.LineFault.TheVariants as causes
-use Rattle.script_lines.proofs.LineLemmas.{lines-blank, ended_lines-blank, lines-line, ended_lines-line, lines-last, lines-none, ended_lines-none}
+use Rattle.script_lines.proofs.LineLemmas.{EndsAt, lines-blank, ended_lines-blank, lines-line, ended_lines-line, lines-last, lines-none, ended_lines-none}
 
 -- a front of n + m elements
 pub take-add : (n m : ℕ) (xs : List ℕ) → take (n + m) xs ≡ take n xs ++ take m (drop n xs)

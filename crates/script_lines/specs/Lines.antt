@@ -1,5 +1,5 @@
 -- Which lines of a script are ended.
-use Rattle.std.specs.Prelude.{◌≡◌, ℕ, ◌+◌, ◌-◌, ◌<◌, List, ◌∷◌, ◌++◌, length, take, drop, false, nat_lt, ◌==◌, Option, Some, None}
+use Rattle.std.specs.Prelude.{◌≡◌, ℕ, ◌-◌, List, length, take, false, nat_lt, ◌==◌}
 use Rattle.std.specs.List.{All, filter, slice_split}
 
 -- no LF stands among the bytes
@@ -13,14 +13,3 @@ all_but_last parts = take (length parts - 1) parts
 -- the lines of the bytes that an LF ends, without those that are empty
 unfoldable pub ended_lines : List ℕ → List (List ℕ)
 ended_lines bytes = filter (λ text. nat_lt 0 (length text)) (all_but_last (slice_split (λ c. c == 10) bytes))
-
--- the first LF stands at this place
-pub record EndsAt (bytes : List ℕ) (place : ℕ) : Type 0 where
-  pub within : place < length bytes
-  pub before : HasNoEnd (take place bytes)
-  pub parts : bytes ≡ take place bytes ++ 10 ∷ drop (place + 1) bytes
-
--- the place of the first LF, if there is one
-abbrev pub FindsEnd : List ℕ → Option ℕ → Type 0
-FindsEnd bytes None = HasNoEnd bytes
-FindsEnd bytes (Some place) = EndsAt bytes place

@@ -3,7 +3,7 @@
 ghost use Rattle.std.specs.Prelude.{◌≡◌, ◌↔◌, ◌≤◌, ◌<◌, ◌+◌, ◌-◌, ◌*◌, ◌^◌, ◌==◌, [], true, false, IsTrue, IsOk, IfOk, OnOk, IfErr, OnErr, IsErrOf, length, take, drop, min, max, vec_len, nat_lt, if◌then◌else◌, IfSome};
 ghost use Rattle.store_base.specs.Counts.{Rose};
 ghost use Rattle.script_lines.specs.SourceState.{IsObservable};
-ghost use Rattle.script_lines.specs.Lines.{HasNoEnd, FindsEnd, ended_lines};
+ghost use Rattle.script_lines.specs.Lines.{HasNoEnd, ended_lines};
 ghost use Rattle.script_lines.specs.LineState.{NextLine, KeepsSource, Fills, EndsCall, IsShown};
 
 use crate::fault::SourceFault;

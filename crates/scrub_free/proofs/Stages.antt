@@ -8,9 +8,10 @@ use Rattle.disk_model.specs.DiskState.{DiskState, IsDurable, IsSound}
 use Rattle.disk_model.specs.DiskCalls.{LeavesOnly, raised}
 use Rattle.disk_model.proofs.Crashes.{LeavesOnly-trans, LeavesOnly-weaken}
 use Rattle.gate_journal.specs.Costs.{opening_writes, opening_syncs}
-use Rattle.gate_journal.specs.Places.{SameAt, Keeps, Reaches, Comes, Made, Makes}
+use Rattle.gate_journal.specs.Places.{SameAt, Keeps, Reaches, Made, Makes}
 use Rattle.gate_journal.specs.Phases.{table_slot, HasEmptyJournal}
 use Rattle.gate_journal.specs.Recovery.{RecoversAs, Recovers, redo_writes, redo_syncs, erase_writes}
+use Rattle.gate_journal.proofs.SoFar.{Comes}
 use Rattle.gate_journal.proofs.Places.{Keeps-trans, Keeps-weaken, Keeps-durable, bytes_at-same}
 use Rattle.gate_journal.proofs.Calls.{Made-then, Made-as, Makes-then, Makes-as}
 use Rattle.gate_journal.proofs.Openings.{opening_of_empty, opening_of_journal, one_or_other}

@@ -124,7 +124,7 @@ pub fn place_of_own(level: u8, page: &Page, key: &Key, own: &[Cell]) -> Option<u
         return None;
     }
     let cell = &own[0];
-    let _ = page.len();
+    page.reveal();
     if !cell.is_of(level) || !cell.key.cmp(key).is_eq() {
         return None;
     }

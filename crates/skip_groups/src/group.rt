@@ -5,14 +5,14 @@ ghost use Rattle.store_base.specs.Leads.{model_lead};
 ghost use Rattle.store_model.specs.Pages.{page_room};
 ghost use Rattle.skip_groups.specs.Groups.{label_of};
 
-use node_pages::{Page, room};
+use node_pages::{Page, reveal_lead, room};
 use store_base::{Label, Lead};
 
 /// The label of page `index` of the group that `lead` leads on the level, the first being 0.
 pub fn label_in_group(level: u8, lead: &Lead, index: u32) -> Label
     ensures { result ≡ label_of level (model_lead lead.now) index }
 {
-    let _ = lead.key_bytes();
+    reveal_lead(lead);
     Label {
         level,
         lead: *lead,

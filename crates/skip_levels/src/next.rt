@@ -18,7 +18,7 @@ fn first_pair<P: Pages>(pages: &mut P, leader: Key) -> Result<Option<(Key, Value
     let Some(page) = found else {
         return Ok(None);
     };
-    let _ = page.len();
+    page.reveal();
     Ok(pair_of(page.cell(0)))
 }
 

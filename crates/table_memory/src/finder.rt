@@ -1,6 +1,6 @@
 //! How the slot of a page is found.
 
-ghost use Rattle.std.specs.Prelude.{◌≡◌, IfSome};
+ghost use Rattle.std.specs.Prelude.{◌≡◌, ◌⊎◌, [], IfSome};
 ghost use Rattle.table_memory.specs.Starts.{AreStarts, IsKeptStart};
 
 use crate::memo::checksum_of_label;
@@ -42,7 +42,8 @@ fn place_of_hint(label: &Label) -> usize {
 impl<W: Draw> Finder<W> {
     /// The draw alone: nothing is kept. It takes no memory.
     pub fn new(alloc: Global, draw: W) -> Finder<W>
-        ensures { result.draw ≡ draw }
+        ensures draw { result.draw ≡ draw }
+        ensures starts { result.starts.items ≡ [] }
     {
         Finder {
             draw,
@@ -61,7 +62,8 @@ impl<W: Draw> Finder<W> {
 
     /// Keeps the slot where the page of the label was found, if it was, and if there is memory for it.
     pub fn keep(&mut self, label: &Label, found: Option<u32>)
-        ensures { self.new.draw ≡ self.old.draw }
+        ensures draw { self.new.draw ≡ self.old.draw }
+        ensures starts { self.new.starts.items ≡ self.old.starts.items }
     {
         let Some(slot) = found else {
             return;
@@ -89,7 +91,8 @@ impl<W: Draw> Finder<W> {
 
     /// Forgets the starts, where as many are kept as may be. It takes no memory.
     fn make_room(&mut self)
-        ensures { self.new.draw ≡ self.old.draw }
+        ensures draw { self.new.draw ≡ self.old.draw }
+        ensures starts { (self.new.starts.items ≡ self.old.starts.items) ⊎ (self.new.starts.items ≡ []) }
     {
         if self.starts.len() >= STARTS {
             self.starts.clear();

@@ -1,4 +1,5 @@
-//! What tests and the benchmark share: keys, labels and a slot, and pages and pairs in memory that count the calls on them.
+//! What tests and the benchmark share: keys, labels and a slot, and pages and pairs in memory that count the calls on
+//! them.
 #![tactic(auto)]
 
 mod counted_pages;

@@ -6,6 +6,7 @@ ghost use Rattle.store_model.specs.Labels as model;
 ghost use Rattle.store_model.specs.Labels.{IsLabel};
 ghost use Rattle.store_base.specs.Keys.{IsKey};
 
+use node_pages::reveal_key;
 use store_base::{Key, Label, Lead};
 use store_model::{BLOCK, Slot};
 
@@ -28,7 +29,7 @@ pub fn led(key: Key) -> Label
     ensures value { result ≡ record { level = 0; lead = model.Leader key; index = 0 } }
     ensures valid { IsLabel result }
 {
-    let _ = key.as_bytes();
+    reveal_key(&key);
     Label {
         level: 0,
         lead: Lead::Key(key),

@@ -15,7 +15,8 @@ fn starts_at(rt: &impl Abort, label: &Label, [few, many]: [u32; 2]) -> bool {
     draw_of(rt, 4).start(label) == few && draw_of(rt, 16384).start(label) == many
 }
 
-/// Whether the key that begins with this byte has this level, drawn by itself and by what the front keeps of the key before.
+/// Whether the key that begins with this byte has this level, drawn by itself and by what the front keeps of the key
+/// before.
 fn stands_on(rt: &impl Abort, front: &mut Front, first: &[u8; 1], level: u8) -> bool {
     let draw = draw_of(rt, 4);
     draw.level_from(front, &key(first)) == level && draw.level(&key(first)) == level

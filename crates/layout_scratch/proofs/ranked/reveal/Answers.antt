@@ -1,4 +1,4 @@
 use Rattle.layout_scratch.proofs.ranked.reveal.Goals as goal
 
 pub returns : goal.returns
-returns c = record { key_length = c.as_bytes.ensures.valid.0; key_bytes = c.as_bytes.ensures.valid.1; value = (c.as_slice.ensures.some, c.as_slice.ensures.fits, c.as_slice.ensures.bytes) }
+returns c = record { key_length = c.reveal_pair.ensures.key.0; key_bytes = c.reveal_pair.ensures.key.1; value = c.reveal_pair.ensures.value }

@@ -8,7 +8,7 @@ use Rattle.node_pages.proofs.Joined.{take_next}
 use Rattle.node_pages.proofs.group.append_group.Goals as goal
 
 pub page-requires-clause-number : goal.page-requires-clause-number
-page-requires-clause-number c = omega (arith, c.len.ensures.valid.few, c.loop-index-test.true, c.page_count-index-end.ensures, runs_few c.args.cells.now.level c.args.cells.now.cells)
+page-requires-clause-number c = omega (arith, c.reveal.ensures.valid.few, c.loop-index-test.true, c.page_count-index-end.ensures, runs_few c.args.cells.now.level c.args.cells.now.cells)
 
 pub loop-index-preserved : goal.loop-index-preserved
 loop-index-preserved c =

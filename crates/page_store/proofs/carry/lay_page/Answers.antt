@@ -9,7 +9,7 @@ pub overwrite-requires-clause-count : goal.overwrite-requires-clause-count
 overwrite-requires-clause-count g c = rw c.in_ok-at.ensures.draw (c.in_ok-at.ensures.call.calls.count ∙ c.requires)
 
 pub insert_from-requires-clause-count : goal.insert_from-requires-clause-count
-insert_from-requires-clause-count g c = rw (c.keep.ensures, c.start-start.ensures.draw, c.in_ok-at.ensures.draw) (c.in_ok-at.ensures.call.calls.count ∙ c.requires)
+insert_from-requires-clause-count g c = rw (c.keep.ensures.draw, c.start-start.ensures.draw, c.in_ok-at.ensures.draw) (c.in_ok-at.ensures.call.calls.count ∙ c.requires)
 
 pub returns-in_err-at-clause-follows : goal.returns-in_err-at-clause-follows
 returns-in_err-at-clause-follows g c = c.in_err-at.ensures.follows
@@ -37,7 +37,7 @@ returns-in-None-clause-call g c =
     let old = g.S.ReadSlots.state c.args.slots.now in
     let mid = g.S.ReadSlots.state c.locate.new.slots in
     let found = subst (λ (o : Option ℕ). Locates d old mid c.label-label.result (Ok o)) c.in-None.is c.in_ok-at.ensures.call in
-    lays_in d old mid (g.S.ReadSlots.state c.insert_from.new.slots) c.args.page.now c.insert_from.result (subst (λ (l : Label). Locates d old mid l (Ok None)) c.label-label.ensures.value found) (rw (c.keep.ensures, c.start-start.ensures.draw, c.in_ok-at.ensures.draw) at c.insert_from.ensures.call)
+    lays_in d old mid (g.S.ReadSlots.state c.insert_from.new.slots) c.args.page.now c.insert_from.result (subst (λ (l : Label). Locates d old mid l (Ok None)) c.label-label.ensures.value found) (rw (c.keep.ensures.draw, c.start-start.ensures.draw, c.in_ok-at.ensures.draw) at c.insert_from.ensures.call)
 
 pub returns-in_err-at-clause-draw : goal.returns-in_err-at-clause-draw
 returns-in_err-at-clause-draw g c = c.in_err-at.ensures.draw
@@ -46,7 +46,7 @@ pub returns-in-Some-clause-draw : goal.returns-in-Some-clause-draw
 returns-in-Some-clause-draw g c = c.in_ok-at.ensures.draw
 
 pub returns-in-None-clause-draw : goal.returns-in-None-clause-draw
-returns-in-None-clause-draw g c = c.keep.ensures ∙ c.start-start.ensures.draw ∙ c.in_ok-at.ensures.draw
+returns-in-None-clause-draw g c = c.keep.ensures.draw ∙ c.start-start.ensures.draw ∙ c.in_ok-at.ensures.draw
 
 pub insert_from-requires-clause-start : goal.insert_from-requires-clause-start
-insert_from-requires-clause-start g c = rw (c.keep.ensures, c.start-start.ensures.draw) (c.start-start.ensures.start ∙ ap (λ (l : Label). (g.W.Draw.drawn c.locate.new.finder.draw).start l) c.label-label.ensures.value)
+insert_from-requires-clause-start g c = rw (c.keep.ensures.draw, c.start-start.ensures.draw) (c.start-start.ensures.start ∙ ap (λ (l : Label). (g.W.Draw.drawn c.locate.new.finder.draw).start l) c.label-label.ensures.value)

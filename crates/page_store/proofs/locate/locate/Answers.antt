@@ -33,7 +33,7 @@ pub returns-in_err-found-clause-draw : goal.returns-in_err-found-clause-draw
 returns-in_err-found-clause-draw g c = c.start-start.ensures.draw
 
 pub returns-clause-draw : goal.returns-clause-draw
-returns-clause-draw g c = c.keep.ensures ∙ c.start-start.ensures.draw
+returns-clause-draw g c = c.keep.ensures.draw ∙ c.start-start.ensures.draw
 
 pub locate_counted-requires-clause-start : goal.locate_counted-requires-clause-start
 locate_counted-requires-clause-start g c = rw c.start-start.ensures.draw c.start-start.ensures.start

@@ -12,4 +12,4 @@ invariant_of-self g c =
     record { started = starts_kept (g.W.Draw.drawn mid.draw) mid.starts.items mid.starts.items c.push.new.self.items c.args.label.now c.start-start.result (is_ok c.push.result) mid.started (inl refl) c.start-start.ensures.value c.push.ensures.items }
 
 pub returns-clause-start : goal.returns-clause-start
-returns-clause-start g c = rw (← c.make_room.ensures) c.start-start.ensures.value
+returns-clause-start g c = rw (← c.make_room.ensures.draw) c.start-start.ensures.value
