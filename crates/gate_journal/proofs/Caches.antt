@@ -3,7 +3,7 @@ use Rattle.std.proofs.Common.{ℕ, List, subst, sym, ◌∙◌, Result, Ok, Err,
 use Rattle.disk_model.specs.DiskState.{DiskState, IsObservable, IsSound}
 use Rattle.disk_model.specs.DiskCalls.{IsCall}
 use Rattle.gate_journal.specs.Places.{ReadsOnly}
-use Rattle.gate_journal.specs.Caches.{Agrees, IsJournalCacheOf, ReadsJournal}
+use Rattle.gate_journal.specs.JournalCaches.{Agrees, IsJournalCacheOf, ReadsJournal}
 use Rattle.gate_journal.specs.declared.journal_cache.JournalCache.{JournalCache}
 use Rattle.gate_journal.specs.ReadingLaws.{ReadsOnly-refl, ReadsOnly-trans}
 use Rattle.gate_journal.proofs.Calls.{AreCalls-none, AreCalls-one, AreCalls-then, AreCalls-fault, AreCalls-answered, observable_after}

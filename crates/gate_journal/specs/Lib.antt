@@ -1,5 +1,5 @@
 pub mod Passes
-pub mod Caches
+pub mod JournalCaches
 pub mod Changes
 pub mod Phases
 pub mod Places

@@ -3,7 +3,7 @@
 ghost use Rattle.std.specs.Prelude.{◌≡◌, ◌≤◌, ◌&&◌, None, Some, OnOk, IfOk};
 ghost use Rattle.store_model.specs.Images.{is_flag_set, is_marked};
 ghost use Rattle.disk_model.specs.DiskState.{DiskState, IsObservable};
-ghost use Rattle.gate_journal.specs.Caches.{IsJournalCacheOf, HasSlot, ReadsJournal};
+ghost use Rattle.gate_journal.specs.JournalCaches.{IsJournalCacheOf, HasSlot, ReadsJournal};
 
 use crate::redo::is_flag_set;
 use disk_model::Disk;

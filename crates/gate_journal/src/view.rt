@@ -3,7 +3,7 @@ ghost use Rattle.std.specs.Prelude.{◌≡◌, ◌+◌, ◌≤◌, OnOk, IfOk};
 ghost use Rattle.store_model.specs.Parameters.{IsParameters, image_len, block_len};
 ghost use Rattle.store_model.specs.Images.{bytes_at, recovered_slot};
 ghost use Rattle.disk_model.specs.DiskState.{DiskState, IsObservable};
-ghost use Rattle.gate_journal.specs.Caches.{IsJournalCacheOf, HasSlot, ReadsJournal};
+ghost use Rattle.gate_journal.specs.JournalCaches.{IsJournalCacheOf, HasSlot, ReadsJournal};
 ghost use Rattle.gate_journal.specs.ViewState.{viewed, viewed_count, viewed_whole, KeepsView, KeepsView-refl, KeepsView-trans};
 
 use crate::journal_cache::JournalCache;

@@ -14,7 +14,7 @@ use Rattle.store_model.proofs.ListsLemmas.{length-runs}
 use Rattle.tree_pairs.specs.declared.kind.Kind.{Kind}
 use Rattle.tree_pairs.specs.declared.kind.Kind.TheVariants as kinds
 use Rattle.tree_pairs.specs.Kinds.{kind_of, value_of, IsKind}
-use Rattle.image_check.specs.Entries.{block_pairs, IsFirst, HasPairs, StandsFirst}
+use Rattle.image_check.specs.PairFronts.{block_pairs, IsFirst, HasPairs, StandsFirst}
 
 -- the first pair of what stands at a path, and those behind it
 pub record HasFirst (path : Path) (node : Node) (p : Parameters) : Type 0 where

@@ -8,7 +8,7 @@ use Rattle.store_model.specs.Paths.{Path, key}
 use Rattle.store_model.specs.Pairs.{Pair, file_block}
 use Rattle.store_model.proofs.ListsLemmas.{all_append, all_from_bytes, bytes_from_all, length-runs}
 use Rattle.tree_pairs.proofs.BlocksLemmas.{length-run_at}
-use Rattle.image_check.specs.Entries.{block_pairs, AreBlocks}
+use Rattle.image_check.specs.PairFronts.{block_pairs, AreBlocks}
 
 -- ---- runs
 

@@ -23,8 +23,8 @@ use Rattle.layout_scratch.specs.declared.fault.ScratchFault.TheVariants.{Full}
 use Rattle.layout_scratch.specs.Faults.{IsRefusal}
 use Rattle.layout_scratch.specs.Sorting.{HasDistinctKeys, by_key, pair_cmp}
 use Rattle.layout_scratch.proofs.Rising.{rising_from_sorted}
-use Rattle.image_check.specs.Collected.{MayHold, pairs_of_pages}
-use Rattle.image_check.specs.Contents.{table_of, HaveLayout}
+use Rattle.image_check.specs.Collected.{MayHold, pairs_of_table}
+use Rattle.image_check.specs.Contents.{table_of_tree, HaveLayout}
 use Rattle.image_check.proofs.TablePairs.{table_pairs, table_slots}
 
 -- what an answer says that is never `None`, and one that may be
@@ -51,7 +51,7 @@ unfolding pages
 pages_are t p s tree is = ap (pages_of_pairs (draw_of p)) (ap by_key is ∙ by_key_as_they_are t p tree)
 
 -- and their layout is its table
-pub table_is : (t : Tree) (p : Parameters) (s : List Pair) → IsTree t → s ≡ pairs t p → place (draw_of p) (pages_of_pairs (draw_of p) (by_key s)) ≡ table_of t p
+pub table_is : (t : Tree) (p : Parameters) (s : List Pair) → IsTree t → s ≡ pairs t p → place (draw_of p) (pages_of_pairs (draw_of p) (by_key s)) ≡ table_of_tree t p
 table_is t p s tree is = ap (place (draw_of p)) (pages_are t p s tree is)
 
 -- it fits where they do
@@ -66,21 +66,21 @@ not_full t p s fault need slots tree fits is refused full =
     omega (arith, fits, more.0, more.2, ap length (pages_are t p s tree is))
 
 -- what the slots of a tree hold are its pairs, in some order
-pub pairs_moved : (slots : List (List ℕ)) (t : Tree) (p : Parameters) (s : List Pair) → IsParameters p → HaveLayout slots t p → s ≡ pairs_of_pages (table_of t p) → IsPermutation s (pairs t p)
-pairs_moved slots t p s valid held is = subst (λ xs. IsPermutation xs (pairs t p)) (sym is) (IsPermutation-sym (pairs t p) (pairs_of_pages (table_of t p)) (table_pairs t p valid held.tree held.fits))
+pub pairs_moved : (slots : List (List ℕ)) (t : Tree) (p : Parameters) (s : List Pair) → IsParameters p → HaveLayout slots t p → s ≡ pairs_of_table (table_of_tree t p) → IsPermutation s (pairs t p)
+pairs_moved slots t p s valid held is = subst (λ xs. IsPermutation xs (pairs t p)) (sym is) (IsPermutation-sym (pairs t p) (pairs_of_table (table_of_tree t p)) (table_pairs t p valid held.tree held.fits))
 
 -- what a read of slots says of each table that they may be the slots of
 abbrev pub AreReadFrom : {V : Type 0} → (V → List Pair) → List (List ℕ) → Option V → Type 0
-AreReadFrom items slots read = (table : Table) → slots ≡ slots_of table → AllByRecursion MayHold table → MatchOption read ⊥ (λ v. items v ≡ pairs_of_pages table)
+AreReadFrom items slots read = (table : Table) → slots ≡ slots_of table → AllByRecursion MayHold table → MatchOption read ⊥ (λ v. items v ≡ pairs_of_table table)
 
 -- where they hold a tree something is read
 pub never_none : {V : Type 0} (read : Option V) (items : V → List Pair) (slots : List (List ℕ)) (t : Tree) (p : Parameters) → IsParameters p → HaveLayout slots t p → AreReadFrom items slots read → read ≡ None → ⊥
-never_none read items slots t p valid held told = at_none read (λ v. items v ≡ pairs_of_pages (table_of t p)) (told (table_of t p) held.slots_are (table_slots t p valid held.tree held.fits))
+never_none read items slots t p valid held told = at_none read (λ v. items v ≡ pairs_of_table (table_of_tree t p)) (told (table_of_tree t p) held.slots_are (table_slots t p valid held.tree held.fits))
 
 -- and it is the tree's pairs, in some order
 pub moved_in : {V : Type 0} (read : Option V) (some : V) (items : V → List Pair) (slots : List (List ℕ)) (t : Tree) (p : Parameters) → IsParameters p → HaveLayout slots t p → AreReadFrom items slots read → read ≡ Some some → IsPermutation (items some) (pairs t p)
 moved_in read some items slots t p valid held told there =
-    pairs_moved slots t p (items some) valid held (at_some read (λ v. items v ≡ pairs_of_pages (table_of t p)) some (told (table_of t p) held.slots_are (table_slots t p valid held.tree held.fits)) there)
+    pairs_moved slots t p (items some) valid held (at_some read (λ v. items v ≡ pairs_of_table (table_of_tree t p)) some (told (table_of_tree t p) held.slots_are (table_slots t p valid held.tree held.fits)) there)
 
 -- the pairs of a tree, moved and then sorted, are its pairs
 pub sorted_again : (t : Tree) (p : Parameters) (s sorted : List Pair) → IsTree t → IsPermutation s (pairs t p) → IsPermutation s sorted → IsSorted pair_cmp sorted → sorted ≡ pairs t p

@@ -13,7 +13,7 @@ use Rattle.store_model.specs.Images.{slot_bytes, slots_of, recovered_slot, Repre
 use Rattle.store_model.proofs.ListsLemmas.{length-numbers_from}
 use Rattle.store_model.proofs.PlacementLemmas.{length-place}
 use Rattle.gate_journal.proofs.Layouts.{represented-slots, slots-represent}
-use Rattle.image_check.specs.Contents.{table_of, HaveLayout}
+use Rattle.image_check.specs.Contents.{table_of_tree, HaveLayout}
 use Rattle.image_check.specs.Verdicts.{IsImageWith}
 use Rattle.layout_scratch.proofs.ReadLemmas.{same_gets}
 
@@ -32,7 +32,7 @@ pub slot_at : (slots : ℕ) (image : List ℕ) (i : ℕ) → i < slots → slice
 slot_at slots image i l = made_at (recovered_slot slots image) 0 slots i l ∙ ap (λ n. Some (recovered_slot slots image n)) (let e : 0 + i ≡ i = omega arith in e)
 
 -- the table has as many slots as the parameters say
-pub length-table_of : (t : Tree) (p : Parameters) → length (table_of t p) ≡ p.slots
+pub length-table_of : (t : Tree) (p : Parameters) → length (table_of_tree t p) ≡ p.slots
 unfolding draw_of
 length-table_of t p = length-place (draw_of p) (pages t p)
 
@@ -41,24 +41,24 @@ pub represents_tree : (image : List ℕ) (t : Tree) (p : Parameters) → IsImage
 represents_tree image t p named held =
     slots-represent image t p named.names named.length_is held.tree held.fits (λ i content low there.
     same_Some (recovered_slot p.slots image i) (slot_bytes content)
-    (sym (slot_at p.slots image i low) ∙ ap (λ (xs : List (List ℕ)). slice_get xs i) held.slots_are ∙ slice_get-map slot_bytes (table_of t p) i ∙ ap (option_map slot_bytes) there))
+    (sym (slot_at p.slots image i low) ∙ ap (λ (xs : List (List ℕ)). slice_get xs i) held.slots_are ∙ slice_get-map slot_bytes (table_of_tree t p) i ∙ ap (option_map slot_bytes) there))
 
 -- and one that represents a tree has such slots
 pub represented_layout : (image : List ℕ) (t : Tree) (p : Parameters) → Represents image t p → HaveLayout (slots_in p.slots image) t p
 represented_layout image t p is = record {
   tree = is.tree;
   fits = is.fits;
-  slots_are = same_gets (slots_in p.slots image) (slots_of (table_of t p)) (long ∙ sym long_table) (λ i low. at i (omega (arith, low, long)));
+  slots_are = same_gets (slots_in p.slots image) (slots_of (table_of_tree t p)) (long ∙ sym long_table) (λ i low. at i (omega (arith, low, long)));
 }
   where
     long : length (slots_in p.slots image) ≡ p.slots
     long = length-map (numbers_below p.slots) (recovered_slot p.slots image) ∙ length-numbers_from 0 p.slots
 
-    long_table : length (slots_of (table_of t p)) ≡ p.slots
-    long_table = length-map (table_of t p) slot_bytes ∙ length-table_of t p
+    long_table : length (slots_of (table_of_tree t p)) ≡ p.slots
+    long_table = length-map (table_of_tree t p) slot_bytes ∙ length-table_of t p
 
-    at : (i : ℕ) → i < p.slots → slice_get (slots_in p.slots image) i ≡ slice_get (slots_of (table_of t p)) i
+    at : (i : ℕ) → i < p.slots → slice_get (slots_in p.slots image) i ≡ slice_get (slots_of (table_of_tree t p)) i
     at i low =
-        let held : Option Page = get_or (table_of t p) i None in
-        let there : slice_get (table_of t p) i ≡ Some held = slice_get-get_or (table_of t p) i None (omega (arith, low, length-table_of t p)) in
-        slot_at p.slots image i low ∙ ap Some (represented-slots image t p is i held low there) ∙ sym (slice_get-map slot_bytes (table_of t p) i ∙ ap (option_map slot_bytes) there)
+        let held : Option Page = get_or (table_of_tree t p) i None in
+        let there : slice_get (table_of_tree t p) i ≡ Some held = slice_get-get_or (table_of_tree t p) i None (omega (arith, low, length-table_of t p)) in
+        slot_at p.slots image i low ∙ ap Some (represented-slots image t p is i held low there) ∙ sym (slice_get-map slot_bytes (table_of_tree t p) i ∙ ap (option_map slot_bytes) there)

@@ -16,20 +16,20 @@ use Rattle.store_model.proofs.TreesLemmasLayouts.{layouts_tell}
 use Rattle.image_check.specs.declared.contents.Contents.{Contents}
 use Rattle.image_check.specs.declared.verdict.Verdict.{Verdict}
 use Rattle.image_check.specs.declared.verdict.Verdict.TheVariants as verdicts
-use Rattle.image_check.specs.Contents.{table_of, HaveLayout, AreContents}
+use Rattle.image_check.specs.Contents.{table_of_tree, HaveLayout, AreContents}
 use Rattle.image_check.specs.Verdicts.{clean_of, AreCleanSlots}
 use Rattle.image_check.specs.SlotCalls.{clean_on}
 
 -- the table of a tree as bytes, by its slots
-bytes_by_slots : (t : Tree) (p : Parameters) → table_bytes (table_of t p) ≡ flat_map (λ (slot : List ℕ). slot) (slots_of (table_of t p))
+bytes_by_slots : (t : Tree) (p : Parameters) → table_bytes (table_of_tree t p) ≡ flat_map (λ (slot : List ℕ). slot) (slots_of (table_of_tree t p))
 unfolding table_bytes
-bytes_by_slots t p = sym (flat_map-map (λ (slot : List ℕ). slot) slot_bytes (table_of t p))
+bytes_by_slots t p = sym (flat_map-map (λ (slot : List ℕ). slot) slot_bytes (table_of_tree t p))
 
 -- slots that are the layouts of two trees are those of one
-pub slots_tell : (t u : Tree) (p : Parameters) → IsParameters p → IsTree t → IsTree u → Fits t p → Fits u p → slots_of (table_of t p) ≡ slots_of (table_of u p) → t ≡ u
+pub slots_tell : (t u : Tree) (p : Parameters) → IsParameters p → IsTree t → IsTree u → Fits t p → Fits u p → slots_of (table_of_tree t p) ≡ slots_of (table_of_tree u p) → t ≡ u
 unfolding layout
 slots_tell t u p valid ht hu ft fu e =
-    let bytes : table_bytes (table_of t p) ≡ table_bytes (table_of u p) = bytes_by_slots t p ∙ ap (flat_map (λ (slot : List ℕ). slot)) e ∙ sym (bytes_by_slots u p) in
+    let bytes : table_bytes (table_of_tree t p) ≡ table_bytes (table_of_tree u p) = bytes_by_slots t p ∙ ap (flat_map (λ (slot : List ℕ). slot)) e ∙ sym (bytes_by_slots u p) in
     (layouts_tell t u p p valid valid ht hu ft fu (ap (λ (b : List ℕ). header p ++ zeros (journal_len p.slots) ++ b) bytes)).0
 
 -- a layout has as many pages as the tree
@@ -37,7 +37,7 @@ pages_of_contents : (t : Tree) (p : Parameters) (contents : Contents) → AreCon
 unfolding draw_of
 pages_of_contents t p contents are =
     ap (λ table. length (pages_in table)) are.table_is
-    ∙ length_permutation (pages t p) (pages_in (table_of t p)) (IsPermutation-place (draw_of p) (pages t p) (IsLawful-draw_of p are.in_range) are.fits)
+    ∙ length_permutation (pages t p) (pages_in (table_of_tree t p)) (IsPermutation-place (draw_of p) (pages t p) (IsLawful-draw_of p are.in_range) are.fits)
 
 -- the verdict on the contents of a tree
 pub verdict_on : (t : Tree) (p : Parameters) (contents : Contents) (verdict : Verdict) → AreContents t p contents → verdict ≡ clean_on contents → verdict ≡ clean_of t p

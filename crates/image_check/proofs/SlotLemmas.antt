@@ -10,7 +10,7 @@ use Rattle.store_model.specs.Pairs.{Pair}
 use Rattle.store_model.specs.Placement.{Table}
 use Rattle.store_model.specs.Images.{slot_bytes, slots_of, page_bytes}
 use Rattle.store_model.proofs.ListsLemmas.{all_back}
-use Rattle.image_check.specs.Collected.{pair_of, pairs_in, pairs_of_pages}
+use Rattle.image_check.specs.Collected.{pair_of, pairs_in, pairs_of_table}
 
 -- ---- elements of a list
 
@@ -54,10 +54,10 @@ cell_one_more cells i cell pair first before after at is so_far more =
 -- ---- the slots so far
 
 -- the pairs of one slot more
-pub pairs_one_more : (table : Table) (i : ℕ) (held : Option Page) (before after : List Pair) → slice_get table i ≡ Some held → before ≡ pairs_of_pages (take i table) → after ≡ before ++ pairs_in held → after ≡ pairs_of_pages (take (i + 1) table)
+pub pairs_one_more : (table : Table) (i : ℕ) (held : Option Page) (before after : List Pair) → slice_get table i ≡ Some held → before ≡ pairs_of_table (take i table) → after ≡ before ++ pairs_in held → after ≡ pairs_of_table (take (i + 1) table)
 pairs_one_more table i held before after at so_far more =
     more ∙ ap (λ s. s ++ pairs_in held) so_far
-    ∙ sym (ap pairs_of_pages (take_one_more table i held at) ∙ flat_map-append pairs_in (take i table) (held ∷ []) ∙ ap (λ s. pairs_of_pages (take i table) ++ s) (append-nil (pairs_in held)))
+    ∙ sym (ap pairs_of_table (take_one_more table i held at) ∙ flat_map-append pairs_in (take i table) (held ∷ []) ∙ ap (λ s. pairs_of_table (take i table) ++ s) (append-nil (pairs_in held)))
 
 -- what a slot of a table was read as
 pub read_as : (slots : List (List ℕ)) (table : Table) (i : ℕ) (slot : List ℕ) (held : Option Page) → slice_get slots i ≡ Some slot → slots ≡ slots_of table → slice_get table i ≡ Some held → slot ≡ slot_bytes held

@@ -19,8 +19,8 @@ use Rattle.store_model.proofs.PagesLemmasSizes.{tree_pages_are_pages, tree_pages
 use Rattle.store_model.proofs.PlacementLemmas.{first_free, length-put_first_free, IsPermutation-put_first_free, pages_in-replicate}
 use Rattle.store_model.proofs.TreesLemmasLayouts.{pages_on_level}
 use Rattle.store_model.proofs.PlacementLemmasDraws.{IsLawful-draw_of}
-use Rattle.image_check.specs.Collected.{MayHold, pair_of, pairs_in, pairs_of_pages}
-use Rattle.image_check.specs.Contents.{table_of}
+use Rattle.image_check.specs.Collected.{MayHold, pair_of, pairs_in, pairs_of_table}
+use Rattle.image_check.specs.Contents.{table_of_tree}
 
 -- ---- the cells of level 0
 
@@ -91,56 +91,56 @@ shuffled xs ys zs =
     (IsPermutation-append_left zs (xs ++ ys) (ys ++ xs) (IsPermutation-append_comm xs ys)))
 
 -- a page in an empty slot adds its pairs
-pairs_put : (table : Table) (k : ℕ) (page : Page) → slice_get table k ≡ Some None → IsPermutation (lowest_pairs page ++ pairs_of_pages table) (pairs_of_pages (slice_set table k (Some page)))
+pairs_put : (table : Table) (k : ℕ) (page : Page) → slice_get table k ≡ Some None → IsPermutation (lowest_pairs page ++ pairs_of_table table) (pairs_of_table (slice_set table k (Some page)))
 pairs_put [] k page e = cc
-pairs_put (None ∷ table) zero page e = IsPermutation-refl (lowest_pairs page ++ pairs_of_pages table)
+pairs_put (None ∷ table) zero page e = IsPermutation-refl (lowest_pairs page ++ pairs_of_table table)
 pairs_put (Some other ∷ table) zero page e = cc
 pairs_put (None ∷ table) (suc k) page e = pairs_put table k page e
 pairs_put (Some other ∷ table) (suc k) page e =
-    IsPermutation-trans (lowest_pairs page ++ (lowest_pairs other ++ pairs_of_pages table)) (lowest_pairs other ++ (lowest_pairs page ++ pairs_of_pages table)) (lowest_pairs other ++ pairs_of_pages (slice_set table k (Some page)))
-    (shuffled (lowest_pairs page) (lowest_pairs other) (pairs_of_pages table))
-    (IsPermutation-append_right (lowest_pairs other) (lowest_pairs page ++ pairs_of_pages table) (pairs_of_pages (slice_set table k (Some page))) (pairs_put table k page e))
+    IsPermutation-trans (lowest_pairs page ++ (lowest_pairs other ++ pairs_of_table table)) (lowest_pairs other ++ (lowest_pairs page ++ pairs_of_table table)) (lowest_pairs other ++ pairs_of_table (slice_set table k (Some page)))
+    (shuffled (lowest_pairs page) (lowest_pairs other) (pairs_of_table table))
+    (IsPermutation-append_right (lowest_pairs other) (lowest_pairs page ++ pairs_of_table table) (pairs_of_table (slice_set table k (Some page))) (pairs_put table k page e))
 
 pairs_put_first_free : (d : Draw) (table : Table) (page : Page) → IsLawful d → length table ≡ d.slots → length (pages_in table) < d.slots
-    → IsPermutation (lowest_pairs page ++ pairs_of_pages table) (pairs_of_pages (put_first_free d table page))
+    → IsPermutation (lowest_pairs page ++ pairs_of_table table) (pairs_of_table (put_first_free d table page))
 unfolding put_first_free
 pairs_put_first_free d table page law is room =
     let free = first_free d table page law is room in
-    subst (λ (o : Option ℕ). IsPermutation (lowest_pairs page ++ pairs_of_pages table) (pairs_of_pages (put_at table page o))) (sym free.1) (pairs_put table free.0 page free.2)
+    subst (λ (o : Option ℕ). IsPermutation (lowest_pairs page ++ pairs_of_table table) (pairs_of_table (put_at table page o))) (sym free.1) (pairs_put table free.0 page free.2)
 
 pairs_put_all : (d : Draw) (table : Table) (ps : List Page) → IsLawful d → length table ≡ d.slots → length ps + length (pages_in table) ≤ d.slots
-    → IsPermutation (flat_map lowest_pairs ps ++ pairs_of_pages table) (pairs_of_pages (put_all d table ps))
+    → IsPermutation (flat_map lowest_pairs ps ++ pairs_of_table table) (pairs_of_table (put_all d table ps))
 unfolding put_all
-pairs_put_all d table [] law is room = IsPermutation-refl (pairs_of_pages table)
+pairs_put_all d table [] law is room = IsPermutation-refl (pairs_of_table table)
 pairs_put_all d table (page ∷ ps) law is room =
     let moved = length_permutation (page ∷ pages_in table) (pages_in (put_first_free d table page)) (IsPermutation-put_first_free d table page law is (omega arith)) in
     let here = lowest_pairs page in
     let rest = flat_map lowest_pairs ps in
-    subst (λ held. IsPermutation held (pairs_of_pages (put_all d (put_first_free d table page) ps))) (sym (append_assoc here rest (pairs_of_pages table)))
-    (IsPermutation-trans (here ++ (rest ++ pairs_of_pages table)) (rest ++ (here ++ pairs_of_pages table)) (pairs_of_pages (put_all d (put_first_free d table page) ps))
-    (shuffled here rest (pairs_of_pages table))
-    (IsPermutation-trans (rest ++ (here ++ pairs_of_pages table)) (rest ++ pairs_of_pages (put_first_free d table page)) (pairs_of_pages (put_all d (put_first_free d table page) ps))
-    (IsPermutation-append_right rest (here ++ pairs_of_pages table) (pairs_of_pages (put_first_free d table page)) (pairs_put_first_free d table page law is (omega arith)))
+    subst (λ held. IsPermutation held (pairs_of_table (put_all d (put_first_free d table page) ps))) (sym (append_assoc here rest (pairs_of_table table)))
+    (IsPermutation-trans (here ++ (rest ++ pairs_of_table table)) (rest ++ (here ++ pairs_of_table table)) (pairs_of_table (put_all d (put_first_free d table page) ps))
+    (shuffled here rest (pairs_of_table table))
+    (IsPermutation-trans (rest ++ (here ++ pairs_of_table table)) (rest ++ pairs_of_table (put_first_free d table page)) (pairs_of_table (put_all d (put_first_free d table page) ps))
+    (IsPermutation-append_right rest (here ++ pairs_of_table table) (pairs_of_table (put_first_free d table page)) (pairs_put_first_free d table page law is (omega arith)))
     (pairs_put_all d (put_first_free d table page) ps law (length-put_first_free d table page ∙ is) (omega (arith, moved)))))
 
-pairs_of-replicate : (n : ℕ) → pairs_of_pages (replicate n None) ≡ []
+pairs_of-replicate : (n : ℕ) → pairs_of_table (replicate n None) ≡ []
 pairs_of-replicate zero = refl
 pairs_of-replicate (suc n) = pairs_of-replicate n
 
-pairs_place : (d : Draw) (ps : List Page) → IsLawful d → length ps ≤ d.slots → in_order page_cmp ps ≡ ps → IsPermutation (flat_map lowest_pairs ps) (pairs_of_pages (place d ps))
+pairs_place : (d : Draw) (ps : List Page) → IsLawful d → length ps ≤ d.slots → in_order page_cmp ps ≡ ps → IsPermutation (flat_map lowest_pairs ps) (pairs_of_table (place d ps))
 unfolding place
 pairs_place d ps law room ranked =
     let none = pairs_of-replicate d.slots in
     let empty = pages_in-replicate d.slots in
-    subst (λ qs. IsPermutation (flat_map lowest_pairs ps) (pairs_of_pages (put_all d (replicate d.slots None) qs))) (sym ranked)
-    (subst (λ held. IsPermutation held (pairs_of_pages (put_all d (replicate d.slots None) ps))) (ap (λ held. flat_map lowest_pairs ps ++ held) none ∙ append-nil (flat_map lowest_pairs ps))
+    subst (λ qs. IsPermutation (flat_map lowest_pairs ps) (pairs_of_table (put_all d (replicate d.slots None) qs))) (sym ranked)
+    (subst (λ held. IsPermutation held (pairs_of_table (put_all d (replicate d.slots None) ps))) (ap (λ held. flat_map lowest_pairs ps ++ held) none ∙ append-nil (flat_map lowest_pairs ps))
     (pairs_put_all d (replicate d.slots None) ps law (length-replicate d.slots None) (omega (arith, ap length empty))))
 
 -- the table of a tree holds just its pairs
-pub table_pairs : (t : Tree) (p : Parameters) → IsParameters p → IsTree t → Fits t p → IsPermutation (pairs t p) (pairs_of_pages (table_of t p))
+pub table_pairs : (t : Tree) (p : Parameters) → IsParameters p → IsTree t → Fits t p → IsPermutation (pairs t p) (pairs_of_table (table_of_tree t p))
 unfolding draw_of pages
 table_pairs t p valid tree fits =
-    subst (λ s. IsPermutation s (pairs_of_pages (table_of t p))) (pages_hold_pairs (draw_of p) (pairs t p) valid.some_level)
+    subst (λ s. IsPermutation s (pairs_of_table (table_of_tree t p))) (pages_hold_pairs (draw_of p) (pairs t p) valid.some_level)
     (pairs_place (draw_of p) (pages t p) (IsLawful-draw_of p valid) fits (tree_pages_by_rank t p valid tree fits))
 
 may_hold : (held : Option Page) → IsSlot held → MayHold held
@@ -148,7 +148,7 @@ may_hold None is = tt
 may_hold (Some page) is = is
 
 -- and each of its slots is empty or holds a page
-pub table_slots : (t : Tree) (p : Parameters) → IsParameters p → IsTree t → Fits t p → AllByRecursion MayHold (table_of t p)
+pub table_slots : (t : Tree) (p : Parameters) → IsParameters p → IsTree t → Fits t p → AllByRecursion MayHold (table_of_tree t p)
 unfolding draw_of
 table_slots t p valid tree fits =
-    all_weaker IsSlot MayHold may_hold (table_of t p) (slots-place (draw_of p) (pages t p) (IsLawful-draw_of p valid) fits (tree_pages_are_pages t p valid tree fits))
+    all_weaker IsSlot MayHold may_hold (table_of_tree t p) (slots-place (draw_of p) (pages t p) (IsLawful-draw_of p valid) fits (tree_pages_are_pages t p valid tree fits))

@@ -31,7 +31,7 @@ use Rattle.tree_pairs.specs.declared.kind.Kind.{Kind}
 use Rattle.tree_pairs.specs.declared.kind.Kind.TheVariants as kinds
 use Rattle.image_check.specs.Contents.{AreCounts}
 use Rattle.tree_pairs.specs.Kinds.{kind_of, IsKind}
-use Rattle.image_check.specs.Entries.{CountsMore, StandsFirst}
+use Rattle.image_check.specs.PairFronts.{CountsMore, StandsFirst}
 use Rattle.layout_scratch.specs.Sorting.{pair_cmp}
 use Rattle.image_check.specs.Parents.{MayHaveChildren}
 

@@ -21,8 +21,8 @@ pairs_in None = []
 pairs_in (Some page) = if page.label.level == 0 then map pair_of page.cells else []
 
 -- those that a table holds, slot after slot
-abbrev pub pairs_of_pages : Table → List Pair
-pairs_of_pages table = flat_map pairs_in table
+abbrev pub pairs_of_table : Table → List Pair
+pairs_of_table table = flat_map pairs_in table
 
 -- the most pairs that a table holds: ten in each slot
 abbrev pub most_table_pairs : ℕ

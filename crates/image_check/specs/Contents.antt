@@ -12,14 +12,14 @@ use Rattle.image_check.specs.declared.contents.Contents.{Contents}
 use Rattle.image_check.specs.Counts.{count_dirs, count_files, count_bytes}
 
 -- the table of a tree
-abbrev pub table_of : Tree → Parameters → Table
-table_of t p = place (draw_of p) (pages t p)
+abbrev pub table_of_tree : Tree → Parameters → Table
+table_of_tree t p = place (draw_of p) (pages t p)
 
 -- the slots are the layout of the tree, which is one and fits
 pub record HaveLayout (slots : List (List ℕ)) (t : Tree) (p : Parameters) : Type 0 where
   pub tree : IsTree t
   pub fits : Fits t p
-  pub slots_are : slots ≡ slots_of (table_of t p)
+  pub slots_are : slots ≡ slots_of (table_of_tree t p)
 
 -- the counts are those of the tree
 pub record AreCounts (t : Tree) (counts : Counts) : Type 0 where
@@ -34,5 +34,5 @@ pub record AreContents (t : Tree) (p : Parameters) (contents : Contents) : Type 
   pub tree : IsTree t
   pub fits : Fits t p
   pub pairs_are : contents.pairs ≡ pairs t p
-  pub table_is : contents.layout ≡ table_of t p
+  pub table_is : contents.layout ≡ table_of_tree t p
   pub counts_are : AreCounts t contents.counts

@@ -1,7 +1,7 @@
 pub mod Collected
 pub mod Contents
 pub mod Counts
-pub mod Entries
+pub mod PairFronts
 pub mod ImageCalls
 pub mod Parents
 pub mod SlotCalls

@@ -4,7 +4,7 @@ ghost use Rattle.std.specs.Prelude.{◌≡◌, ◌↔◌, ◌≤◌, ◌+◌, �
 ghost use Rattle.store_model.specs.Trees.{file_limit};
 ghost use Rattle.store_model.specs.Lists.{run_count};
 ghost use Rattle.store_model.specs.Pairs.{file_block};
-ghost use Rattle.image_check.specs.Entries.{AreBlocks};
+ghost use Rattle.image_check.specs.PairFronts.{AreBlocks};
 
 use path_keys::Path;
 use store_base::{Key, Value};

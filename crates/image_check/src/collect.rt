@@ -8,7 +8,7 @@ ghost use Rattle.store_model.specs.Placement.{Table};
 ghost use Rattle.store_model.specs.Images.{slot_bytes, slots_of};
 ghost use Rattle.store_base.specs.SlotsState.{IsObservable};
 ghost use Rattle.layout_scratch.specs.SlotReads.{ReadsSlots};
-ghost use Rattle.image_check.specs.Collected.{MayHold, pair_of, pairs_in, pairs_of_pages, most_table_pairs};
+ghost use Rattle.image_check.specs.Collected.{MayHold, pair_of, pairs_in, pairs_of_table, most_table_pairs};
 
 use node_pages::{Cell, Page, decode_page, label_in};
 use std::alloc::Global;
@@ -64,7 +64,7 @@ pub fn read_pairs<S: ReadSlots>(
     ensures valid { IsParameters params.now }
     ensures few { IfOk result (λ found. IfSome found (λ pairs. length pairs.items ≤ most_table_pairs)) }
     ensures pairs { IsObservable (S.state slots.old) → (table : Table) → (S.state slots.old).slots ≡ slots_of table → AllByRecursion MayHold table
-        → IfOk result (λ found. MatchOption found ⊥ (λ pairs. pairs.items ≡ pairs_of_pages table)) }
+        → IfOk result (λ found. MatchOption found ⊥ (λ pairs. pairs.items ≡ pairs_of_table table)) }
 {
     let mut pairs = Vec::new(alloc);
     let mut slot = [0; BLOCK];

@@ -6,7 +6,7 @@ ghost use Rattle.store_model.specs.Paths as paths;
 ghost use Rattle.store_model.specs.Pairs as model;
 ghost use Rattle.store_model.specs.Trees as trees;
 ghost use Rattle.tree_pairs.specs.Kinds.{IsKind, kind_of};
-ghost use Rattle.image_check.specs.Entries.{IsFirst, HasPairs, StandsFirst};
+ghost use Rattle.image_check.specs.PairFronts.{IsFirst, HasPairs, StandsFirst};
 
 use crate::blocks::{are_blocks, block_count};
 use path_keys::Path;

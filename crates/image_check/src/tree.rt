@@ -8,10 +8,10 @@ ghost use Rattle.store_model.specs.Pairs as model;
 ghost use Rattle.store_model.specs.Trees as trees;
 ghost use Rattle.image_check.specs.Collected.{most_table_pairs};
 ghost use Rattle.image_check.specs.Contents.{AreCounts};
-ghost use Rattle.node_pages.specs.Places.{IsPlaceOf};
+ghost use Rattle.node_pages.specs.EntryPlaces.{IsPlaceOf};
 ghost use Rattle.image_check.specs.Parents.{MayHaveChildren};
 ghost use Rattle.tree_pairs.specs.Kinds.{IsKind};
-ghost use Rattle.image_check.specs.Entries.{CountsMore};
+ghost use Rattle.image_check.specs.PairFronts.{CountsMore};
 
 use crate::contents::Counts;
 use crate::entry::first_entry;

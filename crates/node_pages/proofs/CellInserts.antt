@@ -7,10 +7,10 @@ use Rattle.store_model.specs.Labels.{Label, label_bytes}
 use Rattle.store_model.specs.Pages.{Cell, Page, IsPage}
 use Rattle.store_model.specs.PageMaps.{PageMap, page_at, with_page}
 use Rattle.node_pages.specs.Insertions.{TakesCell, with_cell}
-use Rattle.node_pages.specs.Entries.{entry_of, map_of_sorted}
+use Rattle.node_pages.specs.PageEntries.{entry_of, map_of_sorted}
 use Rattle.node_pages.specs.EntriesLemmas.{IsPageMap-sorted}
 use Rattle.node_pages.specs.PagesState.{HasPlace}
-use Rattle.node_pages.specs.Places.{StandsAt}
+use Rattle.node_pages.specs.EntryPlaces.{StandsAt}
 use Rattle.node_pages.proofs.EntryLemmas.{AreMap, item_there, item_overwritten}
 
 -- what a map has under a label is one page

@@ -12,8 +12,8 @@ use Rattle.store_model.specs.Labels.{Label, label_bytes}
 use Rattle.store_model.specs.Pages.{Page, IsPage}
 use Rattle.store_model.specs.PageMaps.{PageMap, page_at, with_page, without_page}
 use Rattle.store_model.proofs.ListsLemmas.{all_append}
-use Rattle.node_pages.specs.Entries.{entry_of, map_of_sorted}
-use Rattle.node_pages.specs.Places.{StandsAt, LacksAt, without_key}
+use Rattle.node_pages.specs.PageEntries.{entry_of, map_of_sorted}
+use Rattle.node_pages.specs.EntryPlaces.{StandsAt, LacksAt, without_key}
 
 -- a test that holds
 pub true_from_holds : (b : Bool) → T b → IsTrue b

@@ -11,7 +11,7 @@ use Rattle.store_model.specs.Pages.{Cell, Page, page_room, group_pages}
 use Rattle.store_model.proofs.ListsLemmasCuts.{flat_map-map, flat_map-enumerate_from, flat_map-runs}
 use Rattle.store_model.proofs.PagesLemmas.{some_room}
 use Rattle.node_pages.specs.Cells.{CellList}
-use Rattle.node_pages.specs.Groups.{page_of_run}
+use Rattle.node_pages.specs.LastPages.{page_of_run}
 
 -- one element more
 pub take_next : {X : Type 0} (xs : List X) (i : ℕ) (x : X) → slice_get xs i ≡ Some x → take (i + 1) xs ≡ take i xs ++ x ∷ []

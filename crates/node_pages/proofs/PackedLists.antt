@@ -15,7 +15,7 @@ use Rattle.node_pages.specs.CellAreas.{cell_size}
 use Rattle.node_pages.specs.PageSlots.{cells_in, ArePacked}
 use Rattle.node_pages.specs.Cells.{CellList, IsCellList, list_in}
 use Rattle.node_pages.proofs.CellBytes.{length-cells_bytes, cells_in-cell_bytes}
-use Rattle.node_pages.specs.Groups.{pages_from}
+use Rattle.node_pages.specs.LastPages.{pages_from}
 use Rattle.node_pages.proofs.Runs.{run_within, run_is_page, page_at}
 use Rattle.node_pages.proofs.PageBytes.{length-cells_in}
 use Rattle.node_pages.proofs.Packed.{front_each, back_each, between_bytes, front_within, IsCellAt, cell_at, page_with}

@@ -12,7 +12,7 @@ use Rattle.std.proofs.lemmas.Simd.{map-map}
 use Rattle.store_model.specs.Paths.{key_cmp}
 use Rattle.store_model.proofs.ListsLemmas.{rising_from_is_sorted, rising_head, rising_tail}
 use Rattle.store_model.proofs.TreesLemmasFewer.{find_below_all}
-use Rattle.node_pages.specs.Places.{without_key, next_entry, StandsAt, LacksAt, IsPlaceOf}
+use Rattle.node_pages.specs.EntryPlaces.{without_key, next_entry, StandsAt, LacksAt, IsPlaceOf}
 
 -- an entry: a key, and what stands under it
 abbrev Entry : Type 0 → Type 0

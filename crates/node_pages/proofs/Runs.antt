@@ -12,7 +12,7 @@ use Rattle.store_model.specs.Paths.{key_cmp}
 use Rattle.store_model.specs.Pages.{Cell, page_room, IsCell, IsPage, group_pages}
 use Rattle.store_model.proofs.ListsLemmas.{length-numbers_from, all_front, all_back, rising_front, rising_back}
 use Rattle.store_model.proofs.PagesLemmas.{some_room}
-use Rattle.node_pages.specs.Groups.{page_of_run, pages_from}
+use Rattle.node_pages.specs.LastPages.{page_of_run, pages_from}
 
 -- the runs from a run on are those of the list from there on
 shifted : {A : Type 0} (n first count : ℕ) (xs : List A) → map (run_at n xs) (numbers_from (suc first) count) ≡ map (run_at n (drop n xs)) (numbers_from first count)

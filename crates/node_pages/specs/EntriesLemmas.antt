@@ -7,7 +7,7 @@ use Rattle.store_model.specs.Paths.{key_cmp}
 use Rattle.store_model.specs.Labels.{label_bytes}
 use Rattle.store_model.specs.Pages.{Page, IsPage}
 use Rattle.store_model.specs.PageMaps.{IsUnder, IsPageMap}
-use Rattle.node_pages.specs.Entries.{entry_of, map_of_sorted}
+use Rattle.node_pages.specs.PageEntries.{entry_of, map_of_sorted}
 
 same_page : (p q : Page) → Some p ≡ Some q → p ≡ q
 same_page p q e = cc

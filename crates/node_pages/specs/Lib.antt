@@ -1,9 +1,9 @@
 pub mod Cells
-pub mod Entries
+pub mod PageEntries
 pub mod EntriesLemmas
-pub mod Groups
+pub mod LastPages
 pub mod PagesState
-pub mod Places
+pub mod EntryPlaces
 pub mod CellAreas
 pub mod PageSlots
 pub mod Insertions

@@ -12,7 +12,7 @@ ghost use Rattle.store_model.specs.Images.{cell_bytes};
 ghost use Rattle.store_base.specs.Keys.{IsKey};
 ghost use Rattle.store_base.specs.Leads.{model_lead};
 ghost use Rattle.node_pages.specs.Cells.{IsCellList};
-ghost use Rattle.node_pages.specs.Groups.{page_of_run, pages_from};
+ghost use Rattle.node_pages.specs.LastPages.{page_of_run, pages_from};
 ghost use Rattle.node_pages.specs.PagesState.{IsObservable, IsPagePut, most_pages};
 
 use crate::cell::Cell;

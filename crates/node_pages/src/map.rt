@@ -8,10 +8,10 @@ ghost use Rattle.store_base.specs.Counts.{raised};
 ghost use Rattle.store_model.specs.Paths.{key_cmp};
 ghost use Rattle.store_model.specs.Labels.{label_bytes, label_cmp};
 ghost use Rattle.store_model.specs.Pages.{IsPage};
-ghost use Rattle.node_pages.specs.Entries.{entry_of, map_of_sorted, ArePages-prop};
+ghost use Rattle.node_pages.specs.PageEntries.{entry_of, map_of_sorted, ArePages-prop};
 ghost use Rattle.node_pages.specs.EntriesLemmas.{IsPageMap-sorted};
 ghost use Rattle.node_pages.specs.PagesState.{HasPlace, IsCellInsert, IsPageGet};
-ghost use Rattle.node_pages.specs.Places.{IsPlaceOf};
+ghost use Rattle.node_pages.specs.EntryPlaces.{IsPlaceOf};
 
 use crate::cell::Cell;
 use crate::page::Page;

@@ -5,7 +5,7 @@ use Rattle.store_model.specs.Paths.{key_cmp}
 use Rattle.store_model.specs.Pairs.{Pair}
 use Rattle.store_base.specs.declared.store_fault.Fault.{Fault}
 use Rattle.store_base.specs.Faults.{disk_faults_after}
-use Rattle.node_pages.specs.Places.{without_key, next_entry}
+use Rattle.node_pages.specs.EntryPlaces.{without_key, next_entry}
 
 -- A list of pairs at one moment. Only where it is observable do its pairs mean anything.
 pub record PairsState : Type 1 where

@@ -5,7 +5,7 @@ ghost use Rattle.std.specs.FinMap.{is_sorted};
 ghost use Rattle.store_model.specs.Paths.{key_cmp};
 ghost use Rattle.store_model.specs.Pairs.{IsPairs};
 ghost use Rattle.ordered_pairs.specs.PairsState.{most_pairs};
-ghost use Rattle.node_pages.specs.Places.{IsPlaceOf};
+ghost use Rattle.node_pages.specs.EntryPlaces.{IsPlaceOf};
 ghost use Rattle.ordered_pairs.specs.ValidPairs.{IsPairs-prop};
 
 use crate::ordered::OrderedPairs;

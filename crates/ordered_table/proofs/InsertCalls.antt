@@ -17,7 +17,7 @@ use Rattle.store_base.specs.declared.store_fault.Fault.{Fault}
 use Rattle.store_base.specs.SlotsState.{SlotsState, IsObservable, AreSlotCalls, IsGet, IsSet}
 use Rattle.store_base.proofs.SlotsCalls.{AreSlotCalls-none, AreSlotCalls-then, IsObservable-later}
 use Rattle.ordered_table.specs.Tables.{HasRoomFor, Inserts}
-use Rattle.ordered_table.specs.Carrying.{Carries, Inserting}
+use Rattle.ordered_table.specs.InsertionWays.{Carries, Inserting}
 use Rattle.ordered_table.proofs.Reading.{probe_first, probe_next, probe_within, Seen, seen, seen_page}
 use Rattle.ordered_table.proofs.Inserting.{carries_first, carries_on, carries_displaced, settles}
 

@@ -21,7 +21,7 @@ use Rattle.store_model.proofs.PlacementLemmasOrder.{probe_once, one_page, not_be
 use Rattle.store_model.proofs.PlacementLemmasTables.{tied_label_bytes, held_page}
 use Rattle.store_model.proofs.TreesLemmasBytes.{labels_same}
 use Rattle.store_model.proofs.PageMapsLemmas.{len-pages_of_map, found_stands, standing_found, page_at-with_page, HoldsPages-lookups}
-use Rattle.ordered_table.specs.Carrying.{SmallerFirst, Carries}
+use Rattle.ordered_table.specs.InsertionWays.{SmallerFirst, Carries}
 use Rattle.ordered_table.proofs.Reading.{probe_next, probe_within}
 use Rattle.ordered_table.proofs.Searching.{held_table}
 

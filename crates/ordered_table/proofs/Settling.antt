@@ -10,7 +10,7 @@ use Rattle.store_base.specs.declared.store_fault.Fault.{Fault}
 use Rattle.store_base.specs.SlotsState.{SlotsState, AreSlotCalls, IsGet, IsSet}
 use Rattle.store_base.proofs.SlotsCalls.{AreSlotCalls-none, AreSlotCalls-then, AreSlotCalls-value, AreSlotCalls-fault}
 use Rattle.ordered_table.specs.Tables.{Inserts}
-use Rattle.ordered_table.specs.Carrying.{Inserting, Displaces, CarriesOn}
+use Rattle.ordered_table.specs.InsertionWays.{Inserting, Displaces, CarriesOn}
 use Rattle.ordered_table.specs.declared.change.Way.{Way}
 use Rattle.ordered_table.proofs.InsertCalls.{inserts_fault, inserts_unwritten, inserts_free, inserting_goes_on, inserting_displaces, inserts_round}
 

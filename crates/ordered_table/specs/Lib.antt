@@ -1,3 +1,3 @@
 pub mod Tables
-pub mod Carrying
+pub mod InsertionWays
 pub mod MemSlots

@@ -1,7 +1,7 @@
 //! Insertion and overwriting.
 
 ghost use Rattle.std.specs.Prelude.{◌≡◌, ◌<◌};
-ghost use Rattle.ordered_table.specs.Carrying.{Displaces, CarriesOn};
+ghost use Rattle.ordered_table.specs.InsertionWays.{Displaces, CarriesOn};
 ghost use Rattle.ordered_table.specs.Tables.{Inserts, Overwrites};
 
 use crate::round::next_slot;

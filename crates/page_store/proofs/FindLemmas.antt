@@ -20,7 +20,7 @@ use Rattle.page_store.specs.Carrying.{LaysChanges}
 use Rattle.table_memory.specs.Differences.{AreDifferences}
 use Rattle.table_memory.specs.OverlayState.{slot_over, overlaid}
 use Rattle.page_store.specs.PageImages.{table_slots, placed_slot}
-use Rattle.table_memory.specs.Caches.{Kept, changes_of}
+use Rattle.table_memory.specs.SlotCaches.{Kept, changes_of}
 use Rattle.table_memory.specs.Comparing.{FindsChanges}
 use Rattle.page_store.specs.Preparing.{FindsSlots}
 use Rattle.table_memory.specs.Staging.{StagedPages, with_changes}

@@ -18,7 +18,7 @@ use Rattle.gate_journal.specs.ViewState.{KeepsView}
 use Rattle.gate_journal.specs.Phases.{table_slot}
 pub use Rattle.gate_journal.proofs.Slots.{get_number}
 use Rattle.ordered_table.specs.Tables.{TellsOrder, Orders}
-use Rattle.table_memory.specs.Caches.{Kept, ReadsSlot, TellsOfSlot}
+use Rattle.table_memory.specs.SlotCaches.{Kept, ReadsSlot, TellsOfSlot}
 use Rattle.table_memory.specs.OverlayState.{touched_at, bytes_or, slot_over, overlaid}
 use Rattle.page_store.specs.declared.label_order.LabelOrder.{LabelOrder}
 use Rattle.table_memory.proofs.TouchedLemmas.{at_itself, at_other}

@@ -23,7 +23,7 @@ use Rattle.page_store.specs.declared.fault.SettleFault.{SettleFault}
 use Rattle.page_store.specs.declared.fault.SettleFault.TheVariants as causes
 use Rattle.table_memory.specs.Differences.{AreDifferences}
 use Rattle.page_store.specs.Faults.{settle_faults_after, settle_fault_of}
-use Rattle.table_memory.specs.Caches.{changes_of}
+use Rattle.table_memory.specs.SlotCaches.{changes_of}
 use Rattle.table_memory.specs.Memos.{Remembered, IsMemoOf, Renews}
 use Rattle.table_memory.specs.OverlayState.{overlaid}
 use Rattle.page_store.specs.PageImages.{table_slots, pages_in_table, placed_slot, IsLayoutOf, SlotStandsAt, RepresentsPages, slots_between}

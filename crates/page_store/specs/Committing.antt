@@ -4,7 +4,7 @@ use Rattle.disk_model.specs.DiskState.{DiskState, IsObservable}
 use Rattle.disk_model.specs.DiskCalls.{Rose}
 use Rattle.gate_journal.specs.Changes as journal
 use Rattle.gate_journal.specs.Places.{AreCalls, Makes}
-use Rattle.table_memory.specs.Caches.{Kept, IsSlotCacheOf}
+use Rattle.table_memory.specs.SlotCaches.{Kept, IsSlotCacheOf}
 
 -- The changed slots are committed, as the journal does it, and what is kept of the table are its slots then too.
 pub record CommitsSlots {D T E : Type 0} (state : D → DiskState) (slots : ℕ) (changes : journal.Changes) (old new : D) (cache : Kept) (result : Result T E) : Type 0 where

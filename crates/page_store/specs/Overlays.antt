@@ -21,8 +21,8 @@ abbrev pub touched_of : {D : Type 0} {ghosts : declared.Ghosts D} → Overlay D 
 touched_of overlay = overlay.touched.entries
 
 -- its slots
-abbrev pub slots_of : {D : Type 0} {ghosts : declared.Ghosts D} → (D → DiskState) → Overlay D ghosts → SlotsState
-slots_of state overlay = overlaid overlay.params.slots overlay.touched.entries (state overlay.disk)
+abbrev pub slots_seen : {D : Type 0} {ghosts : declared.Ghosts D} → (D → DiskState) → Overlay D ghosts → SlotsState
+slots_seen state overlay = overlaid overlay.params.slots overlay.touched.entries (state overlay.disk)
 
 -- calls that only read the disk below
 abbrev pub Views : {D : Type 0} {ghosts : declared.Ghosts D} → (D → DiskState) → Overlay D ghosts → Overlay D ghosts → Type 0

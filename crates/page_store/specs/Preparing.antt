@@ -8,7 +8,7 @@ use Rattle.store_model.specs.Draws.{Draw}
 use Rattle.store_model.specs.PageMaps.{PageMap, IsPageMap, HoldsPages}
 use Rattle.disk_model.specs.DiskState.{DiskState, IsObservable}
 use Rattle.gate_journal.specs.Changes.{AreChanges}
-use Rattle.table_memory.specs.Caches.{changes_of}
+use Rattle.table_memory.specs.SlotCaches.{changes_of}
 use Rattle.table_memory.specs.declared.changed.ChangedSlots.{ChangedSlots}
 use Rattle.table_memory.specs.Differences.{AreDifferences}
 use Rattle.table_memory.specs.OverlayState.{overlaid}

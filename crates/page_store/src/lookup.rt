@@ -3,7 +3,7 @@
 ghost use Rattle.std.specs.Prelude.{◌≡◌, Some, Ok};
 ghost use Rattle.store_model.specs.Labels.{label_bytes};
 ghost use Rattle.page_store.specs.Lookups.{Consults, Locates, LooksUp};
-ghost use Rattle.page_store.specs.Overlays.{slots_of, Views};
+ghost use Rattle.page_store.specs.Overlays.{slots_seen, Views};
 ghost use Rattle.table_memory.specs.Memos.{memo_place, IsMemoOf};
 ghost use Rattle.table_memory.specs.OverlayState.{overlaid};
 
@@ -36,8 +36,8 @@ impl<D: Disk, W: Draw> Lookup<D, W> {
     // It stands apart from `learn`, each call of which would clear its page.
     #[inline(never)]
     fn remember_at(&mut self, at: u32, label: &Label) -> Result<(), Fault>
-        requires { Locates (W.drawn self.old.finder.draw) (slots_of D.state self.old.overlay) (slots_of D.state self.old.overlay) label.now (Ok (Some at)) }
-        ensures call { Consults (slots_of D.state self.old.overlay) (slots_of D.state self.new.overlay) result }
+        requires { Locates (W.drawn self.old.finder.draw) (slots_seen D.state self.old.overlay) (slots_seen D.state self.old.overlay) label.now (Ok (Some at)) }
+        ensures call { Consults (slots_seen D.state self.old.overlay) (slots_seen D.state self.new.overlay) result }
         ensures follows { Views D.state self.old.overlay self.new.overlay }
         ensures draw { self.new.finder.draw ≡ self.old.finder.draw }
     {
@@ -51,7 +51,7 @@ impl<D: Disk, W: Draw> Lookup<D, W> {
     /// by the memo. It is not remembered where there is no memory for it.
     pub fn learn(&mut self, changes: &Changes, place: usize, label: &Label) -> Result<(), Fault>
         requires { place ≡ memo_place (label_bytes label.now) }
-        ensures call { Consults (slots_of D.state self.old.overlay) (slots_of D.state self.new.overlay) result }
+        ensures call { Consults (slots_seen D.state self.old.overlay) (slots_seen D.state self.new.overlay) result }
         ensures follows { Views D.state self.old.overlay self.new.overlay }
         ensures draw { self.new.finder.draw ≡ self.old.finder.draw }
     {
@@ -68,7 +68,7 @@ impl<D: Disk, W: Draw> Lookup<D, W> {
 
     /// Whether there is a page under the label, by the changes, or else by the memo, or else by the slots.
     pub fn has_page(&mut self, changes: &Changes, label: &Label) -> Result<bool, Fault>
-        ensures call { LooksUp (W.drawn self.old.finder.draw) (slots_of D.state self.old.overlay) (slots_of D.state self.new.overlay) changes.now.pages.entries label.now result }
+        ensures call { LooksUp (W.drawn self.old.finder.draw) (slots_seen D.state self.old.overlay) (slots_seen D.state self.new.overlay) changes.now.pages.entries label.now result }
         ensures follows { Views D.state self.old.overlay self.new.overlay }
         ensures draw { self.new.finder.draw ≡ self.old.finder.draw }
     {

@@ -3,7 +3,7 @@
 ghost use Rattle.std.specs.Prelude.{◌≡◌, ◌<◌, ℕ, List, length, Some, []};
 ghost use Rattle.store_model.specs.Parameters.{image_len, block_len};
 ghost use Rattle.disk_model.specs.DiskState.{IsObservable};
-ghost use Rattle.table_memory.specs.Caches.{IsSlotCacheOf};
+ghost use Rattle.table_memory.specs.SlotCaches.{IsSlotCacheOf};
 ghost use Rattle.table_memory.specs.OverlayState.{touched_at, overlaid, overlaid_count, overlaid_whole};
 ghost use Rattle.gate_journal.specs.ViewState.{KeepsView, KeepsView-refl, KeepsView-trans};
 

@@ -5,7 +5,7 @@ ghost use Rattle.store_model.specs.Parameters.{image_len};
 ghost use Rattle.disk_model.specs.DiskState.{IsObservable, IsDurable};
 ghost use Rattle.gate_journal.specs.Changes.{AreChanges};
 ghost use Rattle.gate_journal.specs.Phases.{HasEmptyJournal};
-ghost use Rattle.table_memory.specs.Caches.{changes_of, IsSlotCacheOf};
+ghost use Rattle.table_memory.specs.SlotCaches.{changes_of, IsSlotCacheOf};
 ghost use Rattle.page_store.specs.Committing.{CommitsSlots};
 
 use disk_model::Disk;

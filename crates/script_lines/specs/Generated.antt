@@ -16,8 +16,8 @@ state_after number zero = number
 state_after number (suc steps) = next_state (state_after number steps)
 
 -- what is drawn in a state: its upper 31 bits
-abbrev pub draw_of : ℕ → ℕ
-draw_of x = x / 2 ^ 33
+abbrev pub drawn_number : ℕ → ℕ
+drawn_number x = x / 2 ^ 33
 
 -- the path of a directory, and of a file in it
 abbrev pub directory_path : ℕ → Path
@@ -42,4 +42,4 @@ command_of_draw draw = command_by (draw / 128 % 8) (draw % 8) (draw / 8 % 16) (d
 
 -- the command with this place, from 0, of those that a number gives
 unfoldable pub generated : ℕ → ℕ → Command
-generated number place = command_of_draw (draw_of (state_after number (place + 1)))
+generated number place = command_of_draw (drawn_number (state_after number (place + 1)))

@@ -8,7 +8,7 @@ use Rattle.store_model.specs.Lists.{runs, run_count}
 use Rattle.store_model.specs.Labels.{Lead}
 use Rattle.store_model.specs.Pages.{Cell, Page, page_room, group_pages}
 use Rattle.store_model.proofs.ListsLemmas.{length-runs}
-use Rattle.node_pages.specs.Groups.{pages_from, page_of_run}
+use Rattle.node_pages.specs.LastPages.{pages_from, page_of_run}
 use Rattle.node_pages.proofs.Runs.{all_pages, next_page, no_page}
 use Rattle.skip_groups.specs.Groups.{group_cost}
 

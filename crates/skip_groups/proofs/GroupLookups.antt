@@ -12,9 +12,9 @@ use Rattle.store_model.specs.Labels.{Lead, Label, IsLead, IsLabel, label_bytes}
 use Rattle.store_model.specs.Pages.{Cell, Page, IsPage, page_room, group_pages}
 use Rattle.store_model.specs.PageMaps.{page_at, map_of_pages}
 use Rattle.store_model.proofs.TreesLemmasBytes.{labels_same}
-use Rattle.node_pages.specs.Entries.{entry_of}
+use Rattle.node_pages.specs.PageEntries.{entry_of}
 use Rattle.node_pages.proofs.PlaceLemmas.{same_key}
-use Rattle.node_pages.specs.Groups.{page_of_run}
+use Rattle.node_pages.specs.LastPages.{page_of_run}
 use Rattle.skip_groups.specs.Groups.{label_of, HoldsGroup}
 
 -- a page of another group

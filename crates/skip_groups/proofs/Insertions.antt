@@ -15,7 +15,7 @@ use Rattle.node_pages.proofs.EntryLemmas.{all_drop, all_take}
 use Rattle.node_pages.proofs.PlaceLemmas.{reversed, same_key}
 use Rattle.skip_groups.specs.Floors.{last_of, lead_from}
 use Rattle.skip_groups.specs.GroupCells.{AreBetween, compares, side}
-use Rattle.skip_groups.specs.Insertions.{IsInsertPlace}
+use Rattle.skip_groups.specs.InsertPlaces.{IsInsertPlace}
 use Rattle.skip_groups.proofs.CellLists.{last_at}
 use Rattle.skip_groups.proofs.Halving.{cell_at}
 use Rattle.skip_groups.proofs.Sides.{merged_are, side_all}

@@ -12,7 +12,7 @@ use Rattle.store_model.specs.Labels.Lead.{Leader}
 use Rattle.store_model.specs.Pages.{Cell, Page, page_room, group_pages}
 use Rattle.store_model.proofs.ListsLemmas.{all_flat_map, rising_head, rising_tail}
 use Rattle.store_model.proofs.PagesLemmas.{some_room}
-use Rattle.node_pages.specs.Groups.{pages_from, page_of_run}
+use Rattle.node_pages.specs.LastPages.{pages_from, page_of_run}
 use Rattle.node_pages.proofs.Runs.{all_pages, next_page, no_page}
 use Rattle.skip_groups.specs.Floors.{last_of, lead_from}
 use Rattle.skip_groups.specs.GroupCells.{IsKept, EndsAbove, compares, side}

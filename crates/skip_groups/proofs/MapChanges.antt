@@ -11,7 +11,7 @@ use Rattle.store_model.specs.Pages.{Page, IsPage}
 use Rattle.store_model.specs.PageMaps.{with_page, without_page, map_of_pages}
 use Rattle.store_model.proofs.TreesLemmasBytes.{labels_same}
 use Rattle.store_model.proofs.TreesLemmasPaths.{tie_from_test}
-use Rattle.node_pages.specs.Entries.{entry_of}
+use Rattle.node_pages.specs.PageEntries.{entry_of}
 use Rattle.node_pages.proofs.EntryLemmas.{all_take, all_drop}
 use Rattle.node_pages.proofs.PlaceLemmas.{same_key}
 use Rattle.skip_groups.specs.Groups.{label_of, AreNumbered}

@@ -13,7 +13,7 @@ use Rattle.store_model.specs.Pages.{Cell, Page, page_room, group_pages}
 use Rattle.store_model.proofs.ListsLemmas.{all_append, all_weaker, rising_from_map}
 use Rattle.store_model.proofs.PagesLemmas.{some_room}
 use Rattle.node_pages.specs.Cells.{CellList}
-use Rattle.node_pages.specs.Groups.{pages_from, page_of_run}
+use Rattle.node_pages.specs.LastPages.{pages_from, page_of_run}
 use Rattle.node_pages.proofs.Joined.{cells_of_group}
 use Rattle.node_pages.proofs.PlaceLemmas.{same_key, reversed}
 use Rattle.node_pages.proofs.Runs.{next_page, no_page}

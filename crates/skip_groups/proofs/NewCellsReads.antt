@@ -10,7 +10,7 @@ use Rattle.store_model.specs.Labels.{Lead}
 use Rattle.store_model.specs.Pages.{Cell, Page, page_room, group_pages}
 use Rattle.store_model.specs.PageMaps.{page_at}
 use Rattle.node_pages.specs.Cells.{CellList}
-use Rattle.node_pages.specs.Groups.{pages_from}
+use Rattle.node_pages.specs.LastPages.{pages_from}
 use Rattle.node_pages.specs.PagesState.{PagesState, IsPageGet, most_pages}
 use Rattle.node_pages.proofs.Joined.{cells_of_group, take_next}
 use Rattle.node_pages.proofs.Runs.{next_page, no_page}
@@ -19,7 +19,7 @@ use Rattle.skip_groups.specs.Groups.{label_of}
 use Rattle.skip_groups.specs.declared.new_cells.Step.TheVariants.{Done, Same}
 use Rattle.skip_groups.specs.Floors.{last_of, lead_from}
 use Rattle.skip_groups.specs.GroupCells.{AreCells, side, merged}
-use Rattle.skip_groups.specs.Insertions.{IsInsertPlace, IsPlaceRead, with_place}
+use Rattle.skip_groups.specs.InsertPlaces.{IsInsertPlace, IsPlaceRead, with_place}
 use Rattle.skip_groups.specs.NewCells.{cells_gathered, ComeIn, IsCellsSet, IsAlone, IsStep, IsEnd, IsMade, AreNew, IsNewCellsRead}
 use Rattle.skip_groups.proofs.CellLists.{front_cells, back_cells}
 use Rattle.skip_groups.proofs.GroupEnds.{last_page, within_room}

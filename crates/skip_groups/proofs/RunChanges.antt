@@ -14,7 +14,7 @@ use Rattle.store_model.specs.PageMaps.{PageMap, IsPageMap, with_page, without_pa
 use Rattle.store_model.specs.PageMaps as maps
 use Rattle.store_model.proofs.TreesLemmasBytes.{labels_same}
 use Rattle.node_pages.specs.Cells.{CellList}
-use Rattle.node_pages.specs.Groups.{page_of_run, pages_from}
+use Rattle.node_pages.specs.LastPages.{page_of_run, pages_from}
 use Rattle.node_pages.specs.PagesState.{PagesState, IsObservable, IsCellInsert, IsPagePut, IsPageDrop}
 use Rattle.node_pages.proofs.EntryLemmas.{len-with_page}
 use Rattle.node_pages.proofs.Runs.{length-pages_from, next_page, page_at, run_within}

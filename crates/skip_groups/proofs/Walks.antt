@@ -5,7 +5,7 @@ use Rattle.std.proofs.lemmas.List.{take-append-drop, append-nil, take_all, drop-
 use Rattle.store_model.specs.Labels.{Lead}
 use Rattle.store_model.specs.Pages.{Cell, Page, page_room, group_pages}
 use Rattle.store_model.proofs.ListsLemmas.{all_append}
-use Rattle.node_pages.specs.Groups.{pages_from, page_of_run}
+use Rattle.node_pages.specs.LastPages.{pages_from, page_of_run}
 use Rattle.node_pages.proofs.Runs.{all_pages, next_page, no_page}
 use Rattle.skip_groups.specs.Floors.{last_of}
 

@@ -8,7 +8,7 @@ use Rattle.store_model.specs.Labels.{Lead, IsLead}
 use Rattle.store_model.specs.Pages.{Page, IsPage}
 use Rattle.store_model.specs.PageMaps.{map_of_pages}
 use Rattle.node_pages.specs.Cells.{CellList}
-use Rattle.node_pages.specs.Groups.{pages_from}
+use Rattle.node_pages.specs.LastPages.{pages_from}
 use Rattle.node_pages.specs.PagesState.{PagesState, IsObservable}
 use Rattle.skip_groups.specs.Groups.{IsNumbered}
 

@@ -3,6 +3,6 @@ pub mod GroupCells
 pub mod GroupChanges
 pub mod GroupParts
 pub mod Groups
-pub mod Insertions
+pub mod InsertPlaces
 pub mod NewCells
 pub mod Searches

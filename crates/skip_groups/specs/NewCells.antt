@@ -6,7 +6,7 @@ use Rattle.store_base.specs.declared.store_fault.Fault.{Fault}
 use Rattle.store_base.specs.Leads as leads
 use Rattle.store_model.specs.Labels.{Lead}
 use Rattle.store_model.specs.Pages.{Cell, Page, page_room, group_pages}
-use Rattle.node_pages.specs.Groups.{pages_from}
+use Rattle.node_pages.specs.LastPages.{pages_from}
 use Rattle.node_pages.specs.PagesState.{PagesState}
 use Rattle.skip_groups.specs.declared.new_cells.NewCells.{NewCells}
 use Rattle.skip_groups.specs.declared.new_cells.Step.{Step}

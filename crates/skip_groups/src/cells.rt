@@ -6,7 +6,7 @@ ghost use Rattle.store_model.specs.Pages.{IsCell};
 ghost use Rattle.store_base.specs.Leads.{model_lead};
 ghost use Rattle.skip_groups.specs.Floors.{last_of, lead_from};
 ghost use Rattle.skip_groups.specs.GroupCells.{AreCells, IsRisingList, AreBetween, IsKept, IsFirstCell, IsMerged, last_key_of, is_behind, side, merged};
-ghost use Rattle.skip_groups.specs.Insertions.{IsInsertPlace};
+ghost use Rattle.skip_groups.specs.InsertPlaces.{IsInsertPlace};
 
 use crate::group::is_last;
 use crate::group_search::count_not_above;

@@ -41,7 +41,7 @@ pub enum Step {
 impl NewCells {
     ghost use Rattle.skip_groups.specs.GroupParts.{IsParted};
     ghost use Rattle.skip_groups.specs.NewCells.{IsCellsSet, IsStep, IsStepBehind, IsEnd};
-    ghost use Rattle.skip_groups.specs.Insertions.{IsInsertPlace};
+    ghost use Rattle.skip_groups.specs.InsertPlaces.{IsInsertPlace};
 
     /// What is known behind a page that others may follow.
     fn step_behind(level: u8, page: &Page) -> Step

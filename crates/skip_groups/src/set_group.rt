@@ -12,7 +12,7 @@ ghost use Rattle.node_pages.specs.PagesState.{IsObservable, most_pages};
 ghost use Rattle.skip_groups.specs.GroupCells.{AreCells, IsRisingList};
 ghost use Rattle.skip_groups.specs.GroupChanges.{IsRunChange};
 ghost use Rattle.skip_groups.specs.GroupParts.{IsParted, IsGroupParted};
-ghost use Rattle.skip_groups.specs.Insertions.{IsSetRead};
+ghost use Rattle.skip_groups.specs.InsertPlaces.{IsSetRead};
 ghost use Rattle.skip_groups.specs.NewCells.{IsCellsSet};
 
 use crate::cells::lead_before;

@@ -14,7 +14,7 @@ use Rattle.store_model.specs.Labels.Lead.{Leader}
 use Rattle.store_model.specs.Pages.{Cell, Page, page_room, group_pages}
 use Rattle.store_model.specs.PageMaps.{map_of_pages}
 use Rattle.node_pages.specs.Cells.{CellList}
-use Rattle.node_pages.specs.Groups.{pages_from}
+use Rattle.node_pages.specs.LastPages.{pages_from}
 use Rattle.node_pages.specs.PagesState.{PagesState, IsObservable, most_pages}
 use Rattle.node_pages.proofs.Joined.{cells_of_group}
 use Rattle.node_pages.proofs.Runs.{all_pages, no_page, length-pages_from}

@@ -10,7 +10,7 @@ use Rattle.store_model.specs.Pages.{Cell, Page, IsPage, cell_on, level_list, lev
 use Rattle.store_model.proofs.ListsLemmas.{all_append, all_front, all_back}
 use Rattle.store_model.proofs.PagesLemmasOrder.{cell_cmp, rising_level_list}
 use Rattle.store_model.proofs.PagesLemmasSizes.{IsPairList, level_pages_are_pages}
-use Rattle.node_pages.specs.Groups.{page_of_run}
+use Rattle.node_pages.specs.LastPages.{page_of_run}
 use Rattle.skip_groups.specs.Groups.{AreNumbered, IsNumbered}
 use Rattle.skip_groups.specs.GroupChanges.{AreApart, IsChange}
 use Rattle.skip_levels.specs.SearchPath.{leader_behind}

@@ -20,7 +20,7 @@ use Rattle.store_model.proofs.ListsLemmasCuts as cut_lemmas
 use Rattle.store_model.proofs.ListsLemmasCuts.{flat_map-cut_before, all_parts, cut_before_begins, AllButFirst}
 use Rattle.store_model.proofs.PagesLemmasOrder.{cell_on-key, cell_cmp, rising_level_list}
 use Rattle.store_model.proofs.PagesLemmasSizes.{IsPairList, pages_are_pages}
-use Rattle.node_pages.specs.Groups.{page_of_run}
+use Rattle.node_pages.specs.LastPages.{page_of_run}
 use Rattle.skip_groups.specs.Groups.{HoldsGroup}
 use Rattle.skip_levels.specs.SearchPath.{last_lead, leader_behind}
 use Rattle.skip_levels.proofs.Apart.{BeginsAtCut, IsUncut, list_pages, pages_of_group, first_part}

@@ -11,13 +11,13 @@ use Rattle.store_model.specs.Lists.{runs, run_count}
 use Rattle.store_model.specs.Labels.{Lead, Label}
 use Rattle.store_model.specs.Pages.{Cell, Page, page_room, group_pages}
 use Rattle.store_model.specs.PageMaps.{IsPageMap, map_of_pages, page_at}
-use Rattle.node_pages.specs.Groups.{pages_from}
+use Rattle.node_pages.specs.LastPages.{pages_from}
 use Rattle.node_pages.specs.PagesState.{PagesState, IsObservable, HasPlace, IsCellInsert, most_pages}
 use Rattle.node_pages.proofs.Runs.{length-pages_from, length-runs}
 use Rattle.skip_groups.specs.declared.new_cells.NewCells.{NewCells}
 use Rattle.skip_groups.specs.GroupCells.{merged}
 use Rattle.skip_groups.specs.Groups.{label_of}
-use Rattle.skip_groups.specs.Insertions.{IsPlaceRead, with_place}
+use Rattle.skip_groups.specs.InsertPlaces.{IsPlaceRead, with_place}
 use Rattle.skip_groups.specs.GroupChanges.{changed_pages, IsChange, IsCellRun, IsRunChange}
 use Rattle.skip_levels.specs.CellChanges.{PagesHaveRoom, SetsCells}
 use Rattle.skip_groups.specs.NewCells.{IsRenewed, IsNewCellsRead}

@@ -27,7 +27,7 @@ fn byte_of(kind: DrawKind) -> u8
 }
 
 /// The kind of draw that a byte names.
-fn kind_of(byte: u8) -> Option<DrawKind>
+fn draw_kind_of(byte: u8) -> Option<DrawKind>
     ensures found { IfSome result (λ kind. kind_byte kind ≡ byte) }
     ensures only { (kind : DrawKind) → kind_byte kind ≡ byte → result ≡ Some kind }
 {
@@ -63,7 +63,7 @@ pub fn read_header(block: &Slot) -> Option<Params>
     slots.copy_from_slice(&block[8..12]);
     let mut seed = [0; 32];
     seed.copy_from_slice(&block[16..48]);
-    let kind = kind_of(block[13])?;
+    let kind = draw_kind_of(block[13])?;
     let params = Params::new(u32::from_be_bytes(slots), block[12], kind, seed).ok()?;
     // Every other byte of a header is as it is written.
     let mut written = [0; BLOCK];

@@ -5,8 +5,8 @@ use Rattle.store_model.specs.Trees.{Tree}
 use Rattle.disk_model.specs.DiskState.{DiskState}
 use Rattle.gate_journal.specs.Places.{Made, Makes, ReadsOnly}
 use Rattle.store_base.specs.Counts.{raised}
-use Rattle.store_core.specs.Changes.{slots_between}
-use Rattle.image_check.specs.Contents.{table_of}
+use Rattle.store_core.specs.TableChanges.{slots_between}
+use Rattle.image_check.specs.Contents.{table_of_tree}
 use Rattle.gate_journal.specs.Costs.{MadeAtMost, opening_writes, opening_syncs, CountsCommit}
 use Rattle.gate_journal.specs.Phases.{HasEmptyJournal}
 use Rattle.gate_journal.specs.Recovery.{redo_writes, redo_syncs, erase_writes}
@@ -65,7 +65,7 @@ counts_behind slots old mid new (Err fault) reads counts = record {
 
 -- where the tree stays no slot differs
 pub none_between : (p : Parameters) (t u : Tree) → u ≡ t → slots_between p t u ≡ 0
-none_between p t u same = ap (slots_between p t) same ∙ differing-itself (table_of t p) p.slots
+none_between p t u same = ap (slots_between p t) same ∙ differing-itself (table_of_tree t p) p.slots
 
 -- ---- opening an image
 

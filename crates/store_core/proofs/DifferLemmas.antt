@@ -6,7 +6,7 @@ use Rattle.std.proofs.lemmas.Bool.{cases_Bool}
 use Rattle.std.proofs.lemmas.List.Sums.{sum_by-append}
 use Rattle.store_model.specs.Lists.{numbers_from, same_bytes}
 use Rattle.store_model.specs.Placement.{Table}
-use Rattle.store_core.specs.Changes.{bytes_of, differing}
+use Rattle.store_core.specs.TableChanges.{bytes_of, differing}
 
 numbers_from-last : (first n : ℕ) → numbers_from first (suc n) ≡ numbers_from first n ++ (first + n) ∷ []
 unfolding numbers_from

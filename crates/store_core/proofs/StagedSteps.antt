@@ -31,7 +31,7 @@ use Rattle.tree_commands.specs.Counted.{counted_step}
 use Rattle.tree_commands.proofs.StepLemmas.{counted_fits, counted_full}
 use Rattle.image_check.specs.declared.fault.ApplyFault.{ApplyFault}
 use Rattle.image_check.specs.declared.fault.ApplyFault.TheVariants as apply
-use Rattle.store_core.specs.Changes.{slots_between}
+use Rattle.store_core.specs.TableChanges.{slots_between}
 use Rattle.image_check.specs.Faults.{apply_faults_after}
 use Rattle.image_check.specs.Standing.{IsFitting, Stands}
 use Rattle.store_core.specs.StagedTree.{AreAt, IsStagedFor}

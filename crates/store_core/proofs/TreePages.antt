@@ -17,14 +17,14 @@ use Rattle.store_model.proofs.PageMapsLemmas.{len-pages_of_map, pages_of_pairs_m
 use Rattle.store_model.proofs.PlacementLemmas.{IsPermutation-place}
 use Rattle.store_model.proofs.PlacementLemmasDraws.{IsLawful-draw_of}
 use Rattle.disk_model.specs.DiskState.{DiskState}
-use Rattle.image_check.specs.Contents.{table_of}
+use Rattle.image_check.specs.Contents.{table_of_tree}
 use Rattle.skip_levels.specs.Descent.{HoldsPairs}
 use Rattle.tree_pairs.specs.TreeCalls.{pairs_limit}
 use Rattle.table_memory.specs.Differences as places
 use Rattle.page_store.specs.PageImages as images
 use Rattle.page_store.proofs.SlotLemmas.{pages_in_held}
 use Rattle.page_store.proofs.TreeLayouts.{tree_layout, layout_of_tree}
-use Rattle.store_core.specs.Changes.{bytes_of, slots_between}
+use Rattle.store_core.specs.TableChanges.{bytes_of, slots_between}
 use Rattle.image_check.specs.Standing.{IsFitting, Stands}
 
 -- a tree that fits has at most ten pairs a slot
@@ -86,7 +86,7 @@ table_pages t p image fitting is =
     (layout_of_tree t p fitting.in_range fitting.tree fitting.fits image is).holds
 
 -- the slots of the placement of its pages are those of its table
-placed_as : (t : Tree) (p : Parameters) (i : ℕ) → IsFitting t p → images.placed_slot (draw_of p) (map_of_pages (pages t p)) i ≡ bytes_of (table_of t p) i
+placed_as : (t : Tree) (p : Parameters) (i : ℕ) → IsFitting t p → images.placed_slot (draw_of p) (map_of_pages (pages t p)) i ≡ bytes_of (table_of_tree t p) i
 placed_as t p i fitting = ap (λ (ps : List Page). option_map_or slot_bytes (slice_get (place (draw_of p) ps) i) []) (pages_again t p fitting)
 
 -- as many slots differ between the placements of the pages of two trees as between their layouts
@@ -95,6 +95,6 @@ unfolding draw_of
 slots_as t u p from to = ap₂ (λ (old new : ℕ → List ℕ). places.differing old new p.slots) (λ j i. placed_as t p i from j) (λ j i. placed_as u p i to j)
 
 -- the table of its layout has as many pages
-pub table_count : (t : Tree) (p : Parameters) → IsFitting t p → length (pages_in (table_of t p)) ≡ page_count t p
+pub table_count : (t : Tree) (p : Parameters) → IsFitting t p → length (pages_in (table_of_tree t p)) ≡ page_count t p
 unfolding draw_of
-table_count t p fitting = length_permutation (pages t p) (pages_in (table_of t p)) (IsPermutation-place (draw_of p) (pages t p) (IsLawful-draw_of p fitting.in_range) fitting.fits)
+table_count t p fitting = length_permutation (pages t p) (pages_in (table_of_tree t p)) (IsPermutation-place (draw_of p) (pages t p) (IsLawful-draw_of p fitting.in_range) fitting.fits)

@@ -14,7 +14,7 @@ use Rattle.gate_journal.specs.Places.{ReadsOnly}
 use Rattle.gate_journal.proofs.Layouts.{recovered-represents}
 use Rattle.gate_journal.proofs.Reading.{ReadsOnly-trans}
 use Rattle.image_check.specs.declared.fault.ApplyFault.{ApplyFault}
-use Rattle.store_core.specs.Changes.{slots_between}
+use Rattle.store_core.specs.TableChanges.{slots_between}
 use Rattle.image_check.specs.Standing.{IsFitting, Stands}
 use Rattle.store_core.specs.StoreCalls.{ChangesImage}
 use Rattle.store_core.proofs.CostLemmas.{counts_reading, counts_behind, none_between}

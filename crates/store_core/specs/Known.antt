@@ -47,8 +47,8 @@ IsNode-prop (File bytes) = hlevel props
 IsTree-prop : (t : Tree) → IsProp (IsTree t)
 IsTree-prop t = hlevel (props, AllByRecursion-prop, IsNode-prop)
 
-IsKnown-prop : (disk : DiskState) (p : Parameters) (opened : List Pair) (t : Tree) → IsProp (IsKnownTree disk p opened t)
-IsKnown-prop disk p opened t = hlevel (props, IsTree-prop)
+IsKnownTree-prop : (disk : DiskState) (p : Parameters) (opened : List Pair) (t : Tree) → IsProp (IsKnownTree disk p opened t)
+IsKnownTree-prop disk p opened t = hlevel (props, IsTree-prop)
 
 pub one_known : (disk : DiskState) (p : Parameters) (opened : List Pair) (t u : Tree) → IsKnownTree disk p opened t → IsKnownTree disk p opened u → t ≡ u
 one_known disk p opened t u a b =
@@ -62,4 +62,4 @@ one_known disk p opened t u a b =
 pub TellsTree-prop : (disk : DiskState) (p : Parameters) (opened : List Pair) → IsProp (TellsTree disk p opened)
 TellsTree-prop disk p opened x y =
     let same : x.0 ≡ y.0 = one_known disk p opened x.0 y.0 x.1 y.1 in
-    subst (λ (t : Tree). (h : IsKnownTree disk p opened t) → x ≡ (t, h)) same (λ h. ap (λ (g : IsKnownTree disk p opened x.0). (x.0, g)) (IsKnown-prop disk p opened x.0 x.1 h)) y.1
+    subst (λ (t : Tree). (h : IsKnownTree disk p opened t) → x ≡ (t, h)) same (λ h. ap (λ (g : IsKnownTree disk p opened x.0). (x.0, g)) (IsKnownTree-prop disk p opened x.0 x.1 h)) y.1

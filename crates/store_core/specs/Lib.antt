@@ -1,4 +1,4 @@
-pub mod Changes
+pub mod TableChanges
 pub mod Known
 pub mod Opening
 pub mod StagedTree

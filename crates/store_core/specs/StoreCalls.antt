@@ -18,7 +18,7 @@ use Rattle.image_check.specs.declared.fault.AttachFault.{AttachFault}
 use Rattle.image_check.specs.declared.fault.AttachFault.TheVariants as attach
 use Rattle.image_check.specs.declared.fault.ApplyFault.{ApplyFault}
 use Rattle.image_check.specs.declared.fault.ApplyFault.TheVariants as apply
-use Rattle.store_core.specs.Changes.{slots_between}
+use Rattle.store_core.specs.TableChanges.{slots_between}
 use Rattle.image_check.specs.Faults.{attach_faults_by, apply_faults_after}
 use Rattle.image_check.specs.Standing.{IsFitting, Stands}
 use Rattle.store_core.specs.StoreState.{StoreState}

@@ -6,7 +6,7 @@ use Rattle.disk_model.specs.DiskState.{DiskState}
 use Rattle.gate_journal.specs.Disks.{IsOnlySynced}
 use Rattle.gate_journal.specs.Places.{Made, ReadsOnly}
 use Rattle.gate_journal.specs.Costs.{MadeAtMost, commit_writes, commit_syncs, opening_writes, opening_syncs}
-use Rattle.store_core.specs.Changes.{slots_between}
+use Rattle.store_core.specs.TableChanges.{slots_between}
 use Rattle.store_core.proofs.CostLemmas.{made_reading, made_then, at_most_then, made_as, at_most_as, at_most}
 use Rattle.image_subcommands.specs.declared.status.Status.{Status}
 use Rattle.image_subcommands.specs.declared.status.Status.TheVariants as statuses

@@ -51,9 +51,9 @@ asked_in command (Ok asked) = Ok (asked_for command asked)
 asked_in command (Err error) = Err error
 
 -- what may be asked for falls where something is
-abbrev pub FallsAt : ℕ → ℕ → Option (Result Command Refusal) → Type 0
-FallsAt old new (Some asked) = new < old
-FallsAt old new None = new ≤ old
+abbrev pub LeavesLess : ℕ → ℕ → Option (Result Command Refusal) → Type 0
+LeavesLess old new (Some asked) = new < old
+LeavesLess old new None = new ≤ old
 
 -- a call ended so by another fault than one of the disk
 pub record SparesDisk (status : Status) : Type 0 where

@@ -46,7 +46,7 @@ pub trait Work {
     ghost use Rattle.store_model.specs.declared.refusal.Refusal.{Refusal};
     ghost use Rattle.script_lines.specs.declared.command.Command.{Command};
     ghost use Rattle.image_subcommands.specs.declared.status.Status.{Status};
-    ghost use Rattle.store_top.specs.Turns.{Start, FallsAt, IsNext, IsTurn, RepliesTo, asked_in};
+    ghost use Rattle.store_top.specs.Turns.{Start, LeavesLess, IsNext, IsTurn, RepliesTo, asked_in};
 
     /// Whether it tells what it will ask for.
     ghost told: { Self → Type 0 };
@@ -75,7 +75,7 @@ pub trait Work {
     fn next(&mut self, command: &mut Command) -> Result<Asked, Status>
         requires { live self.old }
         ensures live { OnOk result (live self.new) }
-        ensures falls { IfOk (asked_in command.new result) (FallsAt (left self.old) (left self.new)) }
+        ensures falls { IfOk (asked_in command.new result) (LeavesLess (left self.old) (left self.new)) }
         ensures turn { (start : Start) (first : Self) (done : ℕ) → kept start first self.old done → IsNext told trees ends due start first self.new done (asked_in command.new result) };
 
     /// Takes the reply to what was asked for. `Err` has the status of a call that a fault of the work ended.

@@ -14,7 +14,7 @@ use Rattle.gate_journal.proofs.Calls.{AreCalls-none, AreCalls-one, AreCalls-answ
 use Rattle.gate_journal.proofs.Layouts.{with-slots-changed, with-slots-kept}
 use Rattle.gate_journal.proofs.Reading.{ReadsOnly-refl, ReadsOnly-read}
 use Rattle.lru.specs.LruCache.{LruCache, promoted, put_entries, lru_cache}
-use Rattle.table_memory.specs.Caches.{Kept, kept_at, IsTableSlot, IsSlotCacheOf, KeepsAll, KeepsFew, most_kept, KeepsOne, Rewrites, changes_of, RewritesFirst, ReadsSlot, IsOfKept, TellsOfSlot}
+use Rattle.table_memory.specs.SlotCaches.{Kept, kept_at, IsTableSlot, IsSlotCacheOf, KeepsAll, KeepsFew, most_kept, KeepsOne, Rewrites, changes_of, RewritesFirst, ReadsSlot, IsOfKept, TellsOfSlot}
 
 same_number : (i j : ℕ) → nat_eq i j ≡ true → i ≡ j
 same_number i j is = grind (arith, is)

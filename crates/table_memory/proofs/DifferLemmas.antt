@@ -8,7 +8,7 @@ use Rattle.std.proofs.lemmas.List.Sums.{sum_by-cons}
 use Rattle.store_model.specs.Lists.{numbers_from, same_bytes}
 use Rattle.gate_journal.specs.Changes.{Changes, AreChanges}
 use Rattle.gate_journal.proofs.Counting.{sum_split, sum_one, sum_same}
-use Rattle.table_memory.specs.Caches.{changes_of}
+use Rattle.table_memory.specs.SlotCaches.{changes_of}
 use Rattle.table_memory.proofs.CacheLemmas.{last_or_below}
 use Rattle.table_memory.specs.Differences.{differing, AreDifferences}
 

@@ -19,7 +19,7 @@ use Rattle.gate_journal.specs.Places.{AreCalls, ReadsOnly}
 use Rattle.gate_journal.proofs.Calls.{AreCalls-none, AreCalls-answered, AreCalls-then, observable_after}
 use Rattle.gate_journal.proofs.Reading.{ReadsOnly-refl, ReadsOnly-trans}
 use Rattle.table_memory.specs.declared.changed.ChangedSlots.{ChangedSlots}
-use Rattle.table_memory.specs.Caches.{Kept, IsSlotCacheOf, changes_of, TellsOfSlot}
+use Rattle.table_memory.specs.SlotCaches.{Kept, IsSlotCacheOf, changes_of, TellsOfSlot}
 use Rattle.table_memory.specs.Differences.{AreDifferences}
 use Rattle.table_memory.specs.OverlayState.{touched_at, bytes_or, slot_over}
 use Rattle.table_memory.specs.Comparing.{FindsChanges}

@@ -7,7 +7,7 @@ use Rattle.gate_journal.specs.Changes.{AreChanges}
 use Rattle.gate_journal.specs.Disks.{KeepsDisk}
 use Rattle.gate_journal.specs.Phases.{table_slot}
 use Rattle.gate_journal.specs.Places.{ReadsOnly}
-use Rattle.table_memory.specs.Caches.{Kept, IsSlotCacheOf, changes_of}
+use Rattle.table_memory.specs.SlotCaches.{Kept, IsSlotCacheOf, changes_of}
 use Rattle.table_memory.specs.OverlayState.{slot_over}
 use Rattle.table_memory.specs.declared.changed.ChangedSlots.{ChangedSlots}
 use Rattle.table_memory.specs.Differences.{AreDifferences}

@@ -1,4 +1,4 @@
-pub mod Caches
+pub mod SlotCaches
 pub mod Codes
 pub mod Memos
 pub mod OverlayState

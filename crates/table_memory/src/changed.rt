@@ -1,7 +1,7 @@
 //! Slots of a table that a settle commits.
 
 ghost use Rattle.std.specs.Prelude.{◌≡◌, ◌<◌, length};
-ghost use Rattle.table_memory.specs.Caches.{changes_of};
+ghost use Rattle.table_memory.specs.SlotCaches.{changes_of};
 
 use crate::boxed::Boxed;
 use gate_journal::SlotChanges;

@@ -2,7 +2,7 @@
 
 ghost use Rattle.std.specs.Prelude.{◌≡◌, ◌<◌, ◌≤◌, ℕ, List, length, Some};
 ghost use Rattle.store_model.specs.Parameters.{image_len, block_len, slots_limit};
-ghost use Rattle.table_memory.specs.Caches.{IsSlotCacheOf};
+ghost use Rattle.table_memory.specs.SlotCaches.{IsSlotCacheOf};
 ghost use Rattle.table_memory.specs.OverlayState.{touched_at};
 ghost use Rattle.table_memory.specs.Comparing.{FindsChanges};
 

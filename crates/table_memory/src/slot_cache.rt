@@ -3,7 +3,7 @@
 ghost use Rattle.std.specs.Prelude.{◌≡◌, ◌<◌, ◌≤◌, ℕ, List, [], Some, IfOk, IfSome, length};
 ghost use Rattle.std.specs.Bool.{OnTrue};
 ghost use Rattle.store_model.specs.Parameters.{image_len, slots_limit};
-ghost use Rattle.table_memory.specs.Caches.{kept_at, KeepsAll, KeepsNoMore, KeepsOne, Rewrites, changes_of, RewritesFirst, most_kept, IsSlotCacheOf, ReadsSlot, IsOfKept, TellsOfSlot};
+ghost use Rattle.table_memory.specs.SlotCaches.{kept_at, KeepsAll, KeepsNoMore, KeepsOne, Rewrites, changes_of, RewritesFirst, most_kept, IsSlotCacheOf, ReadsSlot, IsOfKept, TellsOfSlot};
 
 use crate::boxed::Boxed;
 use crate::spares::Spares;
@@ -29,7 +29,7 @@ pub struct SlotCache {
 impl Model for SlotCache {
     ghost use Rattle.std.specs.Prelude.{ℕ, List};
     ghost use Rattle.std.specs.Coded.{coded×, coded_ℕ, coded_list};
-    ghost use Rattle.table_memory.specs.Caches.{KeepsFew};
+    ghost use Rattle.table_memory.specs.SlotCaches.{KeepsFew};
 
     ghost Value = { List (ℕ × List ℕ) };
 

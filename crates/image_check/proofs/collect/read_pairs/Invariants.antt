@@ -3,7 +3,7 @@ use Rattle.std.specs.List.{AllByRecursion}
 use Rattle.store_model.specs.Images.{slots_of}
 use Rattle.store_model.specs.Placement.{Table}
 use Rattle.store_base.specs.SlotsState.{IsObservable}
-use Rattle.image_check.specs.Collected.{MayHold, pairs_of_pages}
+use Rattle.image_check.specs.Collected.{MayHold, pairs_of_table}
 use Rattle.layout_scratch.proofs.ReadLemmas.{ReadSoFar}
 use Rattle.image_check.proofs.collect.read_pairs.Given as goal
 
@@ -14,5 +14,5 @@ invariant-loop-at g l =
     record {
       so_far : ReadSoFar (g.S.ReadSlots.follows l.fn.slots l.slots) old (g.S.ReadSlots.state l.slots);
       few : length l.pairs.items ≤ 10 * l.at;
-      pairs : IsObservable old → (table : Table) → old.slots ≡ slots_of table → AllByRecursion MayHold table → l.pairs.items ≡ pairs_of_pages (take l.at table);
+      pairs : IsObservable old → (table : Table) → old.slots ≡ slots_of table → AllByRecursion MayHold table → l.pairs.items ≡ pairs_of_table (take l.at table);
     }

@@ -4,7 +4,7 @@ use Rattle.store_model.specs.Paths.{Path}
 use Rattle.store_model.specs.Pairs.{node_pairs}
 use Rattle.tree_pairs.specs.declared.kind.Kind.{Kind}
 use Rattle.tree_pairs.specs.Kinds.{kind_of}
-use Rattle.image_check.specs.Entries.{IsFirst}
+use Rattle.image_check.specs.PairFronts.{IsFirst}
 use Rattle.image_check.proofs.EntryLemmas.{first_is, front_read, some_first, all_there, stands_first}
 use Rattle.image_check.proofs.entry.first_entry.Goals as goal
 

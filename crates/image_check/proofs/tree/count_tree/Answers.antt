@@ -3,7 +3,7 @@ use Rattle.std.proofs.lemmas.Bool.{false≢true}
 use Rattle.store_model.specs.Paths.{Path, parent}
 use Rattle.store_model.specs.Pairs.{Pair, pairs}
 use Rattle.store_model.specs.Trees.{Tree, IsTree}
-use Rattle.image_check.specs.Entries.{StandsFirst}
+use Rattle.image_check.specs.PairFronts.{StandsFirst}
 use Rattle.image_check.specs.Parents.{MayHaveChildren}
 use Rattle.image_check.proofs.Walk.{walk_none, walk_more, walk_all, in_range_more, to_the_end, next_entry, parent_in_pairs}
 use Rattle.image_check.proofs.tree.count_tree.Goals as goal

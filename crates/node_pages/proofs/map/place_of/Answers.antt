@@ -1,7 +1,7 @@
 use Rattle.std.proofs.Common.{rules}
 use Rattle.std.proofs.lemmas.Fn.{always_returns_same}
 use Rattle.store_model.specs.Labels.{label_bytes, label_cmp}
-use Rattle.node_pages.specs.Entries.{entry_of}
+use Rattle.node_pages.specs.PageEntries.{entry_of}
 use Rattle.node_pages.proofs.PlaceLemmas.{searched_through}
 use Rattle.node_pages.proofs.map.place_of.Goals as goal
 

@@ -1,6 +1,6 @@
 use Rattle.std.proofs.Common.{◌≡◌, ◌<◌, ℕ, List, Some, sym, ap, subst, ◌∙◌}
 use Rattle.store_model.specs.Parameters.{image_len}
-use Rattle.table_memory.specs.Caches.{IsSlotCacheOf}
+use Rattle.table_memory.specs.SlotCaches.{IsSlotCacheOf}
 use Rattle.table_memory.specs.OverlayState.{touched_at}
 use Rattle.table_memory.specs.Comparing.{FindsChanges}
 use Rattle.page_store.proofs.FindLemmas.{slots_found}

@@ -1,5 +1,5 @@
 use Rattle.std.proofs.Common.{◌∙◌}
-use Rattle.table_memory.specs.Caches.{changes_of}
+use Rattle.table_memory.specs.SlotCaches.{changes_of}
 use Rattle.table_memory.proofs.CacheLemmas.{cache_committed, cache_empty}
 use Rattle.page_store.proofs.write_back.commit_slots.Goals as goal
 

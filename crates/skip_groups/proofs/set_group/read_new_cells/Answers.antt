@@ -7,7 +7,7 @@ use Rattle.node_pages.specs.Cells.{CellList}
 use Rattle.skip_groups.specs.declared.new_cells.Step.TheVariants.{More, Done, Same}
 use Rattle.skip_groups.specs.Groups.{label_of}
 use Rattle.skip_groups.specs.GroupCells.{AreCells}
-use Rattle.skip_groups.specs.Insertions.{IsInsertPlace}
+use Rattle.skip_groups.specs.InsertPlaces.{IsInsertPlace}
 use Rattle.skip_groups.specs.NewCells.{IsCellsSet, IsStep, IsEnd}
 use Rattle.skip_groups.proofs.CellLists.{no_cells}
 use Rattle.skip_groups.proofs.KeyRanges.{list_on}

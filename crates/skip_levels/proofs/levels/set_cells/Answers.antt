@@ -1,7 +1,7 @@
 use Rattle.std.proofs.Common.{◌<◌, IfSome, None, Some, Ok, Err, refl, ◌∙◌, subst}
 use Rattle.std.proofs.lemmas.Result.{err_from_is_err_and}
 use Rattle.store_base.specs.Leads.{model_lead}
-use Rattle.skip_groups.specs.Insertions.{IsSetRead}
+use Rattle.skip_groups.specs.InsertPlaces.{IsSetRead}
 use Rattle.skip_levels.proofs.SetCalls.{room_to_change, cells_set, cells_not_read, cells_not_set, takes_cell, cell_inserted, cell_not_inserted}
 use Rattle.skip_levels.proofs.levels.set_cells.Goals as goal
 

@@ -1,6 +1,6 @@
 use Rattle.std.proofs.Common.{Ok, sym, subst}
 use Rattle.std.proofs.lemmas.Result.{err_from_is_err_and}
-use Rattle.store_top.specs.Turns.{start_of, AnswersAll, FallsAt, IsNext, asked_for}
+use Rattle.store_top.specs.Turns.{start_of, AnswersAll, LeavesLess, IsNext, asked_for}
 use Rattle.store_top.proofs.WorkTurns.{SoFar, so_far_none, so_far_more, replies, at_end, at_stop, at_fault, at_reply, was_asked, fault_met, none_asked}
 use Rattle.store_top.proofs.work.answer_each.Goals as goal
 
@@ -41,7 +41,7 @@ turns-preserved g c =
     let was = was_asked g.D.Disk.state c.turns.store c.answer_asked.new.store c.answer_asked.new.reply c.in_ok-answer_asked.field-0 (asked_for c.next.new.command c.in_ok-next.field-0) c.if-branch.true c.in_ok-answer_asked.ensures in
     let asks = subst (λ asked. IsNext g.J.Work.told g.J.Work.trees g.J.Work.ends g.J.Work.due start c.args.work.now c.next.new.self c.turns.done (Ok asked)) was.turn_is (c.in_ok-next.ensures.turn start c.args.work.now c.turns.done c.turns.invariant.work) in
     let replies = replies g.D.Disk.state g.J.Work.told g.J.Work.trees g.J.Work.left g.J.Work.live g.J.Work.kept g.J.Work.ends g.met.D.Disk.sound c.args.work.now c.args.store.now c.turns.work c.turns.store c.turns.done c.turns.invariant c.next.new.self was.turn asks c.answer_asked.new.store c.answer_asked.new.reply was.answers in
-    let falls = subst (λ asked. FallsAt (g.J.Work.left c.turns.work) (g.J.Work.left c.next.new.self) asked) was.turn_is c.in_ok-next.ensures.falls in
+    let falls = subst (λ asked. LeavesLess (g.J.Work.left c.turns.work) (g.J.Work.left c.next.new.self) asked) was.turn_is c.in_ok-next.ensures.falls in
     let taken = c.in_ok-answered.ensures in
     so_far_more g.D.Disk.state g.J.Work.told g.J.Work.trees g.J.Work.left g.J.Work.live g.J.Work.kept g.J.Work.ends g.met.D.Disk.sound c.args.work.now c.args.store.now c.turns.work c.turns.store c.turns.done c.turns.invariant c.next.new.self was.turn asks c.answer_asked.new.store c.answer_asked.new.reply was.answers
     c.answered.new.self falls taken.falls taken.live (taken.turn start c.args.work.now c.turns.done was.turn asks.due replies)

@@ -2,7 +2,7 @@ use Rattle.std.proofs.Common.{ℕ, List, Ok, Err, sym, ap, subst, ◌∙◌}
 use Rattle.std.proofs.lemmas.Result.{err_from_is_err_and}
 use Rattle.table_memory.proofs.MapLemmas.{none_left}
 use Rattle.table_memory.proofs.ScanLemmas.{IsScanning, IsSameAs, scanning_begins, next_below, scanning_passes, scanning_finds, left_over, left_after, found_all, none_reserved, none_found}
-use Rattle.table_memory.specs.Caches.{TellsOfSlot}
+use Rattle.table_memory.specs.SlotCaches.{TellsOfSlot}
 use Rattle.table_memory.specs.OverlayState.{touched_at}
 use Rattle.table_memory.specs.Comparing.{FindsChanges}
 use Rattle.table_memory.proofs.differing.find_changes.Goals as goal

@@ -1,5 +1,5 @@
 use Rattle.std.proofs.Common.{length}
-use Rattle.table_memory.specs.Caches.{IsSlotCacheOf}
+use Rattle.table_memory.specs.SlotCaches.{IsSlotCacheOf}
 use Rattle.table_memory.proofs.ScanLemmas.{IsScanning}
 use Rattle.table_memory.proofs.differing.find_changes.Given as goal
 

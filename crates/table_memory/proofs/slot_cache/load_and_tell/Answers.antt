@@ -2,7 +2,7 @@ use Rattle.std.proofs.Common.{ℕ, List, Result, Ok, Err, refl, sym, ap, subst, 
 use Rattle.std.proofs.lemmas.Result.{err_from_is_err_and}
 use Rattle.store_base.specs.declared.fault.DiskFault.{DiskFault}
 use Rattle.disk_model.specs.DiskCalls.{IsRead}
-use Rattle.table_memory.specs.Caches.{IsSlotCacheOf, TellsOfSlot}
+use Rattle.table_memory.specs.SlotCaches.{IsSlotCacheOf, TellsOfSlot}
 use Rattle.table_memory.proofs.CacheLemmas.{slot_failed, slot_read, told_by_read, told_nothing}
 use Rattle.table_memory.proofs.slot_cache.load_and_tell.Goals as goal
 

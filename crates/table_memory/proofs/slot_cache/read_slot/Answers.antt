@@ -2,7 +2,7 @@ use Rattle.std.proofs.Common.{◌≡◌, ℕ, length, Result, Ok, Err, sym, ap, 
 use Rattle.std.proofs.lemmas.Result.{err_from_is_err_and}
 use Rattle.store_base.specs.declared.fault.DiskFault.{DiskFault}
 use Rattle.disk_model.specs.DiskCalls.{IsRead}
-use Rattle.table_memory.specs.Caches.{ReadsSlot}
+use Rattle.table_memory.specs.SlotCaches.{ReadsSlot}
 use Rattle.table_memory.proofs.CacheLemmas.{slot_fetched, slot_failed, slot_read}
 use Rattle.table_memory.proofs.slot_cache.read_slot.Goals as goal
 

@@ -1,7 +1,7 @@
 use Rattle.std.proofs.Common.{Err, ap, ◌∙◌}
 use Rattle.std.proofs.lemmas.Result.{err_from_is_err_and}
 use Rattle.store_model.specs.Parameters.{Parameters}
-use Rattle.page_store.specs.Overlays.{slots_of}
+use Rattle.page_store.specs.Overlays.{slots_seen}
 use Rattle.page_store.proofs.LookupLemmas.{page_read, consults_get}
 use Rattle.page_store.proofs.KnownLemmas.{memo_more}
 use Rattle.page_store.proofs.lookup.Lookup.remember_at.Goals as goal
@@ -10,8 +10,8 @@ pub invariant_of-self-2 : goal.invariant_of-self-2
 invariant_of-self-2 g c =
     let s = c.args.self.now in
     let d = g.W.Draw.drawn s.finder.draw in
-    let old = slots_of g.D.Disk.state s.overlay in
-    let new = slots_of g.D.Disk.state c.get.new.self in
+    let old = slots_seen g.D.Disk.state s.overlay in
+    let new = slots_seen g.D.Disk.state c.get.new.self in
     let read = page_read d old old new c.args.label.now c.args.at c.get.new.into c.decode_page.result c.requires c.in_ok-get.ensures.call c.decode_page.ensures.only in
     record {
       drawn = ap (λ (p : Parameters). p.slots) c.in_ok-get.ensures.follows.params ∙ s.drawn;

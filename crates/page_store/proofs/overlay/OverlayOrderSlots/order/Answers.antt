@@ -2,7 +2,7 @@ use Rattle.std.proofs.Common.{ℕ, List, Ok, Err, sym, subst}
 use Rattle.std.proofs.lemmas.Result.{err_from_is_err_and}
 use Rattle.gate_journal.specs.ViewState.{KeepsView-refl}
 use Rattle.ordered_table.specs.Tables.{TellsOrder}
-use Rattle.table_memory.specs.Caches.{IsSlotCacheOf, TellsOfSlot}
+use Rattle.table_memory.specs.SlotCaches.{IsSlotCacheOf, TellsOfSlot}
 use Rattle.page_store.specs.declared.label_order.LabelOrder.{LabelOrder}
 use Rattle.page_store.proofs.OverlayLemmas.{orders_touched, orders_below, orders_failed, view_read}
 use Rattle.page_store.proofs.overlay.OverlayOrderSlots.order.Goals as goal

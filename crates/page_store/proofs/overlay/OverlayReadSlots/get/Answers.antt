@@ -2,7 +2,7 @@ use Rattle.std.proofs.Common.{◌≡◌, ℕ, ◌+◌, List, Option, Some, Ok, E
 use Rattle.std.proofs.lemmas.Result.{err_from_is_err_and}
 use Rattle.gate_journal.specs.ViewState.{KeepsView-refl}
 use Rattle.store_model.specs.Lists.{numbers_below}
-use Rattle.table_memory.specs.Caches.{IsSlotCacheOf, ReadsSlot}
+use Rattle.table_memory.specs.SlotCaches.{IsSlotCacheOf, ReadsSlot}
 use Rattle.table_memory.specs.OverlayState.{bytes_or, slot_over}
 use Rattle.gate_journal.specs.Phases.{table_slot}
 use Rattle.page_store.proofs.OverlayLemmas.{get_number, get_failed, view_read}

@@ -4,7 +4,7 @@ use Rattle.gate_journal.specs.ViewState.{KeepsView-refl}
 use Rattle.page_store.specs.declared.fault.SettleFault.{SettleFault}
 use Rattle.page_store.specs.declared.fault.SettleFault.TheVariants as causes
 use Rattle.store_model.specs.Parameters.{Parameters}
-use Rattle.table_memory.specs.Caches.{IsSlotCacheOf}
+use Rattle.table_memory.specs.SlotCaches.{IsSlotCacheOf}
 use Rattle.page_store.specs.Preparing.{FindsSlots}
 use Rattle.page_store.specs.Settling.{Settles}
 use Rattle.page_store.specs.StagedState.{StagedState, staged_state}

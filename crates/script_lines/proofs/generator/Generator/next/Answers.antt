@@ -1,5 +1,5 @@
 use Rattle.std.proofs.Common.{sym, ap, ◌∙◌}
-use Rattle.script_lines.specs.Generated.{next_state, command_of_draw, draw_of, generated}
+use Rattle.script_lines.specs.Generated.{next_state, command_of_draw, drawn_number, generated}
 use Rattle.script_lines.proofs.Generating.{state_later}
 use Rattle.script_lines.proofs.generator.Generator.next.Goals as goal
 
@@ -8,4 +8,4 @@ returns-clause-state c number place here = c.next_state-self-inside.ensures ∙ 
 
 pub returns-clause-command : goal.returns-clause-command
 unfolding generated
-returns-clause-command c number place here = c.command_of_draw.ensures ∙ ap (λ x. command_of_draw (draw_of x)) (returns-clause-state c number place here)
+returns-clause-command c number place here = c.command_of_draw.ensures ∙ ap (λ x. command_of_draw (drawn_number x)) (returns-clause-state c number place here)

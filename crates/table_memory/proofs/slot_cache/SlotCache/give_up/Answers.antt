@@ -1,6 +1,6 @@
 use Rattle.std.proofs.Common.{ℕ, List, ◌-◌, length, ap, sym, subst, ◌∙◌}
 use Rattle.lru.specs.LruCache.{LruCache}
-use Rattle.table_memory.specs.Caches.{Kept, kept_at, KeepsNoMore}
+use Rattle.table_memory.specs.SlotCaches.{Kept, kept_at, KeepsNoMore}
 use Rattle.table_memory.proofs.CacheLemmas.{kept_in_first, few_first}
 use Rattle.table_memory.proofs.slot_cache.SlotCache.give_up.Goals as goal
 

@@ -1,5 +1,5 @@
 use Rattle.std.proofs.Common.{ℕ, List, subst}
-use Rattle.table_memory.specs.Caches.{KeepsOne}
+use Rattle.table_memory.specs.SlotCaches.{KeepsOne}
 use Rattle.table_memory.proofs.slot_cache.SlotCache.keep.Goals as goal
 
 pub returns-in-Ok : goal.returns-in-Ok

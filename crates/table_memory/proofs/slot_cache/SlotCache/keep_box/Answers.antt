@@ -1,5 +1,5 @@
 use Rattle.std.proofs.Common.{subst}
-use Rattle.table_memory.specs.Caches.{Kept, KeepsOne}
+use Rattle.table_memory.specs.SlotCaches.{Kept, KeepsOne}
 use Rattle.table_memory.proofs.CacheLemmas.{keeps_one, few_put}
 use Rattle.table_memory.proofs.slot_cache.SlotCache.keep_box.Goals as goal
 

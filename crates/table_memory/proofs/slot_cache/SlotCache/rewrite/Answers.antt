@@ -1,5 +1,5 @@
 use Rattle.std.proofs.Common.{subst, sym}
-use Rattle.table_memory.specs.Caches.{Kept, Rewrites}
+use Rattle.table_memory.specs.SlotCaches.{Kept, Rewrites}
 use Rattle.table_memory.proofs.CacheLemmas.{rewrites_kept, few_put}
 use Rattle.table_memory.proofs.slot_cache.SlotCache.rewrite.Goals as goal
 

@@ -1,7 +1,7 @@
 use Rattle.std.proofs.Common.{ℕ, subst, arith}
 use Rattle.std.proofs.lemmas.Iterator.Adapters.{YieldsList-from_vec}
 use Rattle.std.proofs.lemmas.Iterator.Consumers.{YieldsList-turn, YieldsList-end}
-use Rattle.table_memory.specs.Caches.{changes_of, RewritesFirst}
+use Rattle.table_memory.specs.SlotCaches.{changes_of, RewritesFirst}
 use Rattle.table_memory.proofs.CacheLemmas.{rewrites_turn}
 use Rattle.table_memory.proofs.slot_cache.SlotCache.rewrite_all.Goals as goal
 

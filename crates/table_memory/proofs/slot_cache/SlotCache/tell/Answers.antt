@@ -1,6 +1,6 @@
 use Rattle.std.proofs.Common.{ℕ, List, ap, ◌∙◌}
 use Rattle.lru.specs.LruCache.{LruCache}
-use Rattle.table_memory.specs.Caches.{Kept, kept_at}
+use Rattle.table_memory.specs.SlotCaches.{Kept, kept_at}
 use Rattle.table_memory.proofs.CacheLemmas.{kept_promoted, few_promoted}
 use Rattle.table_memory.proofs.slot_cache.SlotCache.tell.Goals as goal
 

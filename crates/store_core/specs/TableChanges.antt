@@ -7,7 +7,7 @@ use Rattle.store_model.specs.Parameters.{Parameters}
 use Rattle.store_model.specs.Trees.{Tree}
 use Rattle.store_model.specs.Placement.{Table}
 use Rattle.store_model.specs.Images.{slot_bytes}
-use Rattle.image_check.specs.Contents.{table_of}
+use Rattle.image_check.specs.Contents.{table_of_tree}
 
 -- the bytes of slot i of the table, and none past its end
 abbrev pub bytes_of : Table → ℕ → List ℕ
@@ -19,4 +19,4 @@ differing old new slots = count_by (λ i. not (same_bytes (bytes_of old i) (byte
 
 -- how many slots differ between the layouts of two trees
 abbrev pub slots_between : Parameters → Tree → Tree → ℕ
-slots_between p t u = differing (table_of t p) (table_of u p) p.slots
+slots_between p t u = differing (table_of_tree t p) (table_of_tree u p) p.slots
