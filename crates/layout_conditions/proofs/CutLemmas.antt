@@ -1,5 +1,5 @@
 -- The pages that a list of pairs is cut into meet the conditions.
-use Rattle.std.proofs.Common.{◌≡◌, ℕ, zero, suc, ◌+◌, ◌<◌, ◌≤◌, List, [], ◌∷◌, ◌++◌, map, length, Bool, true, false, cond, ◌⊎◌, inl, inr, Ordering, Less, Equal, nat_le, nat_lt, refl, sym, ap, ap₂, subst, ◌∙◌, arith, le-leb, add-one, mul-zero, ◌*◌, ◌↔◌}
+use Rattle.std.proofs.Common.{◌≡◌, ℕ, zero, suc, ◌+◌, ◌<◌, ◌≤◌, List, [], ◌∷◌, length, Bool, true, false, cond, ◌⊎◌, inl, inr, Less, nat_le, refl, sym, ap, ap₂, subst, ◌∙◌, arith, le-leb, add-one, mul-zero, ◌*◌, ◌↔◌}
 use Rattle.std.specs.Cmp.{tied_itself}
 use Rattle.std.specs.List.{AllByRecursion, Contains, filter, flat_map}
 use Rattle.std.specs.List.Sorted.{IsStrictlySortedBy}
@@ -14,7 +14,7 @@ use Rattle.store_model.specs.Pairs.{Pair}
 use Rattle.store_model.specs.Pages.{Cell, Page, page_room, cell_on, level_list, leads_group, groups, lead_of, group_pages, level_pages, pages_of_pairs, IsPage}
 use Rattle.store_model.proofs.ListsLemmas.{rising_back}
 use Rattle.store_model.proofs.ListsLemmasCuts.{IsUncut, BeginsAtCut, AllButFirst, flat_map-cut_before, rising_parts, cut_before_is_uncut, cut_before_begins}
-use Rattle.store_model.proofs.ListsLemmasOrder.{held_cases, held_first, held_later, held_all}
+use Rattle.store_model.proofs.ListsLemmasOrder.{held_cases, held_first, held_all}
 use Rattle.store_model.proofs.PagesLemmas.{some_room, cells_of_level}
 use Rattle.store_model.proofs.PagesLemmasOrder.{cell_cmp, cell_on-key, rising_level_list, rising_pages}
 use Rattle.store_model.proofs.PagesLemmasSizes.{IsPairList, keyed, pages_are_pages}
@@ -239,9 +239,9 @@ module _ (d : Draw) (s : List Pair) (There : Page → Type 0) (law : IsLawful d)
   cut_runs : AreRuns d There
   cut_runs = record {
     levels = λ page here. let c = cut_of page here in let r = c.2 in
-      subst (λ (p : Page). AreRunOf d p.label.level p.label.lead p.label.index p.cells) r.page_is (run_of_group d c.0 r.group r.index (uncut d s c.0 r.group r.is_group) (stand_low d s c.0 r.group r.is_group));
+        subst (λ (p : Page). AreRunOf d p.label.level p.label.lead p.label.index p.cells) r.page_is (run_of_group d c.0 r.group r.index (uncut d s c.0 r.group r.is_group) (stand_low d s c.0 r.group r.is_group));
     numbered = λ page here some. let c = cut_of page here in let r = c.2 in
-      subst (λ (p : Page). 0 < p.label.index → FollowsFull There p) r.page_is (follows c.0 r.group r.index c.1 r.is_group r.counted) some;
+        subst (λ (p : Page). 0 < p.label.index → FollowsFull There p) r.page_is (follows c.0 r.group r.index c.1 r.is_group r.counted) some;
   }
 
   -- ---- groups

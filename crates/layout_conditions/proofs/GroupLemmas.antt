@@ -1,14 +1,14 @@
 -- What the conditions say of one set of pages: of the runs of a group, and of what leads it.
-use Rattle.std.proofs.Common.{◌≡◌, ℕ, zero, suc, ◌+◌, ◌<◌, ◌≤◌, List, [], ◌∷◌, length, ◌⊎◌, inl, inr, ◌↔◌, Some, None, Option, Ordering, Less, refl, sym, ap, subst, ◌∙◌, arith}
+use Rattle.std.proofs.Common.{◌≡◌, ℕ, zero, suc, ◌+◌, ◌<◌, List, [], ◌∷◌, length, ◌⊎◌, inl, inr, ◌↔◌, Some, None, Option, Less, refl, sym, ap, subst, ◌∙◌, arith}
 use Rattle.std.specs.Cmp.Lexicographic.{nat_list_cmp_total}
-use Rattle.std.specs.List.{AllByRecursion, Contains}
+use Rattle.std.specs.List.{Contains}
 use Rattle.std.specs.List.Sorted.{IsStrictlySortedBy}
 use Rattle.store_model.specs.Paths.{key_cmp}
 use Rattle.store_model.specs.Labels.{Lead, Label}
 use Rattle.store_model.specs.Labels.Lead.{Start, Leader}
 use Rattle.store_model.specs.Draws.{Draw}
 use Rattle.store_model.specs.Pairs.{Pair}
-use Rattle.store_model.specs.Pages.{Cell, Page, page_room, cell_on, IsCellValue, IsCell, IsPage}
+use Rattle.store_model.specs.Pages.{Cell, Page, page_room, cell_on, IsCellValue, IsPage}
 use Rattle.store_model.proofs.ListsLemmas.{rising_from_map, rising_head}
 use Rattle.store_model.proofs.ListsLemmasOrder.{held_cases, held_first, held_all}
 use Rattle.store_model.proofs.PagesLemmasOrder.{cell_cmp}

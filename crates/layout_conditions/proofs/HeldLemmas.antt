@@ -1,5 +1,5 @@
 -- What lists hold that are made of others, and what follows where they rise.
-use Rattle.std.proofs.Common.{◌≡◌, ℕ, zero, suc, ◌+◌, ◌<◌, ◌≤◌, List, [], ◌∷◌, ◌++◌, map, length, Bool, true, false, cond, ◌⊎◌, inl, inr, Ordering, Less, Equal, refl, sym, ap, subst, ◌∙◌, arith}
+use Rattle.std.proofs.Common.{◌≡◌, ℕ, suc, ◌+◌, ◌<◌, ◌≤◌, List, [], ◌∷◌, ◌++◌, map, length, Bool, true, false, cond, ◌⊎◌, inl, inr, Ordering, Less, Equal, refl, sym, ap, subst, ◌∙◌, arith}
 use Rattle.std.specs.Cmp.{IsTotalOrder}
 use Rattle.std.specs.List.{AllByRecursion, Contains, filter, flat_map}
 use Rattle.std.specs.List.Sorted.{IsStrictlySortedBy}
@@ -7,7 +7,7 @@ use Rattle.std.proofs.lemmas.Bool.{false≢true}
 use Rattle.std.proofs.lemmas.Cmp.{tied_itself, tied_back}
 use Rattle.std.proofs.lemmas.List.Elements.{Contains-append_left, Contains-append_right, Contains-append_cases}
 use Rattle.store_model.specs.Lists.{numbers_from}
-use Rattle.store_model.proofs.ListsLemmas.{length-numbers_from, all_numbers_from, all_numbers_below, rising_head, rising_tail}
+use Rattle.store_model.proofs.ListsLemmas.{length-numbers_from, all_numbers_below, rising_head, rising_tail}
 use Rattle.store_model.proofs.ListsLemmasOrder.{held_cases, held_first, held_later, held_all}
 use Rattle.store_model.proofs.PlacementLemmas.{get_or-numbers_from}
 

@@ -1,5 +1,5 @@
 -- Two sets of pages that meet the conditions with the same pairs have the same pages.
-use Rattle.std.proofs.Common.{◌≡◌, ℕ, zero, suc, ◌+◌, ◌-◌, ◌<◌, ◌≤◌, List, [], ◌∷◌, ◌++◌, length, ◌⊎◌, inl, inr, ⊎_elim, Some, None, Option, Ordering, Less, Equal, Greater, refl, sym, ap, ap₂, subst, ◌∙◌, arith, add-one}
+use Rattle.std.proofs.Common.{◌≡◌, ℕ, zero, suc, ◌+◌, ◌-◌, ◌<◌, ◌≤◌, List, [], ◌∷◌, ◌++◌, length, ◌⊎◌, inl, inr, ⊎_elim, Option, Ordering, Less, Equal, Greater, refl, sym, ap, ap₂, subst, ◌∙◌, arith, add-one}
 use Rattle.std.specs.Cmp.{IsTotalOrder}
 use Rattle.std.specs.Cmp.Lexicographic.{nat_list_cmp_total}
 use Rattle.std.specs.Ordering.{ordering_reverse}
@@ -14,11 +14,11 @@ use Rattle.store_model.specs.Labels.{Lead, Label}
 use Rattle.store_model.specs.Labels.Lead.{Start, Leader}
 use Rattle.store_model.specs.Draws.{Draw}
 use Rattle.store_model.specs.Pairs.{Pair}
-use Rattle.store_model.specs.Pages.{Cell, Page, page_room, cell_on, IsCellValue, IsCell, IsPage}
+use Rattle.store_model.specs.Pages.{Cell, Page, page_room, IsCell, IsPage}
 use Rattle.store_model.proofs.ListsLemmas.{rising_append, rising_one}
-use Rattle.store_model.proofs.ListsLemmasOrder.{held_cases, held_first, held_all, same_rising}
+use Rattle.store_model.proofs.ListsLemmasOrder.{held_cases, held_all, same_rising}
 use Rattle.store_model.proofs.PagesLemmasOrder.{cell_cmp}
-use Rattle.layout_conditions.specs.Pages.{LeadsBefore, LeadsGroup, HasCell, HasKey}
+use Rattle.layout_conditions.specs.Pages.{LeadsBefore, HasCell, HasKey}
 use Rattle.layout_conditions.proofs.HeldLemmas.{all_held, held_none, some_held, no_longer}
 use Rattle.layout_conditions.proofs.GroupLemmas.{AreLayout, IsThere, same_label, no_key_below_itself, key_trans, rising_cells, pair_of_cell, value_above, one_run, runs_rise, run_before, first_of_group, leader_stands, group_of_page, leader_is_least, key_stands_above, key_leads, relabelled}
 
