@@ -176,7 +176,7 @@ some_run n count h g = positive (run_count n count) (let enough : count ≤ n * 
     positive (suc k) l = omega arith
 
 -- pairs whose cells on level 0 are one are one
-one_pair : (a b : Pair) → cell_on 0 a ≡ cell_on 0 b → a ≡ b
+pub one_pair : (a b : Pair) → cell_on 0 a ≡ cell_on 0 b → a ≡ b
 one_pair a b e = let make : List ℕ → List ℕ → Pair = λ key value. (key, value) in ap₂ make (ap (λ (c : Cell). c.key) e) (same_Some a.1 b.1 (ap (λ (c : Cell). c.value) e))
 
 -- ---- the conditions

@@ -5,9 +5,9 @@ use Rattle.std.specs.List.{AllByRecursion, Contains, filter, flat_map}
 use Rattle.std.specs.List.Sorted.{IsStrictlySortedBy}
 use Rattle.std.proofs.lemmas.Bool.{false≢true}
 use Rattle.std.proofs.lemmas.Cmp.{tied_itself, tied_back}
-use Rattle.std.proofs.lemmas.List.Elements.{Contains-append_left, Contains-append_right, Contains-append_cases}
+use Rattle.std.proofs.lemmas.List.Elements.{recursion_from_All, All-contains_itself, Contains-append_left, Contains-append_right, Contains-append_cases}
 use Rattle.store_model.specs.Lists.{numbers_from}
-use Rattle.store_model.proofs.ListsLemmas.{length-numbers_from, all_numbers_below, rising_head, rising_tail}
+use Rattle.store_model.proofs.ListsLemmas.{all_weaker, length-numbers_from, all_numbers_below, rising_head, rising_tail}
 use Rattle.store_model.proofs.ListsLemmasOrder.{held_cases, held_first, held_later, held_all}
 use Rattle.store_model.proofs.PlacementLemmas.{get_or-numbers_from}
 
@@ -24,8 +24,7 @@ some_held (x ∷ xs) h = (x, held_first x xs)
 
 -- what holds of each that is held, by recursion
 pub all_held : {X : Type 0} (P : X → Type 0) (xs : List X) → ((x : X) → Contains xs x → P x) → AllByRecursion P xs
-all_held P [] h = tt
-all_held P (x ∷ xs) h = (h x (held_first x xs), all_held P xs (λ y held. h y (held_later x xs y held)))
+all_held P xs h = all_weaker (Contains xs) P h xs (recursion_from_All (Contains xs) xs (All-contains_itself xs))
 
 -- what a map makes
 pub map_held : {X Y : Type 0} (f : X → Y) (xs : List X) (x : X) → Contains xs x → Contains (map f xs) (f x)

@@ -1,4 +1,5 @@
 pub mod CutLemmas
+pub mod ExampleLemmas
 pub mod GroupLemmas
 pub mod HeldLemmas
 pub mod LawLemmas

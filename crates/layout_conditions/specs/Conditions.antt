@@ -14,7 +14,8 @@ use Rattle.layout_conditions.specs.Pages.{KeysRise, LeadsBefore, AreRunOf, Leads
 abbrev pub StandsIn : Table → Page → Type 0
 StandsIn table page = (slot : ℕ) × HoldsPage table slot page
 
--- Each slot is free or holds a page, of a level below the height, and the table is in order. So no label stands in it twice.
+-- Each slot is free or holds a page, of a level below the height, and the table is in order. So no label stands in
+-- it twice.
 pub record IsSound (d : Draw) (table : Table) : Type 0 where
   pub ordered : IsOrderedTable d table
   pub levels : (page : Page) → StandsIn table page → page.label.level < d.height
@@ -27,7 +28,8 @@ module _ (d : Draw) (There : Page → Type 0) where
     pub numbered : (page : Page) → There page → 0 < page.label.index → FollowsFull There page
 
 module _ (There : Page → Type 0) where
-  -- Each key on a level above 0 leads a group of the level below. Keys rise from group to group, that of the start first.
+  -- Each key on a level above 0 leads a group of the level below. Keys rise from group to group, that of the start
+  -- first.
   pub record AreGroups : Type 0 where
     pub leads : (level : ℕ) (key : List ℕ) → HasKey There (level + 1) key → LeadsGroup There level key
     pub rise : (a b : Page) → There a → There b → a.label.level ≡ b.label.level → LeadsBefore a.label.lead b.label.lead → KeysRise a.cells b.cells

@@ -1,3 +1,4 @@
 pub mod Conditions
+pub mod Examples
 pub mod Layouts
 pub mod Pages

@@ -1,5 +1,5 @@
--- What is said of single pages among others: of their labels, their keys and the draw. Nothing is said of how pages are made of a tree,
--- or of where they are placed.
+-- What is said of single pages among others: of their labels, their keys and the draw. Nothing is said of how pages
+-- are made of a tree, or of where they are placed.
 use Rattle.std.specs.Prelude.{◌≡◌, ℕ, zero, suc, ◌+◌, ◌<◌, List, [], ◌∷◌, length}
 use Rattle.std.specs.List.{AllByRecursion, Contains}
 use Rattle.std.specs.declared.cmp.Ordering.TheVariants.{Less}
@@ -32,7 +32,8 @@ module _ (d : Draw) where
   AreLedBy key level [] = ⊥
   AreLedBy key level (cell ∷ cells) = (cell.key ≡ key) × (level < d.level key) × AllByRecursion (EndsOn level) cells
 
-  -- the cells are those of a run on this level: the first run of a group that a key leads begins with the leader's own cell
+  -- the cells are those of a run on this level: the first run of a group that a key leads begins with the leader's own
+  -- cell
   abbrev pub AreRunOf : ℕ → Lead → ℕ → List Cell → Type 0
   AreRunOf level (Leader key) zero cells = AreLedBy key level cells
   AreRunOf level (Leader key) (suc index) cells = AllByRecursion (EndsOn level) cells

@@ -6,8 +6,8 @@ ghost use Rattle.store_model.specs.Trees.{Tree};
 ghost use Rattle.layout_conditions.specs.Conditions.{MeetConditions};
 ghost use Rattle.layout_conditions.specs.Layouts.{table_of_tree, HaveLayout};
 
-/// Slots meet the conditions exactly where they are the layout of a tree: of the tree that the conditions tell. They are
-/// the layout of one tree alone.
+/// Slots meet the conditions exactly where they are the layout of a tree, the one that the conditions tell.
+/// They are the layout of no other tree.
 pub fn local_conditions_are_the_layout()
     // A layout meets them, with its tree.
     ensures layout { (slots : List (List ℕ)) (p : Parameters) (t : Tree) → IsParameters p → HaveLayout slots t p →
