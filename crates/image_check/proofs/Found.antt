@@ -1,92 +1,186 @@
--- What is found in slots: contents of a tree, and none where they hold none.
-use Rattle.std.proofs.Common.{◌≡◌, ℕ, ◌≤◌, List, map, length, Option, Some, None, MatchOption, IfSome, sym, ap, subst, ◌∙◌, arith}
+-- What is found in slots by their order, by a walk over their groups, and by the pairs that it comes to.
+use Rattle.std.proofs.Common.{◌≡◌, ℕ, ◌*◌, ◌<◌, ◌≤◌, List, [], ◌∷◌, ◌++◌, map, length, Option, Some, None, unwrap_or, refl, sym, ap, subst, ◌∙◌, arith, cond, true, false, ◌==◌, nat_eq}
 use Rattle.std.specs.Cmp.Lexicographic.{nat_list_cmp_total}
-use Rattle.std.specs.List.{AllByRecursion}
-use Rattle.std.specs.List.Sorted.{IsPermutation, IsSorted}
-use Rattle.std.specs.Ordering.{eq_by_cmp}
-use Rattle.std.proofs.lemmas.Cmp.{on_total, eq_by_cmp_equiv}
-use Rattle.std.proofs.lemmas.List.Sorted.{IsPermutation-sym, IsPermutation-trans}
-use Rattle.std.proofs.lemmas.Map.Keys.{IsDistinct-from_sorted, IsDistinct-IsPermutation}
-use Rattle.store_model.specs.Parameters.{Parameters, IsParameters}
+use Rattle.std.specs.declared.cmp.Ordering.TheVariants.{Less}
+use Rattle.std.proofs.lemmas.Cmp.{on_total}
+use Rattle.std.specs.List.{AllByRecursion, Contains, flat_map}
+use Rattle.std.specs.List.Sorted.{IsStrictlySortedBy}
+use Rattle.std.proofs.lemmas.List.{length-map}
+use Rattle.std.proofs.lemmas.List.Concat.{length-flat_map}
+use Rattle.std.proofs.lemmas.List.Elements.{All-from_recursion, All-contains}
+use Rattle.std.proofs.lemmas.List.Sorted.{length_permutation}
+use Rattle.std.proofs.lemmas.List.Sums.{sum_by-le}
+use Rattle.store_model.specs.Parameters.{Parameters, IsParameters, slots_limit}
 use Rattle.store_model.specs.Paths.{key_cmp}
-use Rattle.store_model.specs.Pairs.{Pair, pairs}
 use Rattle.store_model.specs.Trees.{Tree, IsTree}
+use Rattle.store_model.specs.Pairs.{Pair, pairs}
 use Rattle.store_model.specs.Draws.{draw_of}
-use Rattle.store_model.specs.Pages.{Fits, pages, pages_of_pairs}
-use Rattle.store_model.specs.Placement.{Table, place}
+use Rattle.store_model.specs.Pages.{Cell, Page, IsCell, IsCellValue, IsPage, cell_on, page_room, pages, page_count, Fits}
+use Rattle.store_model.specs.Placement.{Table, pages_in, place, IsOrderedTable}
 use Rattle.store_model.specs.Images.{slots_of}
-use Rattle.store_model.proofs.ListsLemmas.{in_order_of_rising}
-use Rattle.store_model.proofs.ListsLemmasOrder.{same_as_in_order}
-use Rattle.store_model.proofs.PairsLemmas.{rising_pairs, rising_keys}
-use Rattle.layout_scratch.specs.declared.fault.ScratchFault.{ScratchFault}
-use Rattle.layout_scratch.specs.declared.fault.ScratchFault.TheVariants.{Full}
-use Rattle.layout_scratch.specs.Faults.{IsRefusal}
-use Rattle.layout_scratch.specs.Sorting.{HasDistinctKeys, by_key, pair_cmp}
-use Rattle.layout_scratch.proofs.Rising.{rising_from_sorted}
-use Rattle.image_check.specs.Collected.{MayHold, pairs_of_table}
-use Rattle.image_check.specs.Contents.{table_of_tree, HaveLayout}
-use Rattle.image_check.proofs.TablePairs.{table_pairs, table_slots}
+use Rattle.store_model.proofs.ListsLemmas.{all_weaker, rising_map}
+use Rattle.store_model.proofs.ListsLemmasOrder.{same_rising}
+use Rattle.store_model.proofs.PairsLemmas.{pair_cmp, rising_pairs}
+use Rattle.store_model.proofs.PagesLemmasOrder.{cell_cmp}
+use Rattle.store_model.specs.PageMaps.{map_of_pages}
+use Rattle.store_model.proofs.PageMapsLemmas.{one_held_map}
+use Rattle.store_model.proofs.PlacementLemmas.{IsPermutation-place, some_slot}
+use Rattle.store_model.proofs.PlacementLemmasDraws.{IsLawful-draw_of}
+use Rattle.store_model.proofs.PlacementLemmasOrder.{held_contained}
+use Rattle.store_model.proofs.PlacementLemmasTables.{held_page, room_of_table}
+use Rattle.layout_conditions.specs.Pages.{HasCell}
+use Rattle.layout_conditions.specs.Conditions.{StandsIn, IsSound, MeetConditions}
+use Rattle.layout_conditions.specs.Layouts.{table_of_tree, HaveLayout}
+use Rattle.layout_conditions.proofs.HeldLemmas.{all_held, map_held, held_map, flat_map_held, no_longer}
+use Rattle.layout_conditions.proofs.SameLemmas.{cell_cmp_total}
+use Rattle.layout_conditions.proofs.LawLemmas.{layout_meets, table_is_of_tree, conditions_tell}
+use Rattle.table_order.specs.OrderCalls.{IsBelow, IsOrderedBelow}
+use Rattle.group_walk.specs.Walked.{MeetWalk}
+use Rattle.group_walk.specs.Walks.{pair_of, HoldsList}
 
--- what an answer says that is never `None`, and one that may be
-pub at_none : {V : Type 0} (o : Option V) (P : V → Type 0) → MatchOption o ⊥ P → o ≡ None → ⊥
-at_none o P is none = subst (λ v. MatchOption v ⊥ P) none is
+-- ---- order
 
-pub at_some : {V : Type 0} (o : Option V) (P : V → Type 0) (x : V) → MatchOption o ⊥ P → o ≡ Some x → P x
-at_some o P x is some = subst (λ v. MatchOption v ⊥ P) some is
+-- a table in order below the height is sound
+pub sound_of : (p : Parameters) (slots : List (List ℕ)) (table : Table) → IsOrderedBelow (draw_of p) (draw_of p).height slots table → IsSound (draw_of p) table
+sound_of p slots table is = record {
+  ordered = is.ordered;
+  levels = λ page stands. All-contains (IsBelow (draw_of p).height) (pages_in table) page (All-from_recursion (IsBelow (draw_of p).height) (pages_in table) is.below) (held_contained table stands.0 page stands.1);
+}
 
-pub if_some : {V : Type 0} (o : Option V) (P : V → Type 0) (x : V) → IfSome o P → o ≡ Some x → P x
-if_some o P x is some = subst (λ v. IfSome v P) some is
+-- and the other way round
+order_of : (p : Parameters) (slots : List (List ℕ)) (table : Table) → slots ≡ slots_of table → IsSound (draw_of p) table → IsOrderedBelow (draw_of p) (draw_of p).height slots table
+order_of p slots table are sound = record {
+  ordered = sound.ordered;
+  slots_are = are;
+  below = all_held (IsBelow (draw_of p).height) (pages_in table) (λ page held. sound.levels page (some_stands page held));
+}
+  where
+    some_stands : (page : Page) → Contains (pages_in table) page → StandsIn table page
+    some_stands page held = some_slot table page held
 
--- the keys of a tree's pairs differ
-pub keys_differ : (t : Tree) (p : Parameters) (s : List Pair) → IsTree t → s ≡ pairs t p → HasDistinctKeys s
-keys_differ t p s tree is = subst HasDistinctKeys (sym is) (IsDistinct-from_sorted key_cmp (map (λ (pair : Pair). pair.0) (pairs t p)) (rising_keys t p tree))
+-- so the layout of a tree is one
+pub layout_ordered : (p : Parameters) (slots : List (List ℕ)) (t : Tree) → IsParameters p → HaveLayout slots t p → (table : Table) × IsOrderedBelow (draw_of p) (draw_of p).height slots table
+layout_ordered p slots t valid have =
+    let meets = layout_meets slots p t valid have in
+    (meets.0.table, order_of p slots meets.0.table meets.0.slots_are meets.0.sound)
 
--- and they stand in the order of their keys
-by_key_as_they_are : (t : Tree) (p : Parameters) → IsTree t → by_key (pairs t p) ≡ pairs t p
-by_key_as_they_are t p tree = in_order_of_rising pair_cmp (pairs t p) (rising_pairs t p tree)
+-- ---- the pairs of cells
 
--- their pages are those of the tree
-pub pages_are : (t : Tree) (p : Parameters) (s : List Pair) → IsTree t → s ≡ pairs t p → pages_of_pairs (draw_of p) (by_key s) ≡ pages t p
-unfolding pages
-pages_are t p s tree is = ap (pages_of_pairs (draw_of p)) (ap by_key is ∙ by_key_as_they_are t p tree)
+pairs_above : (x : Cell) (cells : List Cell) → AllByRecursion (λ key. key_cmp x.key key ≡ Less) (map (λ (cell : Cell). cell.key) cells) → AllByRecursion (λ pair. pair_cmp (pair_of x) pair ≡ Less) (map pair_of cells)
+pairs_above x [] up = tt
+pairs_above x (y ∷ cells) up = (up.0, pairs_above x cells up.1)
 
--- and their layout is its table
-pub table_is : (t : Tree) (p : Parameters) (s : List Pair) → IsTree t → s ≡ pairs t p → place (draw_of p) (pages_of_pairs (draw_of p) (by_key s)) ≡ table_of_tree t p
-table_is t p s tree is = ap (place (draw_of p)) (pages_are t p s tree is)
+-- they rise as the keys of the cells do
+pairs_rise : (cells : List Cell) → IsStrictlySortedBy key_cmp (map (λ (cell : Cell). cell.key) cells) → IsStrictlySortedBy pair_cmp (map pair_of cells)
+unfolding IsStrictlySortedBy
+pairs_rise [] up = tt
+pairs_rise (x ∷ cells) up = (pairs_above x cells up.0, pairs_rise cells up.1)
 
--- it fits where they do
-pub fits_are : (t : Tree) (p : Parameters) (s : List Pair) → IsTree t → s ≡ pairs t p → length (pages_of_pairs (draw_of p) (by_key s)) ≤ p.slots → Fits t p
-fits_are t p s tree is few = subst (λ n. n ≤ p.slots) (ap length (pages_are t p s tree is)) few
+cells_above : (x : Cell) (cells : List Cell) → AllByRecursion (λ key. key_cmp x.key key ≡ Less) (map (λ (cell : Cell). cell.key) cells) → AllByRecursion (λ cell. cell_cmp x cell ≡ Less) cells
+cells_above x [] up = tt
+cells_above x (y ∷ cells) up = (up.0, cells_above x cells up.1)
 
--- a tree that fits has no more pages than slots
-pub not_full : (t : Tree) (p : Parameters) (s : List Pair) (fault : ScratchFault) (need slots : ℕ) → IsTree t → Fits t p → s ≡ pairs t p → IsRefusal (draw_of p) s fault → fault ≡ Full need slots → ⊥
-unfolding draw_of
-not_full t p s fault need slots tree fits is refused full =
-    let more = subst (IsRefusal (draw_of p) s) full refused in
-    omega (arith, fits, more.0, more.2, ap length (pages_are t p s tree is))
+-- and so do the cells
+cells_rise : (cells : List Cell) → IsStrictlySortedBy key_cmp (map (λ (cell : Cell). cell.key) cells) → IsStrictlySortedBy cell_cmp cells
+unfolding IsStrictlySortedBy
+cells_rise [] up = tt
+cells_rise (x ∷ cells) up = (cells_above x cells up.0, cells_rise cells up.1)
 
--- what the slots of a tree hold are its pairs, in some order
-pub pairs_moved : (slots : List (List ℕ)) (t : Tree) (p : Parameters) (s : List Pair) → IsParameters p → HaveLayout slots t p → s ≡ pairs_of_table (table_of_tree t p) → IsPermutation s (pairs t p)
-pairs_moved slots t p s valid held is = subst (λ xs. IsPermutation xs (pairs t p)) (sym is) (IsPermutation-sym (pairs t p) (pairs_of_table (table_of_tree t p)) (table_pairs t p valid held.tree held.fits))
+-- no page has more than 31 cells
+short_page : (page : Page) → IsPage page → length page.cells ≤ 31
+short_page page one =
+    let most : page_room page.label.level ≤ 31 = elim (page.label.level == 0) as (λ b. cond b 10 31 ≤ 31) [ true ↦ omega arith | false ↦ omega arith ] in
+    let room = one.room in
+    omega arith
 
--- what a read of slots says of each table that they may be the slots of
-abbrev pub AreReadFrom : {V : Type 0} → (V → List Pair) → List (List ℕ) → Option V → Type 0
-AreReadFrom items slots read = (table : Table) → slots ≡ slots_of table → AllByRecursion MayHold table → MatchOption read ⊥ (λ v. items v ≡ pairs_of_table table)
+-- ---- slots with a table in order
 
--- where they hold a tree something is read
-pub never_none : {V : Type 0} (read : Option V) (items : V → List Pair) (slots : List (List ℕ)) (t : Tree) (p : Parameters) → IsParameters p → HaveLayout slots t p → AreReadFrom items slots read → read ≡ None → ⊥
-never_none read items slots t p valid held told = at_none read (λ v. items v ≡ pairs_of_table (table_of_tree t p)) (told (table_of_tree t p) held.slots_are (table_slots t p valid held.tree held.fits))
+module _ (p : Parameters) (valid : IsParameters p) (slots : List (List ℕ)) (table : Table) (is : IsOrderedBelow (draw_of p) (draw_of p).height slots table) where
+  -- it is the table by which they meet the conditions
+  one_table : (meets : MeetConditions slots p) → meets.table ≡ table
+  one_table meets =
+      (one_held_map (draw_of p) slots (map_of_pages (pages_in meets.table)) (map_of_pages (pages_in table)) meets.table table
+      (record { ordered = meets.sound.ordered; slots_are = meets.slots_are; pages_are = refl }) (record { ordered = is.ordered; slots_are = is.slots_are; pages_are = refl })).0
 
--- and it is the tree's pairs, in some order
-pub moved_in : {V : Type 0} (read : Option V) (some : V) (items : V → List Pair) (slots : List (List ℕ)) (t : Tree) (p : Parameters) → IsParameters p → HaveLayout slots t p → AreReadFrom items slots read → read ≡ Some some → IsPermutation (items some) (pairs t p)
-moved_in read some items slots t p valid held told there =
-    pairs_moved slots t p (items some) valid held (at_some read (λ v. items v ≡ pairs_of_table (table_of_tree t p)) some (told (table_of_tree t p) held.slots_are (table_slots t p valid held.tree held.fits)) there)
+  -- so what a walk tests holds of a layout
+  pub layout_walks : (t : Tree) → HaveLayout slots t p → MeetWalk (draw_of p) (StandsIn table)
+  layout_walks t have =
+      let meets = (layout_meets slots p t valid have).0 in
+      subst (λ (u : Table). MeetWalk (draw_of p) (StandsIn u)) (one_table meets) (record { runs = meets.runs; groups = meets.groups; met = meets.met })
 
--- the pairs of a tree, moved and then sorted, are its pairs
-pub sorted_again : (t : Tree) (p : Parameters) (s sorted : List Pair) → IsTree t → IsPermutation s (pairs t p) → IsPermutation s sorted → IsSorted pair_cmp sorted → sorted ≡ pairs t p
-sorted_again t p s sorted tree moved moves up =
-    let total = on_total (λ (pair : Pair). pair.0) nat_list_cmp_total in
-    let across = IsPermutation-trans (pairs t p) s sorted (IsPermutation-sym s (pairs t p) moved) moves in
-    let distinct = IsDistinct-from_sorted pair_cmp (pairs t p) (rising_pairs t p tree) in
-    let apart = IsDistinct-IsPermutation (eq_by_cmp pair_cmp) (eq_by_cmp_equiv total).symm (pairs t p) sorted across distinct in
-    same_as_in_order pair_cmp total (pairs t p) sorted across distinct (rising_from_sorted key_cmp (λ (pair : Pair). pair.0) sorted nat_list_cmp_total up apart) ∙ by_key_as_they_are t p tree
+  module _ (taken : List Pair) (holds : HoldsList (draw_of p) table [] taken) where
+    -- a cell of level 0 is that of its pair
+    of_pair : (cell : Cell) → HasCell (StandsIn table) 0 cell → cell_on 0 (pair_of cell) ≡ cell
+    of_pair cell has =
+        let page = held_page table has.there.0 has.page is.ordered.pages has.there.1 in
+        let one = All-contains (IsCell has.page.label.level) has.page.cells cell (All-from_recursion (IsCell has.page.label.level) has.page.cells page.cells) has.in_page in
+        by_value cell.value refl (subst (λ level. IsCell level cell) has.on_level one)
+      where
+        by_value : (value : Option (List ℕ)) → cell.value ≡ value → IsCell 0 cell → cell_on 0 (pair_of cell) ≡ cell
+        by_value (Some v) e valid = λ i. record { key = cell.key; value = sym (e ∙ sym (ap (λ o. Some (unwrap_or o [])) e)) i }
+        by_value None e valid = absurd (let low = subst (IsCellValue 0) e valid.value in omega arith)
+
+    -- each pair that was taken is that of a cell
+    taken_cell : (pair : Pair) → Contains taken pair → HasCell (StandsIn table) 0 (cell_on 0 pair)
+    taken_cell pair held =
+        let cell = held_map pair_of holds.cells pair (subst (λ s. Contains s pair) holds.taken_is held) in
+        let has = (holds.cells_are cell.0).0 cell.1 in
+        subst (HasCell (StandsIn table) 0) (sym (of_pair cell.0 has) ∙ ap (cell_on 0) cell.2) has
+
+    -- and each cell of level 0 has its pair taken
+    cell_taken : (pair : Pair) → HasCell (StandsIn table) 0 (cell_on 0 pair) → Contains taken pair
+    cell_taken pair has =
+        subst (λ s. Contains s pair) (sym holds.taken_is) (map_held pair_of holds.cells (cell_on 0 pair) ((holds.cells_are (cell_on 0 pair)).1 has))
+
+    -- they rise
+    rising_taken : IsStrictlySortedBy pair_cmp taken
+    rising_taken = subst (IsStrictlySortedBy pair_cmp) (sym holds.taken_is) (pairs_rise holds.cells holds.rising)
+
+    -- where they are a tree's, the slots meet the conditions
+    abbrev meets : (t : Tree) → IsTree t → taken ≡ pairs t p → MeetConditions slots p
+    meets t tree are = record {
+      table = table;
+      slots_are = is.slots_are;
+      sound = sound_of p slots table is;
+      runs = holds.meets.runs;
+      groups = holds.meets.groups;
+      met = holds.meets.met;
+      tree = t;
+      pairs_are = record {
+        tree = tree;
+        cells = λ pair. (λ has. subst (λ s. Contains s pair) are (cell_taken pair has), λ held. taken_cell pair (subst (λ s. Contains s pair) (sym are) held));
+      };
+    }
+
+    -- where they are a tree's, the slots are its layout
+    pub found_tree : (t : Tree) → IsTree t → taken ≡ pairs t p → HaveLayout slots t p
+    found_tree t tree are = conditions_tell slots p valid (meets t tree are)
+
+    -- and the table has the pages of the tree
+    pub found_count : (t : Tree) → IsTree t → taken ≡ pairs t p → length (pages_in table) ≡ page_count t p
+    unfolding draw_of
+    found_count t tree are =
+        let one = meets t tree are in
+        ap (λ u. length (pages_in u)) (table_is_of_tree slots p valid one)
+        ∙ length_permutation (pages t p) (pages_in (table_of_tree t p)) (IsPermutation-place (draw_of p) (pages t p) (IsLawful-draw_of p valid) (found_tree t tree are).fits)
+
+    -- where the slots are the layout of a tree, they are the tree's pairs
+    pub layout_taken : (t : Tree) → HaveLayout slots t p → taken ≡ pairs t p
+    layout_taken t have =
+        let there = layout_meets slots p t valid have in
+        let same = one_table there.0 in
+        same_rising (on_total (λ (pair : Pair). pair.0) nat_list_cmp_total) taken (pairs t p) rising_taken (rising_pairs t p have.tree)
+        (λ pair held. subst (λ u. Contains (pairs u p) pair) there.1 ((there.0.pairs_are.cells pair).0 (subst (λ u. HasCell (StandsIn u) 0 (cell_on 0 pair)) (sym same) (taken_cell pair held))))
+        (λ pair held. cell_taken pair (subst (λ u. HasCell (StandsIn u) 0 (cell_on 0 pair)) same ((there.0.pairs_are.cells pair).1 (subst (λ u. Contains (pairs u p) pair) (sym there.1) held))))
+
+    -- they are few
+    pub few_taken : length taken ≤ 31 * p.slots
+    unfolding draw_of
+    few_taken =
+        let all = flat_map (λ (page : Page). page.cells) (pages_in table) in
+        let held : (cell : Cell) → Contains holds.cells cell → Contains all cell =
+        λ cell there. let has = (holds.cells_are cell).0 there in flat_map_held (λ (page : Page). page.cells) (pages_in table) has.page cell (held_contained table has.there.0 has.page has.there.1) has.in_page in
+        let fewer = no_longer cell_cmp_total holds.cells all (cells_rise holds.cells holds.rising) held in
+        let sum = sum_by-le (λ (page : Page). length page.cells) 31 (pages_in table) (All-from_recursion (λ (page : Page). length page.cells ≤ 31) (pages_in table) (all_weaker IsPage (λ page. length page.cells ≤ 31) short_page (pages_in table) is.ordered.pages)) in
+        let room = room_of_table (draw_of p) table is.ordered in
+        omega (arith, ap length holds.taken_is, length-map holds.cells pair_of, length-flat_map (λ (page : Page). page.cells) (pages_in table))

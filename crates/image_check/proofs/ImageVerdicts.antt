@@ -1,8 +1,8 @@
 -- What is found on a disk by what is found in its slots, and the verdict on it.
-use Rattle.std.proofs.Common.{◌≡◌, ◌≤◌, List, ℕ, Option, Some, None, Result, Ok, Err, IfOk, refl, sym, ap, subst, ◌∙◌, arith}
+use Rattle.std.proofs.Common.{◌≡◌, ◌≤◌, List, ℕ, Option, Some, None, Result, Ok, Err, IfOk, IsErrOf, refl, sym, ap, subst, ◌∙◌, arith}
 use Rattle.store_model.specs.Parameters.{Parameters}
 use Rattle.store_model.specs.Trees.{Tree}
-use Rattle.store_model.specs.Images.{slots_of, Represents}
+use Rattle.store_model.specs.Images.{Represents}
 use Rattle.store_model.proofs.TreesLemmasBytes.{headers_same}
 use Rattle.store_model.proofs.TreesLemmasLayouts.{images_tell}
 use Rattle.store_base.specs.declared.store_fault.Fault.{Fault}
@@ -15,23 +15,27 @@ use Rattle.gate_journal.specs.ViewState.{viewed, KeepsView}
 use Rattle.image_check.specs.declared.contents.Contents.{Contents}
 use Rattle.image_check.specs.declared.fault.AttachFault.{AttachFault}
 use Rattle.image_check.specs.declared.fault.AttachFault.TheVariants as attach
-use Rattle.image_check.specs.Contents.{HaveLayout, AreContents}
+use Rattle.layout_conditions.specs.Layouts.{HaveLayout}
+use Rattle.image_check.specs.Contents.{AreContents}
 use Rattle.image_check.specs.Verdicts.{clean_of, IsImageWith, HasParameters, IsDamaged, IsVerdict}
-use Rattle.image_check.specs.SlotCalls.{FindsContents, clean_on, contents_in, verdict_in}
+use Rattle.image_check.specs.SlotCalls.{AreFound, FindsContents, clean_on, contents_in, verdict_in}
 use Rattle.image_check.specs.ImageCalls.{HasImage, IsFoundOn, FindsImage, ChecksImage}
 use Rattle.image_check.proofs.Images.{slots_in, represents_tree, represented_layout}
-use Rattle.image_check.proofs.Layouts.{layout_of, verdict_on}
+use Rattle.image_check.proofs.Layouts.{verdict_on}
 
 -- a disk whose slots hold contents has their image
-pub image_found : (old mid : DiskState) (t : Tree) (p : Parameters) (contents : Contents) → HasParameters old p → mid.is_observable ≡ old.is_observable → (IsObservable old → ReadsOnly old mid) → AreContents t p contents
-    → (IsObservable mid → slots_in p.slots mid.bytes ≡ slots_of contents.layout) → HasImage old contents
-image_found old mid t p contents has same reads are found = record {
-  tree = t;
-  contents_are = subst (λ (q : Parameters). AreContents t q contents) (sym are.params_are) are;
-  has_parameters = subst (HasParameters old) (sym are.params_are) has;
-  represents = λ observable.
-      let slots = ap (slots_in p.slots) (sym (reads observable).bytes) ∙ found (same ∙ observable) in
-      subst (Represents old.bytes t) (sym are.params_are) (represents_tree old.bytes t p (has.named observable) (layout_of (slots_in p.slots old.bytes) t p contents are slots));
+pub image_found : (old mid : DiskState) (p : Parameters) (contents : Contents) → HasParameters old p → mid.is_observable ≡ old.is_observable → (IsObservable old → ReadsOnly old mid) → contents.params ≡ p
+    → (IsObservable mid → AreFound (slots_in p.slots mid.bytes) p contents) → HasImage old contents
+image_found old mid p contents has same reads named found = record {
+  has_parameters = subst (HasParameters old) (sym named) has;
+  tree = λ observable.
+      let is = found (same ∙ observable) in
+      let slots = subst (λ (image : List ℕ). HaveLayout (slots_in p.slots image) is.tree p) (reads observable).bytes is.layout in
+      record {
+        tree = is.tree;
+        contents_are = subst (λ (q : Parameters). AreContents is.tree q contents) (sym named) is.contents_are;
+        represents = subst (Represents old.bytes is.tree) (sym named) (represents_tree old.bytes is.tree p (has.named observable) slots);
+      };
 }
 
 -- an image names one set of parameters
@@ -53,10 +57,10 @@ image_damaged old mid p has same reads none = record {
 pub verdict_found : (disk : DiskState) (found : Result Contents AttachFault) → IsFoundOn disk found → IfOk (verdict_in found) (IsVerdict disk)
 verdict_found disk (Ok contents) found = record {
   params = contents.params;
-  tree = found.tree;
   has_parameters = found.has_parameters;
-  represents = found.represents;
-  verdict_is = verdict_on found.tree contents.params contents (clean_on contents) found.contents_are refl;
+  image = λ observable.
+      let is = found.tree observable in
+      record { tree = is.tree; represents = is.represents; verdict_is = verdict_on is.tree contents.params contents is.contents_are };
 }
 verdict_found disk (Err attach.NotImage) found = found
 verdict_found disk (Err attach.Damaged) found = found
@@ -66,12 +70,21 @@ verdict_found disk (Err attach.NoMemory) found = tt
 -- on an observable disk that represents a tree it is that on the tree
 pub clean_found : (disk : DiskState) (found : Result Contents AttachFault) (t : Tree) (p : Parameters) → IsFoundOn disk found → IsObservable disk → Represents disk.bytes t p → IfOk (verdict_in found) (λ verdict. verdict ≡ clean_of t p)
 clean_found disk (Ok contents) t p found observable represents =
-    let same = images_tell disk.bytes found.tree t contents.params p (found.represents observable) represents in
-    verdict_on found.tree contents.params contents (clean_on contents) found.contents_are refl ∙ (λ i. clean_of (same.0 i) (same.1 i))
+    let is = found.tree observable in
+    let same = images_tell disk.bytes is.tree t contents.params p is.represents represents in
+    verdict_on is.tree contents.params contents is.contents_are ∙ (λ i. clean_of (same.0 i) (same.1 i))
 clean_found disk (Err attach.NotImage) t p found observable represents = absurd (found observable p (record { names = represents.names; length_is = represents.length_is }))
 clean_found disk (Err attach.Damaged) t p found observable represents = absurd (found.no_tree observable t p represents)
 clean_found disk (Err attach.Disk) t p found observable represents = tt
 clean_found disk (Err attach.NoMemory) t p found observable represents = tt
+
+-- it is never want of memory
+no_memory_found : (disk : DiskState) (found : Result Contents AttachFault) → IsFoundOn disk found → IsErrOf (verdict_in found) causes.NoMemory → ⊥
+no_memory_found disk (Ok contents) found is = cc
+no_memory_found disk (Err attach.NotImage) found is = cc
+no_memory_found disk (Err attach.Damaged) found is = cc
+no_memory_found disk (Err attach.Disk) found is = cc
+no_memory_found disk (Err attach.NoMemory) found is = found
 
 -- ---- the calls
 
@@ -79,9 +92,9 @@ clean_found disk (Err attach.NoMemory) t p found observable represents = tt
 found_on : (old mid new : DiskState) (p : Parameters) (slots : ℕ) (found : Result (Option Contents) Fault) → HasParameters old p → mid.is_observable ≡ old.is_observable → (IsObservable old → ReadsOnly old mid)
     → FindsContents p (viewed p.slots mid) (viewed slots new) found → IsFoundOn old (contents_in found)
 found_on old mid new p slots (Ok None) has same reads finds = image_damaged old mid p has same reads finds.found
-found_on old mid new p slots (Ok (Some contents)) has same reads finds = image_found old mid finds.contents.0 p contents has same reads finds.contents.1 finds.found
+found_on old mid new p slots (Ok (Some contents)) has same reads finds = image_found old mid p contents has same reads finds.params finds.found
 found_on old mid new p slots (Err causes.Disk) has same reads finds = tt
-found_on old mid new p slots (Err causes.NoMemory) has same reads finds = tt
+found_on old mid new p slots (Err causes.NoMemory) has same reads finds = finds.reads.calls.cause refl
 
 -- and the count of faults behind it is the same
 same_faults : (count : ℕ) (found : Result (Option Contents) Fault) → disk_faults_after count found ≡ disk_faults_after count (verdict_in (contents_in found))
@@ -102,7 +115,7 @@ searches_image old mid new p left found has size observable faults rise writes s
   reads = record {
     size = view.keeps.size ∙ size;
     observable = view.keeps.observable ∙ observable;
-    faults = view.finds.reads.faults ∙ ap (λ n. disk_faults_after n found) faults ∙ same_faults old.faults found;
+    faults = view.finds.reads.calls.faults ∙ ap (λ n. disk_faults_after n found) faults ∙ same_faults old.faults found;
     rise = omega (arith, rise, view.keeps.rise);
     writes = omega (arith, writes, view.keeps.writes);
     syncs = omega (arith, syncs, view.keeps.syncs);
@@ -121,6 +134,7 @@ views_disk p seen left at mid back new found named disk handed view =
 pub checks_image : (old new : DiskState) (found : Result Contents AttachFault) → FindsImage old new found → ChecksImage old new (verdict_in found)
 checks_image old new found finds = record {
   reads = finds.reads;
+  memory = no_memory_found old found finds.found;
   verdict = verdict_found old found finds.found;
   clean = λ observable t p represents. clean_found old found t p finds.found observable represents;
 }

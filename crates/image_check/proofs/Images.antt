@@ -1,7 +1,7 @@
 -- Images and the slots that recovery would leave of them.
 use Rattle.std.proofs.Common.{◌≡◌, ℕ, zero, suc, ◌+◌, ◌<◌, List, map, length, Option, Some, None, slice_get, sym, ap, ◌∙◌, arith}
 use Rattle.std.specs.Option.{option_map}
-use Rattle.std.proofs.lemmas.List.{length-map}
+use Rattle.std.proofs.lemmas.List.{length-map, same_lists}
 use Rattle.std.proofs.lemmas.Option.{same_Some, slice_get-map, slice_get-get_or}
 use Rattle.std.proofs.Common.{get_or}
 use Rattle.store_model.specs.Lists.{numbers_from, numbers_below}
@@ -13,9 +13,8 @@ use Rattle.store_model.specs.Images.{slot_bytes, slots_of, recovered_slot, Repre
 use Rattle.store_model.proofs.ListsLemmas.{length-numbers_from}
 use Rattle.store_model.proofs.PlacementLemmas.{length-place}
 use Rattle.gate_journal.proofs.Layouts.{represented-slots, slots-represent}
-use Rattle.image_check.specs.Contents.{table_of_tree, HaveLayout}
+use Rattle.layout_conditions.specs.Layouts.{table_of_tree, HaveLayout}
 use Rattle.image_check.specs.Verdicts.{IsImageWith}
-use Rattle.layout_scratch.proofs.ReadLemmas.{same_gets}
 
 -- the slots that recovery would leave
 abbrev pub slots_in : ℕ → List ℕ → List (List ℕ)
@@ -48,7 +47,9 @@ pub represented_layout : (image : List ℕ) (t : Tree) (p : Parameters) → Repr
 represented_layout image t p is = record {
   tree = is.tree;
   fits = is.fits;
-  slots_are = same_gets (slots_in p.slots image) (slots_of (table_of_tree t p)) (long ∙ sym long_table) (λ i low. at i (omega (arith, low, long)));
+  slots_are = same_lists (slots_in p.slots image) (slots_of (table_of_tree t p)) (long ∙ sym long_table) (λ i d low.
+      same_Some (get_or (slots_in p.slots image) i d) (get_or (slots_of (table_of_tree t p)) i d)
+      (sym (slice_get-get_or (slots_in p.slots image) i d low) ∙ at i (omega (arith, low, long)) ∙ slice_get-get_or (slots_of (table_of_tree t p)) i d (omega (arith, low, long, long_table))));
 }
   where
     long : length (slots_in p.slots image) ≡ p.slots

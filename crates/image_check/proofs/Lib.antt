@@ -1,10 +1,7 @@
-pub mod EntryLemmas
-pub mod FileBlocks
+pub mod Calls
 pub mod Found
 pub mod ImageVerdicts
 pub mod Images
 pub mod Layouts
 pub mod Searches
-pub mod SlotLemmas
-pub mod TablePairs
-pub mod Walk
+pub mod Taken

@@ -1,10 +1,8 @@
-pub mod Collected
 pub mod Contents
-pub mod Counts
-pub mod PairFronts
-pub mod ImageCalls
-pub mod Parents
-pub mod SlotCalls
-pub mod Verdicts
 pub mod Faults
+pub mod ImageCalls
+pub mod Orders
+pub mod SlotCalls
 pub mod Standing
+pub mod TreePairs
+pub mod Verdicts

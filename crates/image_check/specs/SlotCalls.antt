@@ -1,36 +1,41 @@
 -- What the checks of slots ensure.
-use Rattle.std.specs.Prelude.{◌≡◌, ℕ, List, Option, Some, None, Result, Ok, Err, IfOk, IfSome, length}
+use Rattle.std.specs.Prelude.{◌≡◌, ℕ, List, Option, Some, None, Result, Ok, Err, IfOk, IfSome}
 use Rattle.store_model.specs.Parameters.{Parameters}
 use Rattle.store_model.specs.Trees.{Tree}
-use Rattle.store_model.specs.Placement.{pages_in}
-use Rattle.store_model.specs.Images.{slots_of}
 use Rattle.store_base.specs.declared.store_fault.Fault.{Fault}
 use Rattle.store_base.specs.declared.store_fault.Fault.TheVariants as causes
 use Rattle.store_base.specs.SlotsState.{SlotsState, IsObservable}
-use Rattle.layout_scratch.specs.SlotReads.{ReadsSlots}
+use Rattle.layout_conditions.specs.Layouts.{HaveLayout}
+use Rattle.group_walk.specs.Lookups.{ReadsOnly}
 use Rattle.image_check.specs.declared.contents.Contents.{Contents}
 use Rattle.image_check.specs.declared.fault.AttachFault.{AttachFault}
 use Rattle.image_check.specs.declared.fault.AttachFault.TheVariants as attach
 use Rattle.image_check.specs.declared.verdict.Verdict.{Verdict}
 use Rattle.image_check.specs.declared.verdict.Verdict.TheVariants as verdicts
-use Rattle.image_check.specs.Contents.{HaveLayout, AreContents}
+use Rattle.image_check.specs.Contents.{AreContents}
 use Rattle.image_check.specs.Faults.{attach_fault_of}
 use Rattle.image_check.specs.Verdicts.{clean_of, IsSlotsVerdict}
 
--- what is found in slots: their layout where they hold a tree, and nothing exactly where they hold none
+-- the slots are the layout of a tree, and this is what it has
+pub record AreFound (slots : List (List ℕ)) (p : Parameters) (contents : Contents) : Type 0 where
+  pub tree : Tree
+  pub layout : HaveLayout slots tree p
+  pub contents_are : AreContents tree p contents
+
+-- what is found in slots: what the tree has whose layout they are, and nothing exactly where they are that of none
 abbrev pub IsFoundIn : List (List ℕ) → Parameters → Option Contents → Type 0
-IsFoundIn slots p (Some contents) = slots ≡ slots_of contents.layout
+IsFoundIn slots p (Some contents) = AreFound slots p contents
 IsFoundIn slots p None = (t : Tree) → HaveLayout slots t p → ⊥
 
--- a search for the tree that slots hold; what it hands out is that of a tree, whether or not they tell their bytes
+-- a search for the tree that slots hold
 pub record FindsContents (p : Parameters) (old new : SlotsState) (result : Result (Option Contents) Fault) : Type 0 where
-  pub reads : ReadsSlots old new result
-  pub contents : IfOk result (λ found. IfSome found (λ contents. (t : Tree) × AreContents t p contents))
+  pub reads : ReadsOnly old new result
+  pub params : IfOk result (λ found. IfSome found (λ contents. contents.params ≡ p))
   pub found : IsObservable old → IfOk result (IsFoundIn old.slots p)
 
 -- the verdict on what a layout holds
 abbrev pub clean_on : Contents → Verdict
-clean_on contents = verdicts.Clean (length (pages_in contents.layout)) contents.counts.dirs contents.counts.files contents.counts.bytes
+clean_on contents = verdicts.Clean contents.used contents.counts.dirs contents.counts.files contents.counts.bytes
 
 -- the contents of an image by what was found in its slots, or why it has none: it is damaged where they hold no tree
 abbrev pub contents_in : Result (Option Contents) Fault → Result Contents AttachFault
@@ -48,7 +53,7 @@ verdict_in (Err attach.NoMemory) = Err causes.NoMemory
 
 -- a check of slots
 pub record ChecksSlots (p : Parameters) (old new : SlotsState) (result : Result Verdict Fault) : Type 0 where
-  pub reads : ReadsSlots old new result
+  pub reads : ReadsOnly old new result
   -- slots are never no image
   pub never : IfOk result (λ verdict. verdict ≡ verdicts.NotImage → ⊥)
   -- the verdict is that on the slots

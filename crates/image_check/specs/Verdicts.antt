@@ -5,10 +5,10 @@ use Rattle.store_model.specs.Trees.{Tree}
 use Rattle.store_model.specs.Pages.{page_count}
 use Rattle.store_model.specs.Images.{NamesParameters, Represents}
 use Rattle.disk_model.specs.DiskState.{DiskState, IsObservable}
+use Rattle.layout_conditions.specs.Layouts.{HaveLayout}
+use Rattle.tree_reader.specs.Counts.{count_dirs, count_files, count_bytes}
 use Rattle.image_check.specs.declared.verdict.Verdict.{Verdict}
 use Rattle.image_check.specs.declared.verdict.Verdict.TheVariants as verdicts
-use Rattle.image_check.specs.Counts.{count_dirs, count_files, count_bytes}
-use Rattle.image_check.specs.Contents.{HaveLayout}
 
 -- the verdict on what holds the tree: its pages, directories without the root, files and bytes
 abbrev pub clean_of : Tree → Parameters → Verdict
@@ -48,13 +48,17 @@ pub record IsDamaged (disk : DiskState) : Type 0 where
   pub has_parameters : HasParameters disk params
   pub no_tree : IsObservable disk → (t : Tree) (p : Parameters) → Represents disk.bytes t p → ⊥
 
+-- the image represents a tree under these parameters, and the verdict is that on it
+pub record IsCleanImage (image : List ℕ) (p : Parameters) (verdict : Verdict) : Type 0 where
+  pub tree : Tree
+  pub represents : Represents image tree p
+  pub verdict_is : verdict ≡ clean_of tree p
+
 -- a disk of an image's length; an observable one represents a tree, and the verdict is that on it
 pub record IsClean (disk : DiskState) (verdict : Verdict) : Type 0 where
   pub params : Parameters
-  pub tree : Tree
   pub has_parameters : HasParameters disk params
-  pub represents : IsObservable disk → Represents disk.bytes tree params
-  pub verdict_is : verdict ≡ clean_of tree params
+  pub image : IsObservable disk → IsCleanImage disk.bytes params verdict
 
 -- the verdict on a disk
 abbrev pub IsVerdict : DiskState → Verdict → Type 0

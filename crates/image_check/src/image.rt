@@ -9,13 +9,12 @@ use crate::slots::find_contents;
 use crate::verdict::{Verdict, contents_of, verdict_of};
 use disk_model::Disk;
 use gate_journal::View;
-use std::alloc::Global;
 use store_base::Fault;
 
 /// What a disk holds as recovery would leave it; the disk is only read, and handed back. `NotImage` is the answer to a
 /// disk that does not start with the header of some image of its length, and to no other; `Damaged` that to an image
-/// that represents no tree. `Disk` comes only where the disk failed.
-pub fn find_image<D: Disk>(alloc: Global, mut disk: D) -> (D, Result<Contents, AttachFault>)
+/// that represents no tree. `Disk` comes only where the disk failed, and `NoMemory` never.
+pub fn find_image<D: Disk>(mut disk: D) -> (D, Result<Contents, AttachFault>)
     ensures { FindsImage (D.state disk) (D.state result.0) result.1 }
 {
     let params = match read_params(&mut disk) {
@@ -24,16 +23,16 @@ pub fn find_image<D: Disk>(alloc: Global, mut disk: D) -> (D, Result<Contents, A
         Err(fault) => return (disk, Err(fault.into())),
     };
     let mut view = View::new(disk, &params);
-    let found = find_contents(alloc, &mut view, &params);
+    let found = find_contents(&mut view, &params);
     (view.into_disk(), contents_of(found))
 }
 
 /// Checks an image as recovery would leave it; the disk is only read, and handed back. `Clean` is the verdict on an
 /// image that represents a tree, and on no other; `NotImage` that on a disk that does not start with the header of some
-/// image of its length; `Damaged` that on any other disk. `Fault::Disk` comes only where the disk failed.
-pub fn check<D: Disk>(alloc: Global, disk: D) -> (D, Result<Verdict, Fault>)
+/// image of its length; `Damaged` that on any other disk. `Fault::Disk` comes only where the disk failed, and `Fault::NoMemory` never.
+pub fn check<D: Disk>(disk: D) -> (D, Result<Verdict, Fault>)
     ensures { ChecksImage (D.state disk) (D.state result.0) result.1 }
 {
-    let (disk, found) = find_image(alloc, disk);
+    let (disk, found) = find_image(disk);
     (disk, verdict_of(found))
 }

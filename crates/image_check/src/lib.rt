@@ -1,25 +1,23 @@
-//! The exact check: whether an image is the layout of a tree, and of which.
+//! The exact check: whether an image is the layout of a tree, and what that tree holds.
 //!
-//! The slots that recovery would leave are read, the pairs of their pages of level 0 are sorted, and it is tested
-//! whether they are a tree's. Then they are laid out anew, and each slot is compared with the layout. Nothing is
-//! written: the slots are seen through a view (`gate_journal`).
+//! Five conditions are tested on the slots that recovery would leave, page by page (`layout_conditions`): what each slot
+//! holds and in which order (`table_order`), the groups of pages from the highest level down (`group_walk`), and whether
+//! the pairs of level 0 are a tree's (`tree_reader`). They hold of layouts alone. Nothing is written, no list is made,
+//! and no memory is taken: the slots are seen through a view (`gate_journal`).
 #![tactic(auto)]
 
-mod blocks;
-mod collect;
 mod contents;
-mod entry;
 mod fault;
 mod header;
 mod image;
-mod order;
+mod pairs;
 mod slots;
-mod tree;
 mod verdict;
 
-pub use contents::{Contents, Counts};
+pub use contents::Contents;
 pub use fault::{ApplyFault, AttachFault};
 pub use header::read_params;
 pub use image::{check, find_image};
 pub use slots::{check_slots, find_contents};
 pub use verdict::Verdict;
+pub use tree_reader::Counts;

@@ -1,49 +1,57 @@
 //! The check of slots.
 
-ghost use Rattle.std.specs.Prelude.{◌≡◌, ◌≤◌, IfOk, IfSome, MatchOption, length};
-ghost use Rattle.std.specs.List.Sorted.{IsPermutation};
-ghost use Rattle.store_model.specs.Parameters.{Parameters};
-ghost use Rattle.store_model.specs.Trees.{Tree, IsTree};
-ghost use Rattle.store_model.specs.Pairs as model;
-ghost use Rattle.image_check.specs.Collected.{most_table_pairs};
-ghost use Rattle.image_check.specs.Contents.{AreCounts};
+ghost use Rattle.std.specs.Prelude.{◌≡◌, ◌≤◌, ◌<◌, ℕ, Some, None};
+ghost use Rattle.seeded_draw.specs.AnyDrawn.{any_draw};
 ghost use Rattle.image_check.specs.SlotCalls.{FindsContents, ChecksSlots};
+ghost use Rattle.image_check.specs.Orders.{FindsOrder};
 
-use crate::collect::read_pairs;
-use crate::contents::{Contents, Counts};
-use crate::order::{do_rise, list_of, sort_pairs};
-use crate::tree::count_tree;
+use crate::contents::Contents;
+use crate::pairs::TreePairs;
 use crate::verdict::{Verdict, contents_of, verdict_of};
-use layout_scratch::{ScratchFault, are_layout, build};
-use node_pages::PairList;
-use std::alloc::Global;
-use store_base::{Fault, Key, NoMemory, Params, ReadSlots, Value};
+use group_walk::walk_groups;
+use ordered_table::Steps;
+use seeded_draw::AnyDraw;
+use std::marker::Brand;
+use std::sync::ledger::{Blank, Ledger};
+use store_base::{Fault, MAX_SLOTS, Params, ReadSlots};
+use table_order::check_order;
 
-/// Pairs in the order of their keys, with what their tree holds; `None` exactly where they are no tree's.
-fn in_key_order(
-    alloc: Global,
-    mut pairs: Vec<(Key, Value)>,
-) -> Result<Option<(PairList, Counts)>, NoMemory>
-    requires { length pairs.items ≤ most_table_pairs }
-    ensures tree { (p : Parameters) → IfOk result (λ found. IfSome found (λ (s, counts). (t : Tree) × IsTree t × (s ≡ model.pairs t p) × AreCounts t counts)) }
-    ensures few { IfOk result (λ found. IfSome found (λ (s, counts). length s ≤ most_table_pairs)) }
-    ensures only { (p : Parameters) (t : Tree) → IsTree t → IsPermutation pairs.items (model.pairs t p) → IfOk result (λ found. MatchOption found ⊥ (λ (s, counts). s ≡ model.pairs t p)) }
+/// As `count_pages`, with a ledger for steps that nobody counts.
+fn count_by<S: ReadSlots, L: Ledger>(
+    slots: &mut S,
+    draw: &AnyDraw,
+    height: u8,
+    blank: Blank,
+) -> Result<Option<u32>, Fault>
+    requires name { blank.name ≡ L.name }
+    requires parts { blank.parts ≡ L.parts }
+    requires some { 0 < L.parts }
+    requires count { (S.state slots.old).count ≡ (any_draw draw.now).slots }
+    requires most { (any_draw draw.now).slots ≤ MAX_SLOTS }
+    ensures call { FindsOrder (any_draw draw.now) height (S.state slots.old) (S.state slots.new) result }
+    ensures follows { S.follows slots.old slots.new }
 {
-    sort_pairs(&mut pairs)?;
-    if !do_rise(&pairs) {
-        return Ok(None);
-    }
-    let Some(counts) = count_tree(&pairs) else {
-        return Ok(None);
-    };
-    Ok(Some((list_of(alloc, pairs)?, counts)))
+    check_order(slots, draw, height, &mut Steps::<L>::new(blank))
+}
+
+/// How many pages slots hold that are a table in order, with pages of levels below the height; `None` exactly where they
+/// are not. A fault of the slots is handed on.
+fn count_pages<S: ReadSlots>(
+    slots: &mut S,
+    draw: &AnyDraw,
+    height: u8,
+) -> Result<Option<u32>, Fault>
+    requires count { (S.state slots.old).count ≡ (any_draw draw.now).slots }
+    requires most { (any_draw draw.now).slots ≤ MAX_SLOTS }
+    ensures call { FindsOrder (any_draw draw.now) height (S.state slots.old) (S.state slots.new) result }
+    ensures follows { S.follows slots.old slots.new }
+{
+    count_by::<S, Brand>(slots, draw, height, Blank::new(1))
 }
 
 /// What slots hold: `None` exactly where they are the layout of no tree. There have to be as many slots as the
-/// parameters say. A fault of the slots is handed on, and the slots are as they were; `NoMemory` comes for want of
-/// memory too.
+/// parameters say. A fault of the slots is handed on, and the slots are as they were. It takes no memory itself.
 pub fn find_contents<S: ReadSlots>(
-    alloc: Global,
     slots: &mut S,
     params: &Params,
 ) -> Result<Option<Contents>, Fault>
@@ -51,40 +59,31 @@ pub fn find_contents<S: ReadSlots>(
     ensures call { FindsContents params.now (S.state slots.old) (S.state slots.new) result }
     ensures follows { S.follows slots.old slots.new }
 {
-    let Some(pairs) = read_pairs(alloc, slots, params)? else {
+    let draw = AnyDraw::new(params);
+    let Some(used) = count_pages(slots, &draw, params.height())? else {
         return Ok(None);
     };
-    let Some((pairs, counts)) = in_key_order(alloc, pairs)? else {
-        return Ok(None);
-    };
-    let layout = match build(alloc, params, &pairs) {
-        Ok(layout) => layout,
-        // Pages that are more than the slots are the layout of no tree.
-        Err(ScratchFault::Full { .. }) => return Ok(None),
-        Err(ScratchFault::NoMemory) => return Err(Fault::NoMemory),
-    };
-    if !are_layout(slots, params, &layout)? {
+    let mut pairs = TreePairs::new();
+    if !walk_groups(slots, &draw, used, &mut pairs)? {
         return Ok(None);
     }
+    let Some(counts) = pairs.counts() else {
+        return Ok(None);
+    };
     Ok(Some(Contents {
         params: *params,
-        pairs,
-        layout,
+        used,
         counts,
     }))
 }
 
 /// Checks slots: `Clean` exactly where they are the layout of a tree, and else `Damaged`; it never answers `NotImage`.
 /// There have to be as many slots as the parameters say. A fault of the slots is handed on, and the slots are as they
-/// were; `NoMemory` comes for want of memory too.
-pub fn check_slots<S: ReadSlots>(
-    alloc: Global,
-    slots: &mut S,
-    params: &Params,
-) -> Result<Verdict, Fault>
+/// were. It takes no memory itself.
+pub fn check_slots<S: ReadSlots>(slots: &mut S, params: &Params) -> Result<Verdict, Fault>
     requires { (S.state slots.old).count ≡ params.now.slots }
     ensures call { ChecksSlots params.now (S.state slots.old) (S.state slots.new) result }
     ensures follows { S.follows slots.old slots.new }
 {
-    verdict_of(contents_of(find_contents(alloc, slots, params)))
+    verdict_of(contents_of(find_contents(slots, params)))
 }

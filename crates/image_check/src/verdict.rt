@@ -32,7 +32,7 @@ fn clean(contents: &Contents) -> Verdict
     ensures { result ≡ clean_on contents.now }
 {
     Verdict::Clean {
-        pages: contents.layout.used(),
+        pages: contents.used,
         dirs: contents.counts.dirs,
         files: contents.counts.files,
         bytes: contents.counts.bytes,

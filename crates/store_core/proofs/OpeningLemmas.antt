@@ -1,13 +1,15 @@
 -- How a store is opened: a sync, the check of the image, and its recovery.
+use Rattle.std.proofs.lemmas.Bool.{cases_Bool, false≢true}
 use Rattle.std.proofs.Common.{◌≡◌, ◌⊎◌, ◌+◌, ℕ, List, Result, Ok, Err, OnOk, false, refl, sym, ap, subst, ◌∙◌, inl, inr, ⊎_elim, arith}
 use Rattle.store_base.specs.declared.fault.DiskFault.{DiskFault}
 use Rattle.store_base.specs.declared.store_fault.Fault.{Fault}
 use Rattle.store_base.specs.declared.store_fault.Fault.TheVariants as causes
 use Rattle.store_base.specs.Counts.{raised, faults_after}
 use Rattle.store_model.specs.Parameters.{Parameters}
-use Rattle.store_model.specs.Trees.{Tree}
+use Rattle.store_model.specs.Trees.{Tree, empty_tree}
 use Rattle.store_model.specs.Draws.{draw_of}
 use Rattle.store_model.specs.Images.{Represents, recovered}
+use Rattle.store_model.proofs.TreesLemmasFits.{Fits-empty, IsTree-empty}
 use Rattle.store_model.proofs.TreesLemmasLayouts.{images_tell}
 use Rattle.disk_model.specs.DiskState.{DiskState, IsObservable, IsDurable, IsSound}
 use Rattle.disk_model.specs.DiskCalls.{LeavesOnly, IsSync}
@@ -27,13 +29,13 @@ use Rattle.image_check.specs.declared.contents.Contents.{Contents}
 use Rattle.image_check.specs.declared.verdict.Verdict.{Verdict}
 use Rattle.image_check.specs.declared.verdict.Verdict.TheVariants as verdicts
 use Rattle.image_check.specs.SlotCalls.{clean_on}
-use Rattle.image_check.specs.ImageCalls.{ReadsDisk, HasImage, FindsImage}
+use Rattle.image_check.specs.ImageCalls.{ReadsDisk, HasTree, HasImage, FindsImage}
 use Rattle.image_check.specs.Verdicts.{IsImageWith, HasParameters, IsNoImage, IsDamaged}
 use Rattle.page_store.specs.PageImages.{pages_in_table}
 use Rattle.page_store.specs.StagedState.{StagedState}
 use Rattle.image_check.specs.declared.fault.AttachFault.{AttachFault}
 use Rattle.image_check.specs.declared.fault.AttachFault.TheVariants as attach
-use Rattle.store_core.specs.Opening.{IsSynced, ChecksSynced, IsOpenAt}
+use Rattle.store_core.specs.Opening.{IsSynced, ChecksSynced, OpensWith, IsOpenAt}
 use Rattle.store_core.specs.StagedTree.{AreAt}
 use Rattle.image_check.specs.Standing.{IsFitting, Stands}
 use Rattle.store_core.specs.StoreState.{StoreState}
@@ -76,10 +78,8 @@ module _ (old new : DiskState) (size : new.size ≡ old.size) (observable : new.
 
   image_before : (contents : Contents) → HasImage new contents → HasImage old contents
   image_before contents has = record {
-    tree = has.tree;
-    contents_are = has.contents_are;
     has_parameters = parameters_before contents.params has.has_parameters;
-    represents = λ here. subst (λ (image : List ℕ). Represents image has.tree contents.params) (bytes here) (has.represents (observable ∙ here));
+    tree = λ here. subst (λ (image : List ℕ). HasTree image contents) (bytes here) (has.tree (observable ∙ here));
   }
 
   no_image_before : IsNoImage new → IsNoImage old
@@ -154,15 +154,34 @@ module _ {T E : Type 0} (old mid new : DiskState) (value : T) (sound : IsObserva
     not_image = λ e. absurd (cc);
     damaged = λ e. absurd (cc);
   }
-  checked (Err attach.NoMemory) finds = record {
-    kept = keeps (Err causes.NoMemory) finds.reads;
-    faults = finds.reads.faults ∙ sync.call.faults;
-    synced = synced (Err causes.NoMemory) finds.reads;
-    durable = λ observable. tt;
-    image = tt;
-    not_image = λ e. absurd (cc);
-    damaged = λ e. absurd (cc);
-  }
+  checked (Err attach.NoMemory) finds = absurd finds.found
+
+-- ---- the tree that a store is opened with
+
+pub opening_tree : (disk : DiskState) (contents : Contents) → HasImage disk contents → (t : Tree) × OpensWith disk contents t
+opening_tree disk contents has =
+    ⊎_elim
+    (λ seen.
+    let is = has.tree seen in (
+      is.tree,
+      record {
+        fitting = record { in_range = is.contents_are.in_range; tree = is.contents_are.tree; fits = is.contents_are.fits };
+        represents = λ observable. is.represents;
+        used_is = λ observable. is.contents_are.used_is;
+        unseen = λ hidden. absurd (hidden seen);
+      },
+    ))
+    (λ hidden.
+    let unseen : IsObservable disk → ⊥ = λ seen. false≢true (sym hidden ∙ seen) in (
+      empty_tree,
+      record {
+        fitting = record { in_range = has.has_parameters.in_range; tree = IsTree-empty; fits = Fits-empty contents.params };
+        represents = λ observable. absurd (unseen observable);
+        used_is = λ observable. absurd (unseen observable);
+        unseen = λ other. refl;
+      },
+    ))
+    (cases_Bool disk.is_observable)
 
 -- ---- recovery
 
@@ -171,29 +190,35 @@ module _ (old mid new : DiskState) (contents : Contents) (checks : ChecksSynced 
     (quiet : IsObservable mid → HasEmptyJournal contents.params.slots mid.bytes → new.writes ≡ mid.writes)
     (quiet_syncs : IsObservable mid → HasEmptyJournal contents.params.slots mid.bytes → new.syncs ≡ raised mid.syncs)
     (makes : IsObservable mid → (HasEmptyJournal contents.params.slots mid.bytes → ⊥) → Makes (redo_writes contents.params.slots mid.bytes + erase_writes contents.params.slots mid.bytes) (redo_syncs mid.bytes + 2) mid new result) where
+  t : Tree
+  t = (opening_tree old contents checks.image).0
+
+  with : OpensWith old contents t
+  with = (opening_tree old contents checks.image).1
+
   pub kept_by_both : KeepsDisk old new
   kept_by_both = keeps_then old mid new checks.kept (keeps_calls mid new result calls)
 
   -- what the disk reads before recovery represents the tree, and so does what it reads behind it
-  before : IsObservable old → Represents mid.bytes checks.image.tree contents.params
+  before : IsObservable old → Represents mid.bytes t contents.params
   before observable =
-      subst (λ (image : List ℕ). Represents image checks.image.tree contents.params) (sym (checks.synced observable).bytes) (checks.image.represents observable)
+      subst (λ (image : List ℕ). Represents image t contents.params) (sym (checks.synced observable).bytes) (with.represents observable)
 
-  after : IsObservable old → Represents new.bytes checks.image.tree contents.params
+  after : IsObservable old → Represents new.bytes t contents.params
   after observable =
-      recovers-represents mid.bytes new.bytes checks.image.tree contents.params (before observable) (recovers (checks.kept.observable ∙ observable)).reads
+      recovers-represents mid.bytes new.bytes t contents.params (before observable) (recovers (checks.kept.observable ∙ observable)).reads
 
-  leaves : IsObservable old → LeavesOnly old new (λ image. old.crash_images image ⊎ Represents image checks.image.tree contents.params)
+  leaves : IsObservable old → LeavesOnly old new (λ image. old.crash_images image ⊎ Represents image t contents.params)
   leaves observable =
       let observable_mid : IsObservable mid = checks.kept.observable ∙ observable in
       let durable : IsDurable mid = checks.durable observable in
-      let P : List ℕ → Type 0 = λ image. old.crash_images image ⊎ Represents image checks.image.tree contents.params in
+      let P : List ℕ → Type 0 = λ image. old.crash_images image ⊎ Represents image t contents.params in
       LeavesOnly-trans old mid new P
       (LeavesOnly-weaken old mid old.crash_images P (λ image left. inl left) (checks.synced observable).leaves)
       (LeavesOnly-weaken mid new (λ image. mid.crash_images image ⊎ RecoversAs contents.params.slots mid.bytes image) P
       (λ image either. ⊎_elim
-      (λ left. inr (subst (λ (x : List ℕ). Represents x checks.image.tree contents.params) (sym (durable image left)) (before observable)))
-      (λ alike. inr (recovers-represents mid.bytes image checks.image.tree contents.params (before observable) alike)) either)
+      (λ left. inr (subst (λ (x : List ℕ). Represents x t contents.params) (sym (durable image left)) (before observable)))
+      (λ alike. inr (recovers-represents mid.bytes image t contents.params (before observable) alike)) either)
       (recovers observable_mid).crash)
 
   counts : IsObservable old → CountsOpening contents.params.slots old new result
@@ -213,7 +238,7 @@ module _ (old mid new : DiskState) (contents : Contents) (checks : ChecksSynced 
     unwritten = λ observable other. absurd (other refl);
     looked = λ observable either. ⊎_elim (λ e. absurd (cc)) (λ e. absurd (cc)) either;
     represented = λ observable t p represents.
-        let same = images_tell old.bytes checks.image.tree t contents.params p (checks.image.represents observable) represents in
+        let same = images_tell old.bytes t t contents.params p (with.represents observable) represents in
         subst (λ (q : Parameters). KeepsImage t q old attach.Disk new) same.1 (subst (λ (u : Tree). KeepsImage u contents.params old attach.Disk new) same.0 (record {
           not_image = λ e. absurd (cc);
           damaged = λ e. absurd (cc);
@@ -221,7 +246,7 @@ module _ (old mid new : DiskState) (contents : Contents) (checks : ChecksSynced 
           crash = leaves observable;
           limit = (counts observable).limit;
         }));
-    unrepresented = λ observable none. absurd (none checks.image.tree contents.params (checks.image.represents observable));
+    unrepresented = λ observable none. absurd (none t contents.params (with.represents observable));
   }
 
   -- it succeeded
@@ -231,20 +256,20 @@ module _ (old mid new : DiskState) (contents : Contents) (checks : ChecksSynced 
         subst (λ (r : Result (Unit {0}) DiskFault). OnOk r (new.bytes ≡ recovered contents.params.slots mid.bytes)) is (recovers (checks.kept.observable ∙ observable)).done
         ∙ ap (recovered contents.params.slots) (checks.synced observable).bytes
 
-    pub stands : IsObservable old → Stands new checks.image.tree contents.params
+    pub stands : IsObservable old → Stands new t contents.params
     stands observable = record {
-      layout_is = recovered_is observable ∙ (checks.image.represents observable).layout_is;
+      layout_is = recovered_is observable ∙ (with.represents observable).layout_is;
       durable = subst (λ (r : Result (Unit {0}) DiskFault). OnOk r (IsDurable new)) is (recovers (checks.kept.observable ∙ observable)).durable;
     }
 
-    pub opened : IsObservable old → IsOpened checks.image.tree contents.params old new
+    pub opened : IsObservable old → IsOpened t contents.params old new
     opened observable = record {
-      represents = checks.image.represents observable;
+      represents = with.represents observable;
       stands = stands observable;
       crash = leaves observable;
       counts = subst (λ (r : Result (Unit {0}) DiskFault). OnOk r (Made (opening_writes contents.params.slots old.bytes) (opening_syncs contents.params.slots old.bytes) old new)) is (counts observable).made;
       unwritten = λ empty. record {
-        bytes = recovered_is observable ∙ recovered_empty contents.params.slots old.bytes (checks.image.represents observable).length_is empty;
+        bytes = recovered_is observable ∙ recovered_empty contents.params.slots old.bytes (with.represents observable).length_is empty;
         writes =
             quiet (checks.kept.observable ∙ observable) (subst (λ (image : List ℕ). HasEmptyJournal contents.params.slots image) (sym (checks.synced observable).bytes) empty)
             ∙ (checks.synced observable).writes;
@@ -256,10 +281,6 @@ module _ (old mid new : DiskState) (contents : Contents) (checks : ChecksSynced 
 
 -- ---- the store that is made of a disk
 
--- its tree fits
-pub fitting_open : (disk : DiskState) (contents : Contents) (t : Tree) → IsOpenAt disk contents t → IsFitting t contents.params
-fitting_open disk contents t at = let are = at.contents_are in record { in_range = are.in_range; tree = are.tree; fits = are.fits }
-
 -- and its pages are staged
 pub open_pages : {D : Type 0} (state : D → DiskState) (disk : D) (contents : Contents) (t : Tree) (staged : StagedState D AnyDraw) (draw : AnyDraw) → IsOpenAt (state disk) contents t → any_draw draw ≡ draw_of contents.params → staged.params ≡ contents.params → staged.draw ≡ draw → staged.disk ≡ disk
     → staged.table ≡ pages_in_table contents.params.slots (state disk).bytes → staged.map ≡ staged.table → AreAt state t contents.params staged
@@ -269,7 +290,7 @@ open_pages {D} state disk contents t staged draw at drawn params_is draw_is disk
   size_is = ap (λ (d : D). (state d).size) disk_is ∙ at.size_is;
   held = λ observable runs.
       let stands = at.stands (sym (ap (λ (d : D). (state d).is_observable) disk_is) ∙ observable) in
-      let table = table_is ∙ table_pages t contents.params (state disk).bytes (fitting_open (state disk) contents t at) stands.layout_is in
+      let table = table_is ∙ table_pages t contents.params (state disk).bytes at.fitting stands.layout_is in
       record { stands = subst (λ (d : D). Stands (state d) t contents.params) (sym disk_is) stands; table_is = table; map_is = map_is ∙ table };
 }
 

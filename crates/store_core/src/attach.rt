@@ -16,13 +16,13 @@ use skip_levels::SkipList;
 use std::alloc::Global;
 
 /// What a disk holds as recovery would leave it. After one sync the disk is only read, and it is handed back.
-fn check_image<D: Disk>(alloc: Global, mut disk: D) -> (D, Result<Contents, AttachFault>)
+fn check_image<D: Disk>(mut disk: D) -> (D, Result<Contents, AttachFault>)
     ensures { ChecksSynced (D.state disk) (D.state result.0) result.1 }
 {
     if let Err(fault) = disk.sync() {
         return (disk, Err(fault.into()));
     }
-    find_image(alloc, disk)
+    find_image(disk)
 }
 
 impl<D: Disk> Store<D> {
@@ -38,7 +38,7 @@ impl<D: Disk> Store<D> {
     pub fn attach(alloc: Global, disk: D) -> Result<Self, (AttachFault, D)>
         ensures call { Attaches D.state (D.state disk) result }
     {
-        let (mut disk, checked) = check_image(alloc, disk);
+        let (mut disk, checked) = check_image(disk);
         let contents = match checked {
             Ok(contents) => contents,
             Err(fault) => return Err((fault, disk)),
@@ -59,15 +59,10 @@ impl<D: Disk> Store<D> {
         requires empty { cache ≡ [] }
         ensures { (t : Tree) → IsOpenAt (D.state disk) contents t → result ≡ record { params = contents.params; tree = t; disk = disk; is_stopped = false } }
     {
-        let Contents {
-            params,
-            pairs,
-            layout,
-            counts: _,
-        } = contents;
-        let known = KnownTree::new(params, &pairs, &disk);
+        let params = contents.params;
+        let known = KnownTree::new(params, &disk);
         let draw = AnyDraw::new(&params);
-        let pages = Staged::new(alloc, disk, &params, draw, layout.used(), cache);
+        let pages = Staged::new(alloc, disk, &params, draw, contents.used, cache);
         Store {
             alloc,
             known,

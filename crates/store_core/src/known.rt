@@ -8,7 +8,6 @@ ghost use Rattle.image_check.specs.Standing.{IsFitting};
 ghost use Rattle.store_core.specs.Known.{IsKnownTree, TellsTree, TellsTree-prop, MovesOn};
 
 use disk_model::Disk;
-use node_pages::PairList;
 use std::marker::Model;
 use std::snapshot::Snapshot;
 use store_base::Params;
@@ -16,12 +15,11 @@ use store_base::Params;
 /// The tree that a disk stood at when it was last settled, which fits. Contracts see it as that tree, with the
 /// parameters that it is laid out under and that disk. It takes no memory but that of the parameters.
 ///
-/// Of a disk that is not observable the tree is the one whose pairs were found when the store was opened.
+/// Of a disk that is not observable nothing is known, and the tree is the empty one.
 pub struct KnownTree<D: Disk> {
     pub(crate) params: Params,
-    opened: Snapshot<PairList>,
     settled: Snapshot<D>,
-    ghost known: { TellsTree (D.state settled.value) params opened.value } by { TellsTree-prop (D.state settled.value) params opened.value },
+    ghost known: { TellsTree (D.state settled.value) params } by { TellsTree-prop (D.state settled.value) params },
 }
 
 impl<D: Disk> Model for KnownTree<D> {
@@ -33,14 +31,13 @@ impl<D: Disk> Model for KnownTree<D> {
 }
 
 impl<D: Disk> KnownTree<D> {
-    /// The tree that has these pairs, and at which the disk stands.
-    pub fn new(params: Params, pairs: &PairList, disk: &D) -> Self
-        requires { TellsTree (D.state disk.now) params pairs.now }
-        ensures { (t : Tree) → IsKnownTree (D.state disk.now) params pairs.now t → result ≡ record { params = params; tree = t; settled = disk.now } }
+    /// The tree at which the disk stands.
+    pub fn new(params: Params, disk: &D) -> Self
+        requires { TellsTree (D.state disk.now) params }
+        ensures { (t : Tree) → IsKnownTree (D.state disk.now) params t → result ≡ record { params = params; tree = t; settled = disk.now } }
     {
         KnownTree {
             params,
-            opened: Snapshot::of(pairs),
             settled: Snapshot::of(disk),
         }
     }
@@ -67,7 +64,6 @@ impl<D: Disk> Drop for KnownTree<D> {
     fn drop(self) {
         let Self {
             params: _,
-            opened: _,
             settled: _,
         } = self;
     }

@@ -10,7 +10,7 @@ use Rattle.store_core.specs.Known.{KnownState, IsKnownTree}
 use Rattle.store_core.specs.StagedTree.{AreAt}
 use Rattle.store_core.specs.StoreFields.{HoldsKnown}
 use Rattle.store_core.proofs.AnswerSteps.{list_at}
-use Rattle.store_core.proofs.OpeningLemmas.{fitting_open, open_pages}
+use Rattle.store_core.proofs.OpeningLemmas.{open_pages}
 use Rattle.store_core.proofs.TreePages.{tree_holds, held_count, stands_pages, table_pages, table_count}
 use Rattle.store_core.proofs.store.Store.open.Goals as goal
 
@@ -23,7 +23,7 @@ new-pages-requires-clause-stands g c observable =
     let disk = g.D.Disk.state c.args.disk in
     let p = c.args.contents.params in
     let t = c.requires.stands.0 in
-    let fit = fitting_open disk c.args.contents t c.requires.stands.1 in
+    let fit = c.requires.stands.1.fitting in
     let stands = c.requires.stands.1.stands observable in
     subst (λ (d : Draw). SlotStandsAt d p (pages_in_table p.slots disk.bytes) disk) (sym c.new-draw.ensures)
     (subst (λ (m : PageMap). SlotStandsAt (draw_of p) p m disk) (sym (table_pages t p disk.bytes fit stands.layout_is)) (stands_pages t p disk fit stands))
@@ -33,10 +33,10 @@ new-pages-requires-clause-count g c observable =
     let disk = g.D.Disk.state c.args.disk in
     let p = c.args.contents.params in
     let t = c.requires.stands.0 in
-    let fit = fitting_open disk c.args.contents t c.requires.stands.1 in
+    let fit = c.requires.stands.1.fitting in
     let table = pages_in_table p.slots disk.bytes in
     let stands = c.requires.stands.1.stands observable in
-    c.used.ensures ∙ ap (λ (x : Table). length (pages_in x)) c.requires.stands.1.contents_are.table_is ∙ table_count t p fit
+    c.requires.stands.1.used_is observable
     ∙ sym (held_count t p table (tree_holds t p table fit (table_pages t p disk.bytes fit stands.layout_is)))
 
 pub new-requires : goal.new-requires
@@ -48,7 +48,7 @@ new-requires g c =
     let ends = c.new-pages.ensures in
     let staged = c.new-pages.result in
     let pages = open_pages state c.args.disk c.args.contents t staged c.new-draw.result at c.new-draw.ensures ends.params ends.drawn ends.disk ends.table ends.map in
-    list_at state p staged (any_draw c.new-draw.result) c.new-draw.ensures (t, (fitting_open (state c.args.disk) c.args.contents t at, pages))
+    list_at state p staged (any_draw c.new-draw.result) c.new-draw.ensures (t, (at.fitting, pages))
 
 pub invariant_of-result : goal.invariant_of-result
 invariant_of-result g c =
@@ -57,10 +57,10 @@ invariant_of-result g c =
     let p = c.args.contents.params in
     let t = c.requires.stands.0 in
     let at = c.requires.stands.1 in
-    let fit = fitting_open (state disk) c.args.contents t at in
+    let fit = at.fitting in
     let ends = c.new-pages.ensures in
     let pages = open_pages state disk c.args.contents t c.new-pages.result c.new-draw.result at c.new-draw.ensures ends.params ends.drawn ends.disk ends.table ends.map in
-    let known : IsKnownTree (state disk) p c.args.contents.pairs t = record { fitting = fit; seen = λ observable. (at.stands observable).layout_is; unseen = λ hidden. at.contents_are.pairs_are } in
+    let known : IsKnownTree (state disk) p t = record { fitting = fit; seen = λ observable. (at.stands observable).layout_is; unseen = at.unseen } in
     let served : HoldsKnown state (record { params = p; tree = t; settled = disk }) c.new.result = record {
       at = record {
         fitting = fit;

@@ -1,0 +1,104 @@
+-- What a search for the contents of slots answers, by the calls that it makes.
+use Rattle.std.proofs.Common.{◌≡◌, ℕ, ◌*◌, ◌≤◌, List, [], length, Bool, true, false, Option, Some, None, MatchOption, Result, Ok, Err, IfOk, refl, sym, ap, subst, ◌∙◌, arith}
+use Rattle.std.specs.Bool.{MatchBool}
+use Rattle.store_model.specs.Parameters.{Parameters, IsParameters}
+use Rattle.store_model.specs.Trees.{Tree}
+use Rattle.store_model.specs.Pairs.{Pair}
+use Rattle.store_model.specs.Draws.{draw_of}
+use Rattle.store_model.specs.Placement.{Table, pages_in}
+use Rattle.store_base.specs.SlotsState.{SlotsState, IsObservable}
+use Rattle.layout_conditions.specs.Layouts.{HaveLayout}
+use Rattle.tree_reader.specs.declared.counts.Counts.{Counts}
+use Rattle.tree_reader.specs.Fronts.{AreOfTree}
+use Rattle.table_order.specs.OrderCalls.{IsOrderedBelow, Checks}
+use Rattle.group_walk.specs.Lookups.{ReadsOnly}
+use Rattle.group_walk.specs.Walked.{MeetWalk}
+use Rattle.group_walk.specs.Walks.{WalksTable, HoldsList}
+use Rattle.layout_conditions.specs.Conditions.{StandsIn}
+use Rattle.image_check.specs.declared.contents.Contents.{Contents}
+use Rattle.image_check.specs.Orders.{FindsOrder}
+use Rattle.image_check.specs.SlotCalls.{FindsContents, IsFoundIn}
+use Rattle.image_check.specs.TreePairs.{AreCounted}
+use Rattle.image_check.proofs.Found.{sound_of, layout_ordered, layout_walks, layout_taken, found_tree, found_count, few_taken}
+use Rattle.image_check.proofs.Searches.{reads_answered, reads_then}
+
+module _ (p : Parameters) (valid : IsParameters p) (old mid : SlotsState) where
+  -- a layout has a number of pages
+  not_none : (slots : List (List ℕ)) (found : Option ℕ) → Checks (draw_of p) (draw_of p).height slots found → found ≡ None → (t : Tree) → HaveLayout slots t p → ⊥
+  not_none slots found checks none t have =
+      let table = layout_ordered p slots t valid have in
+      subst (λ o. MatchOption o ((table : Table) → IsOrderedBelow (draw_of p) (draw_of p).height slots table → ⊥) (λ used. (table : Table) × IsOrderedBelow (draw_of p) (draw_of p).height slots table × (used ≡ length (pages_in table)))) none checks table.0 table.1
+
+  -- the slots are no table in order
+  pub nothing_in_order : (found : Option ℕ) → FindsOrder (draw_of p) (draw_of p).height old mid (Ok found) → found ≡ None → FindsContents p old mid (Ok None)
+  nothing_in_order found finds none = record {
+    reads = reads_answered old mid found None finds.reads;
+    params = tt;
+    found = λ observable t have. not_none old.slots found (finds.found observable) none t have;
+  }
+
+  module _ (new : SlotsState) (found : Option ℕ) (used : ℕ) (finds : FindsOrder (draw_of p) (draw_of p).height old mid (Ok found)) (some : found ≡ Some used) where
+    -- the table that they are
+    its_table : IsObservable old → (table : Table) × IsOrderedBelow (draw_of p) (draw_of p).height old.slots table × (used ≡ length (pages_in table))
+    its_table observable =
+        subst (λ o. MatchOption o ((table : Table) → IsOrderedBelow (draw_of p) (draw_of p).height old.slots table → ⊥) (λ n. (table : Table) × IsOrderedBelow (draw_of p) (draw_of p).height old.slots table × (n ≡ length (pages_in table)))) some (finds.found observable)
+
+    module _ (taken : List Pair) (whole : Bool) (walks : WalksTable (draw_of p) mid new used [] taken (Ok whole)) where
+      reads_both : {T : Type 0} (value : T) → ReadsOnly old new (Ok value)
+      reads_both value = reads_answered old new whole value (reads_then old mid new found (Ok whole) finds.reads walks.reads)
+
+      walked : (observable : IsObservable old) → MatchBool whole (HoldsList (draw_of p) (its_table observable).0 [] taken) (MeetWalk (draw_of p) (StandsIn (its_table observable).0) → ⊥)
+      walked observable =
+          let table = its_table observable in
+          walks.walked table.0 (finds.reads.calls.observable ∙ observable) (finds.reads.slots observable ∙ table.1.slots_are) (sound_of p old.slots table.0 table.1) (sym table.2)
+
+      -- the groups of the table are not those of a layout
+      pub nothing_walked : whole ≡ false → FindsContents p old new (Ok None)
+      nothing_walked cut = record {
+        reads = reads_both None;
+        params = tt;
+        found = λ observable t have.
+            let table = its_table observable in
+            subst (λ b. MatchBool b (HoldsList (draw_of p) table.0 [] taken) (MeetWalk (draw_of p) (StandsIn table.0) → ⊥)) cut (walked observable) (layout_walks p valid old.slots table.0 table.1 t have);
+      }
+
+      module _ (is_whole : whole ≡ true) where
+        holds : (observable : IsObservable old) → HoldsList (draw_of p) (its_table observable).0 [] taken
+        holds observable = subst (λ b. MatchBool b (HoldsList (draw_of p) (its_table observable).0 [] taken) (MeetWalk (draw_of p) (StandsIn (its_table observable).0) → ⊥)) is_whole (walked observable)
+
+        -- the pairs are few
+        pub few_pairs : IsObservable old → length taken ≤ 31 * p.slots
+        few_pairs observable = let table = its_table observable in few_taken p valid old.slots table.0 table.1 taken (holds observable)
+
+        -- they are no tree's
+        pub nothing_counted : (IsObservable old → AreOfTree taken p → ⊥) → FindsContents p old new (Ok None)
+        nothing_counted none = record {
+          reads = reads_both None;
+          params = tt;
+          found = λ observable t have.
+              let table = its_table observable in
+              none observable (record { tree = t; is_tree = have.tree; pairs_are = layout_taken p valid old.slots table.0 table.1 taken (holds observable) t have });
+        }
+
+        -- they are those of a tree
+        pub found_all : (contents : Contents) → contents.params ≡ p → contents.used ≡ used → (IsObservable old → AreCounted taken p contents.counts) → FindsContents p old new (Ok (Some contents))
+        found_all contents named used_is counted = record {
+          reads = reads_both (Some contents);
+          params = named;
+          found = λ observable.
+              let table = its_table observable in
+              let are = counted observable in
+              let layout = found_tree p valid old.slots table.0 table.1 taken (holds observable) are.tree are.is_tree are.pairs_are in
+              record {
+                tree = are.tree;
+                layout = layout;
+                contents_are = record {
+                  in_range = valid;
+                  params_are = named;
+                  tree = are.is_tree;
+                  fits = layout.fits;
+                  used_is = used_is ∙ table.2 ∙ found_count p valid old.slots table.0 table.1 taken (holds observable) are.tree are.is_tree are.pairs_are;
+                  counts_are = are.counts_are;
+                };
+              };
+        }

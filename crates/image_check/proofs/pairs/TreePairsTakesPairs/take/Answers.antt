@@ -1,0 +1,22 @@
+use Rattle.std.proofs.Common.{List, ◌∷◌, ◌++◌, [], Bool, sym, subst, true, false}
+use Rattle.std.specs.Bool.{MatchBool}
+use Rattle.store_model.specs.Parameters.{Parameters}
+use Rattle.store_model.specs.Pairs.{Pair}
+use Rattle.tree_reader.specs.Seen.{HasSeen}
+use Rattle.image_check.specs.TreePairs.{BeginNoTree}
+use Rattle.image_check.proofs.Taken.{begin_none, took_more}
+use Rattle.image_check.proofs.pairs.TreePairsTakesPairs.take.Goals as goal
+
+pub add-requires : goal.add-requires
+add-requires c = ?
+
+pub returns-then-not-self : goal.returns-then-not-self
+returns-then-not-self c s took p =
+    let seen = subst (λ b. MatchBool b (BeginNoTree s p) (HasSeen c.args.self.now.reader s p)) c.if-not-self.true (took p) in
+    took_more c.args.self.now.reader c.add.new.self s (c.args.key.now, c.args.value.now) p c.add.result c.add.ensures seen
+
+pub returns-else-not-self : goal.returns-else-not-self
+returns-else-not-self c s took p =
+    let more = s ++ (c.args.key.now, c.args.value.now) ∷ [] in
+    let none = subst (λ b. MatchBool b (BeginNoTree s p) (HasSeen c.args.self.now.reader s p)) c.if-not-self.false (took p) in
+    subst (λ b. MatchBool b (BeginNoTree more p) (HasSeen c.args.self.now.reader more p)) (sym c.if-not-self.false) (begin_none s (c.args.key.now, c.args.value.now) p none)

@@ -1,0 +1,49 @@
+//! The pairs that a check comes to, as they are taken.
+
+ghost use Rattle.std.specs.Prelude.{[]};
+ghost use Rattle.image_check.specs.TreePairs.{TookPairs, TellsTree};
+
+use group_walk::TakesPairs;
+use store_base::{Key, Value};
+use tree_reader::{Counts, TreeReader};
+
+/// Pairs that came one after another, read until one was refused. No list of them is kept.
+#[derive(Clone, Copy, Debug)]
+pub(crate) struct TreePairs {
+    /// What read them.
+    reader: TreeReader,
+    /// Whether it refused one of them.
+    is_refused: bool,
+}
+
+impl TreePairs {
+    /// No pair.
+    pub(crate) fn new() -> TreePairs
+        ensures { TookPairs result [] }
+    {
+        TreePairs {
+            reader: TreeReader::new(),
+            is_refused: false,
+        }
+    }
+
+    /// What the tree holds whose pairs were taken; `None` exactly where they are no tree's.
+    pub(crate) fn counts(&self) -> Option<Counts>
+        ensures { TellsTree self.now result }
+    {
+        if self.is_refused || !self.reader.is_whole() {
+            return None;
+        }
+        Some(self.reader.counts())
+    }
+}
+
+impl TakesPairs for TreePairs {
+    ghost took = { λ pairs s. TookPairs pairs s };
+
+    fn take(&mut self, key: &Key, value: &Value) {
+        if !self.is_refused {
+            self.is_refused = !self.reader.add(key, value);
+        }
+    }
+}
