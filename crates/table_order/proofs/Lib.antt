@@ -1,0 +1,6 @@
+pub mod Reading
+pub mod Barring
+pub mod Passing
+pub mod Turning
+pub mod Checking
+pub mod Ending

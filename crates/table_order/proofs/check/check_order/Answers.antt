@@ -1,0 +1,18 @@
+use Rattle.std.proofs.Common.{◌<◌, arith}
+use Rattle.store_model.specs.Labels.{Label, Start}
+use Rattle.table_order.proofs.Ending.{checks_order}
+use Rattle.table_order.proofs.check.check_order.Goals as goal
+
+-- a label, which starts in some slot
+some_label : Label
+some_label = record { level = 0; lead = Start; index = 0 }
+
+pub find_bar-requires-clause-some : goal.find_bar-requires-clause-some
+find_bar-requires-clause-some g c =
+    let start = (g.met.W.Draw.lawful c.args.draw.now).start_in_range some_label in
+    omega (arith, start, c.slots-count.ensures)
+
+pub returns-clause-call : goal.returns-clause-call
+returns-clause-call g c =
+    let below : c.in_ok-bar.bar < c.slots-count.result = omega (arith, c.in_ok-bar.ensures.call.within, c.requires.count, c.slots-count.ensures) in
+    checks_order (g.W.Draw.drawn c.args.draw.now) c.args.height _ _ _ _ _ _ _ c.in_ok-bar.bar c.check_round.result c.requires.count c.slots-count.ensures below c.next_slot.ensures.value c.in_ok-bar.ensures.call c.check_round.ensures.call

@@ -1,0 +1,87 @@
+//! The check.
+
+ghost use Rattle.std.specs.Prelude.{◌≡◌, ◌≤◌, ◌<◌};
+ghost use Rattle.table_order.specs.OrderCalls.{ChecksOrder};
+ghost use Rattle.table_order.specs.Rounds.{ChecksRound};
+
+use crate::bar::find_bar;
+use crate::content::{Content, content_of};
+use crate::round::{Round, way_between};
+use crate::way::{Standing, passed_from};
+use ordered_table::{Steps, next_slot};
+use seeded_draw::Draw;
+use std::sync::ledger::Ledger;
+use store_base::{Fault, MAX_SLOTS, ReadSlots};
+use store_model::BLOCK;
+
+/// As `check_order`, on a round behind a slot that no page passes.
+fn check_round<S: ReadSlots, W: Draw, L: Ledger>(
+    slots: &mut S,
+    draw: &W,
+    height: u8,
+    round: &Round,
+    steps: &mut Steps<L>,
+) -> Result<Option<u32>, Fault>
+    requires count { (S.state slots.old).count ≡ (W.drawn draw.now).slots }
+    requires round { round.now.count ≡ (W.drawn draw.now).slots }
+    requires most { (W.drawn draw.now).slots ≤ MAX_SLOTS }
+    ensures call { ChecksRound (W.drawn draw.now) height round.now (S.state slots.old) (S.state slots.new) steps.old steps.new result }
+    ensures follows { S.follows slots.old slots.new }
+{
+    let mut there = [0; BLOCK];
+    let mut reach = [0; MAX_SLOTS as usize];
+    let mut run = 0;
+    let mut used = 0;
+    for place in 0..round.count {
+        let at = round.slot(place);
+        steps.tick();
+        slots.get(at, &mut there)?;
+        let label = match content_of(&there, height) {
+            Content::Free => {
+                run = place + 1;
+                continue;
+            }
+            Content::Held(label) => label,
+            Content::Other => return Ok(None),
+        };
+        steps.tick();
+        let way = way_between(draw.start(&label), at, round.count);
+        if place - run < way {
+            return Ok(None);
+        }
+        let page = Standing { label, place, way };
+        let Some(from) = passed_from(slots, round, &page, &reach, steps)? else {
+            return Ok(None);
+        };
+        reach[place as usize] = from as u16;
+        used += 1;
+    }
+    Ok(Some(used))
+}
+
+/// How many pages the slots hold, where each is all zero or a page, each page's level is below the height, and the pages
+/// are in order; `None` exactly where that is not so.
+///
+/// Each slot that is read and each start that is drawn counts as a step: they are at most four for each slot.
+///
+/// There have to be as many slots as the draw's, at most `MAX_SLOTS`. A fault of the slots ends the call, and the slots are
+/// as they were; it takes no memory, so want of memory comes from slots alone that may take some.
+pub fn check_order<S: ReadSlots, W: Draw, L: Ledger>(
+    slots: &mut S,
+    draw: &W,
+    height: u8,
+    steps: &mut Steps<L>,
+) -> Result<Option<u32>, Fault>
+    requires count { (S.state slots.old).count ≡ (W.drawn draw.now).slots }
+    requires most { (W.drawn draw.now).slots ≤ MAX_SLOTS }
+    ensures call { ChecksOrder (W.drawn draw.now) height (S.state slots.old) (S.state slots.new) steps.old steps.new result }
+    ensures follows { S.follows slots.old slots.new }
+{
+    let count = draw.slots();
+    let bar = find_bar(slots, count, steps)?;
+    let round = Round {
+        first: next_slot(bar, count),
+        count,
+    };
+    check_round(slots, draw, height, &round, steps)
+}

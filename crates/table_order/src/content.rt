@@ -1,0 +1,40 @@
+//! What a slot holds.
+
+ghost use Rattle.std.specs.Prelude.{◌≡◌, ◌↔◌, IsTrue, None};
+ghost use Rattle.store_model.specs.Images.{slot_bytes};
+ghost use Rattle.table_order.specs.Contents.{TellsContent};
+
+use node_pages::decode_page;
+use store_base::Label;
+use store_model::{BLOCK, Slot};
+
+/// What a slot may hold.
+#[derive(Clone, Copy)]
+pub(crate) enum Content {
+    /// Nothing: it is all zero.
+    Free,
+    /// A page of this label, whose level is below the height.
+    Held(Label),
+    /// What no slot of a table holds.
+    Other,
+}
+
+/// Whether each byte of a slot is zero.
+fn is_zero(slot: &Slot) -> bool
+    ensures { IsTrue result ↔ (slot.now ≡ slot_bytes None) }
+{
+    *slot == [0; BLOCK]
+}
+
+/// What a slot holds, in a table of lists of this height.
+pub(crate) fn content_of(slot: &Slot, height: u8) -> Content
+    ensures { TellsContent slot.now height result }
+{
+    if is_zero(slot) {
+        return Content::Free;
+    }
+    match decode_page(slot) {
+        Some(page) if page.level() < height => Content::Held(page.label()),
+        _ => Content::Other,
+    }
+}
