@@ -11,7 +11,7 @@ use Rattle.store_model.specs.Lists.{run_count, runs}
 use Rattle.store_model.specs.Parameters.{Parameters}
 use Rattle.store_model.specs.Paths.{Path, is_path, is_root, path_cmp, key, key_cmp}
 use Rattle.store_model.specs.Pairs.{Pair, file_block, file_value, node_pairs, pairs}
-use Rattle.store_model.specs.Trees.{Tree, Node, IsNode, IsEntry, IsTree}
+use Rattle.store_model.specs.Trees.{Tree, Node, file_limit, IsNode, IsEntry, IsTree}
 use Rattle.store_model.specs.Trees.Node.{Directory, File}
 use Rattle.store_model.proofs.ListsLemmas.{all_weaker, then-Equal, nat_cmp-eq, length-runs}
 use Rattle.store_model.proofs.ListsLemmasCuts.{flat_map-runs}
@@ -52,7 +52,7 @@ values_of_blocks x n [] = refl
 values_of_blocks x n (block ∷ blocks) = ap (λ rest. block ∷ rest) (values_of_blocks x (n + 1) blocks)
 
 -- files whose first values and blocks are the same, in front of other pairs
-files_same : (x y : Path) (a b : List ℕ) (u v : List Pair) → length a ≤ 1048576 → length b ≤ 1048576 → file_value (length a) ≡ file_value (length b) → block_pairs x a ++ u ≡ block_pairs y b ++ v → (a ≡ b) × (u ≡ v)
+files_same : (x y : Path) (a b : List ℕ) (u v : List Pair) → length a ≤ file_limit → length b ≤ file_limit → file_value (length a) ≡ file_value (length b) → block_pairs x a ++ u ≡ block_pairs y b ++ v → (a ≡ b) × (u ≡ v)
 files_same x y a b u v la lb first e =
     let size : length a ≡ length b = four_bytes_same (length a) (length b) (omega arith) (omega arith) (tails_same first) in
     let count : length (block_pairs x a) ≡ length (block_pairs y b) = length-block_pairs x a ∙ ap (λ n. run_count file_block n) size ∙ sym (length-block_pairs y b) in

@@ -133,7 +133,8 @@ pub first_told : (old : TreeReader) (s : List Pair) (p : Parameters) (key_bytes 
 first_told old s p key_bytes value is begins =
     let pair : Pair = (key_bytes, value) in
     let rest : List Pair = pair ∷ begins.rest in
-    let front = tree_first begins.tree is.tree rest p begins.is_tree is.is_tree (begins.pairs_are ∙ append_assoc s (pair ∷ []) begins.rest ∙ ap (λ (xs : List Pair). xs ++ rest) is.pairs_are) in
+    let joined : pairs begins.tree p ≡ pairs is.tree p ++ rest = begins.pairs_are ∙ append_assoc s (pair ∷ []) begins.rest ∙ ap (λ (xs : List Pair). xs ++ rest) is.pairs_are in
+    let front = tree_first begins.tree is.tree rest p begins.is_tree is.is_tree joined in
     let entries = all_back (IsEntry begins.tree) is.tree front.others (subst (AllByRecursion (IsEntry begins.tree)) front.entries_are begins.is_tree.entries) in
     let next = next_of_pair begins.tree front.others pair begins.rest p entries front.pairs_are in
     let may = stands_next is.tree next.later next.path next.node (subst IsTree (front.entries_are ∙ ap (λ (others : Tree). is.tree ++ others) next.entries_are) begins.is_tree) in

@@ -26,3 +26,10 @@ TellsWhole reader result = (s : List Pair) (p : Parameters) → HasSeen reader s
 -- how many entries a tree has whose pairs the reader has seen
 abbrev pub TellsCounts : TreeReader → Counts → Type 0
 TellsCounts reader counts = (s : List Pair) (p : Parameters) → HasSeen reader s p → (t : Tree) → IsTree t → s ≡ pairs t p → AreCounts t counts
+
+-- the pairs are those of a tree, and the counts are that tree's
+pub record AreCounted (s : List Pair) (p : Parameters) (counts : Counts) : Type 0 where
+  pub tree : Tree
+  pub is_tree : IsTree tree
+  pub pairs_are : s ≡ pairs tree p
+  pub counts_are : AreCounts tree counts

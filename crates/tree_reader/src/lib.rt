@@ -9,6 +9,8 @@
 mod counts;
 mod first;
 mod reader;
+mod whole;
 
 pub use counts::Counts;
 pub use reader::TreeReader;
+pub use whole::count_tree;
