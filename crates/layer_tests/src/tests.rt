@@ -16,4 +16,5 @@ mod skip_lists;
 mod staged_pages;
 mod staged_slots;
 mod tables;
+mod tree_readers;
 mod unseen_disk;

@@ -1,0 +1,249 @@
+//! Pairs that are read one after another: those of trees, and others. What each list of pairs is was worked out by hand.
+
+use super::paths::path;
+use std::alloc::{AllocError, Global};
+use std::process::Abort;
+use store_base::{Key, Value};
+use tree_pairs::{directory_value, file_value};
+use tree_reader::{Counts, TreeReader, count_tree};
+
+/// What a pair has as its value.
+#[derive(Clone, Copy)]
+enum Says {
+    /// A directory stands at the path.
+    Directory,
+    /// A file of so many bytes stands at the path.
+    File(u32),
+    /// So many bytes of a file, 1 to 256.
+    Block(usize),
+    /// Two bytes.
+    Two([u8; 2]),
+    /// Five bytes, as a file's first value has.
+    Five([u8; 5]),
+}
+
+/// A pair: its path, the number of its block, and its value.
+type Row = (&'static str, u32, Says);
+
+/// What comes of pairs.
+#[derive(Clone, Copy, PartialEq, Eq)]
+enum Outcome {
+    /// They are those of a tree of so many directories, files and bytes.
+    Tree(u32, u32, u64),
+    /// They begin those of a tree, and lack some.
+    Front,
+    /// The pair at this place is refused.
+    Refused(usize),
+}
+
+/// Pairs that begin those of a tree.
+static FRONTS: [(&[Row], Outcome); 6] = [
+    (&[], Outcome::Tree(0, 0, 0)),
+    (&[("/a", 0, Says::Directory)], Outcome::Tree(1, 0, 0)),
+    (
+        &[
+            ("/a", 0, Says::Directory),
+            ("/a/b", 0, Says::File(0)),
+            ("/a/c", 0, Says::File(257)),
+            ("/a/c", 1, Says::Block(256)),
+            ("/a/c", 2, Says::Block(1)),
+        ],
+        Outcome::Tree(1, 2, 257),
+    ),
+    (
+        &[
+            ("/a", 0, Says::Directory),
+            ("/a/b", 0, Says::Directory),
+            ("/a/b/c", 0, Says::Directory),
+            ("/a/d", 0, Says::Directory),
+            ("/e", 0, Says::File(256)),
+            ("/e", 1, Says::Block(256)),
+        ],
+        Outcome::Tree(4, 1, 256),
+    ),
+    (
+        &[("/f", 0, Says::File(257)), ("/f", 1, Says::Block(256))],
+        Outcome::Front,
+    ),
+    (&[("/f", 0, Says::File(1_048_576))], Outcome::Front),
+];
+
+/// Entries that may not stand where they do, or not in this order.
+static MISPLACED: [(&[Row], Outcome); 8] = [
+    // a child without a parent
+    (&[("/a/b", 0, Says::Directory)], Outcome::Refused(0)),
+    (
+        &[("/a", 0, Says::Directory), ("/c/d/e", 0, Says::File(0))],
+        Outcome::Refused(1),
+    ),
+    // a child of a file
+    (
+        &[("/a", 0, Says::File(0)), ("/a/b", 0, Says::File(0))],
+        Outcome::Refused(1),
+    ),
+    // a child of a path that no entry has
+    (
+        &[
+            ("/a", 0, Says::Directory),
+            ("/a/b", 0, Says::Directory),
+            ("/ab/c", 0, Says::File(0)),
+        ],
+        Outcome::Refused(2),
+    ),
+    // a child behind its parent's next sibling
+    (
+        &[
+            ("/a", 0, Says::Directory),
+            ("/b", 0, Says::Directory),
+            ("/a/c", 0, Says::File(0)),
+        ],
+        Outcome::Refused(2),
+    ),
+    // a path twice
+    (
+        &[("/a", 0, Says::Directory), ("/a", 0, Says::Directory)],
+        Outcome::Refused(1),
+    ),
+    (
+        &[("/a", 0, Says::Directory), ("/a", 0, Says::File(0))],
+        Outcome::Refused(1),
+    ),
+    // a path before the last one
+    (
+        &[("/b", 0, Says::Directory), ("/a", 0, Says::Directory)],
+        Outcome::Refused(1),
+    ),
+];
+
+/// Blocks that no file has.
+static WRONG_BLOCKS: [(&[Row], Outcome); 9] = [
+    // a block that is missing, at the front, in the middle and at the end
+    (
+        &[("/f", 0, Says::File(257)), ("/f", 2, Says::Block(1))],
+        Outcome::Refused(1),
+    ),
+    (
+        &[
+            ("/f", 0, Says::File(513)),
+            ("/f", 1, Says::Block(256)),
+            ("/f", 3, Says::Block(1)),
+        ],
+        Outcome::Refused(2),
+    ),
+    (
+        &[("/f", 0, Says::File(1)), ("/g", 0, Says::Directory)],
+        Outcome::Refused(1),
+    ),
+    // a block too many
+    (
+        &[
+            ("/f", 0, Says::File(1)),
+            ("/f", 1, Says::Block(1)),
+            ("/f", 2, Says::Block(1)),
+        ],
+        Outcome::Refused(2),
+    ),
+    // a block of another path, and one of no file
+    (
+        &[("/f", 0, Says::File(1)), ("/g", 1, Says::Block(1))],
+        Outcome::Refused(1),
+    ),
+    (&[("/f", 1, Says::Block(1))], Outcome::Refused(0)),
+    // a short block in the middle, and ones that are shorter and longer than the file
+    (
+        &[("/f", 0, Says::File(257)), ("/f", 1, Says::Block(255))],
+        Outcome::Refused(1),
+    ),
+    (
+        &[("/f", 0, Says::File(2)), ("/f", 1, Says::Block(1))],
+        Outcome::Refused(1),
+    ),
+    (
+        &[("/f", 0, Says::File(1)), ("/f", 1, Says::Block(2))],
+        Outcome::Refused(1),
+    ),
+];
+
+/// First values of no kind.
+static WRONG_VALUES: [(&[Row], Outcome); 4] = [
+    (&[("/f", 0, Says::File(1_048_577))], Outcome::Refused(0)),
+    (&[("/f", 0, Says::Two([1, 1]))], Outcome::Refused(0)),
+    (
+        &[("/f", 0, Says::Five([3, 0, 0, 0, 0]))],
+        Outcome::Refused(0),
+    ),
+    (
+        &[("/f", 0, Says::Five([1, 0, 0, 0, 0]))],
+        Outcome::Refused(0),
+    ),
+];
+
+/// The value that says so.
+fn value_of(says: Says) -> Value {
+    match says {
+        Says::Directory => directory_value(),
+        Says::File(len) => file_value(len),
+        Says::Block(len) => Value::new(&[7; 256][..len.clamp(1, 256)]),
+        Says::Two(bytes) => Value::new(&bytes),
+        Says::Five(bytes) => Value::new(&bytes),
+    }
+}
+
+/// The pairs of the rows.
+fn pairs_of(rt: &impl Abort, alloc: Global, rows: &[Row]) -> Result<Vec<(Key, Value)>, AllocError> {
+    let mut pairs = Vec::new(alloc);
+    for (at, block, says) in rows {
+        pairs.push((path(rt, *at).key(*block), value_of(*says)))?;
+    }
+    Ok(pairs)
+}
+
+/// What comes of pairs, read one after another.
+fn outcome_of(pairs: &[(Key, Value)]) -> Outcome {
+    let mut reader = TreeReader::new();
+    for (at, (key, value)) in pairs.iter().enumerate() {
+        if !reader.add(key, value) {
+            return Outcome::Refused(at);
+        }
+    }
+    if !reader.is_whole() {
+        return Outcome::Front;
+    }
+    let Counts { dirs, files, bytes } = reader.counts();
+    Outcome::Tree(dirs, files, bytes)
+}
+
+/// Looks whether each row comes out so, read pair by pair and as a whole.
+fn come_out(rt: &impl Abort, alloc: Global, table: &[(&[Row], Outcome)]) {
+    for (at, (rows, outcome)) in table.iter().enumerate() {
+        let pairs = pairs_of(rt, alloc, *rows).expect(rt, "memory");
+        assert!(rt; outcome_of(&pairs) == *outcome, "row {at}");
+        assert!(rt; pairs.len() < 10, "few rows");
+        let counts = match *outcome {
+            Outcome::Tree(dirs, files, bytes) => Some(Counts { dirs, files, bytes }),
+            _ => None,
+        };
+        assert!(rt; count_tree(&pairs) == counts, "row {at}");
+    }
+}
+
+#[test]
+fn pairs_of_trees_are_read(rt: HostRuntime) {
+    come_out(&rt, rt.alloc(), &FRONTS);
+}
+
+#[test]
+fn pairs_of_no_tree_are_refused_at_once(rt: HostRuntime) {
+    come_out(&rt, rt.alloc(), &MISPLACED);
+    come_out(&rt, rt.alloc(), &WRONG_BLOCKS);
+    come_out(&rt, rt.alloc(), &WRONG_VALUES);
+}
+
+#[test]
+fn keys_of_no_path_are_refused(rt: HostRuntime) {
+    let mut reader = TreeReader::new();
+    for key in [Key::new([0; 124]), Key::new([0x2f; 124])] {
+        assert!(rt; !reader.add(&key, &directory_value()));
+    }
+    assert!(rt; reader.is_whole() && reader.add(&path(&rt, "/a").key(0), &directory_value()));
+}

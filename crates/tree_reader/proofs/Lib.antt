@@ -1,0 +1,6 @@
+pub mod BlockLemmas
+pub mod CallLemmas
+pub mod CountLemmas
+pub mod FrontLemmas
+pub mod NextLemmas
+pub mod Readings

@@ -1,0 +1,300 @@
+-- What a reader has seen, from pair to pair.
+use Rattle.std.proofs.Common.{◌≡◌, ℕ, zero, suc, ◌+◌, ◌-◌, ◌*◌, ◌/◌, ◌<◌, ◌≤◌, min, List, [], ◌∷◌, ◌++◌, length, replicate, Bool, true, false, inl, inr, IsTrue, Some, nat_lt, ltb-true, ltb-false, refl, sym, ap, ap₂, subst, ◌∙◌, arith}
+use Rattle.std.specs.List.{AllByRecursion}
+use Rattle.std.proofs.lemmas.List.{append-nil, append_assoc, length-append, length-replicate}
+use Rattle.store_model.specs.Lists.{IsBytes, zeros, run_count}
+use Rattle.store_model.specs.Parameters.{Parameters}
+use Rattle.store_model.specs.Paths.{Path, key}
+use Rattle.store_model.specs.Pairs.{Pair, file_block, directory_value, file_value, node_pairs, pairs}
+use Rattle.store_model.specs.Trees.{Tree, Node, file_limit, IsNode, IsEntry, IsTree, node_at}
+use Rattle.store_model.specs.Trees.Node.{Directory, File}
+use Rattle.store_model.proofs.ListsLemmas.{all_append, all_back, all_replicate, all_from_bytes, bytes_from_all}
+use Rattle.store_model.proofs.TreesLemmasBytes.{heads_same, tails_same, four_bytes_same}
+use Rattle.store_model.proofs.TreesLemmasFits.{IsTree-empty}
+use Rattle.store_model.proofs.TreesLemmasLayouts.{pairs_tell_trees}
+use Rattle.tree_pairs.specs.declared.kind.Kind.{Kind}
+use Rattle.tree_pairs.specs.declared.kind.Kind.TheVariants as kinds
+use Rattle.tree_pairs.specs.Kinds.{kind_of, kind_of_node, value_of}
+use Rattle.tree_pairs.specs.TreeCalls.{pairs_limit}
+use Rattle.tree_reader.specs.declared.counts.Counts.{Counts}
+use Rattle.tree_reader.specs.declared.reader.TreeReader.{TreeReader}
+use Rattle.tree_reader.specs.Counts.{AreCounts, CountsMore}
+use Rattle.tree_reader.specs.Fronts.{AreOfTree, BeginTree, IsFirst, block_pairs}
+use Rattle.tree_reader.specs.Seen.{IsLast, MayStandNext, MayFollow, IsNextBlock, size_of, IsBetweenEntries, IsInFile, HasSeen}
+use Rattle.tree_reader.proofs.BlockLemmas.{pairs_behind, blocks-append, blocks_more, no_blocks, block_is}
+use Rattle.tree_reader.proofs.CountLemmas.{counts_more, in_range}
+use Rattle.tree_reader.proofs.FrontLemmas.{length-block_pairs, keys_tell_paths, pair_parts, pairs_more, tree_first, next_of_pair}
+use Rattle.tree_reader.proofs.NextLemmas.{tree_more, last_more, stands_next, next_from_last, last_from_next}
+
+-- ---- where a reader stands
+
+-- nothing was seen
+pub seen_none : (path : Path) (p : Parameters) → path ≡ [] → HasSeen (record { last = record { path = path; kind = kinds.Directory }; read = 0; counts = record { dirs = 0; files = 0; bytes = 0 } }) [] p
+unfolding pairs
+seen_none path p root = inl (record {
+  tree = [];
+  is_tree = IsTree-empty;
+  pairs_are = refl;
+  last = record { none_behind = tt; stands = ap (λ (x : Path). kind_of_node (node_at [] x)) root };
+  whole = omega arith;
+  counts_are = record { dirs_are = refl; files_are = refl; bytes_are = refl };
+})
+
+-- what was read of the last entry tells where it stands
+pub between : (reader : TreeReader) (s : List Pair) (p : Parameters) → HasSeen reader s p → size_of reader.last.kind ≤ reader.read → IsBetweenEntries reader s p
+between reader s p (inl is) whole = is
+between reader s p (inr is) whole = absurd (omega (arith, ap size_of is.kind_is, is.more, whole))
+
+pub in_file : (reader : TreeReader) (s : List Pair) (p : Parameters) (len : ℕ) → HasSeen reader s p → reader.last.kind ≡ kinds.File len → reader.read < len → (is : IsInFile reader s p) × (is.len ≡ len)
+in_file reader s p len (inl is) kind_is more = absurd (omega (arith, ap size_of kind_is, is.whole, more))
+in_file reader s p len (inr is) kind_is more = (is, ap size_of (sym is.kind_is ∙ kind_is))
+
+-- the pairs of a file, the first of which says so many bytes
+file_pairs : (path : Path) (content : List ℕ) (len : ℕ) (p : Parameters) → length content ≡ len → node_pairs path (File content) p ≡ (key path 0, file_value len) ∷ block_pairs path content
+unfolding node_pairs
+file_pairs path content len p long = ap (λ n. (key path 0, file_value n) ∷ block_pairs path content) long
+
+-- some tree's pairs begin with those that were seen: a file that is not whole may go on with zeros
+pub seen_begins : (reader : TreeReader) (s : List Pair) (p : Parameters) → HasSeen reader s p → BeginTree s p
+seen_begins reader s p (inl is) = record { tree = is.tree; is_tree = is.is_tree; rest = []; pairs_are = sym is.pairs_are ∙ sym (append-nil s) }
+seen_begins reader s p (inr is) =
+    let unread : List ℕ = zeros (is.len - reader.read) in
+    let content : List ℕ = is.bytes ++ unread in
+    let first : Pair = (key reader.last.path 0, file_value is.len) in
+    let behind = pairs_behind reader.last.path is.blocks is.bytes unread in
+    let long : length content ≡ is.len = omega (arith, length-append is.bytes unread, length-replicate {A = ℕ} (is.len - reader.read) 0, is.read_is, is.more) in
+    let valid = bytes_from_all content (all_append (λ c. c < 256) is.bytes unread (all_from_bytes is.bytes is.valid) (all_replicate (λ c. c < 256) (is.len - reader.read) 0 (omega arith))) in
+    record {
+      tree = is.before ++ (reader.last.path, File content) ∷ [];
+      is_tree = tree_more is.before reader.last.path (File content) is.is_tree is.next (omega (arith, long, is.short), valid);
+      rest = behind;
+      pairs_are = pairs_more is.before reader.last.path (File content) p
+          ∙ ap (λ (own : List Pair). pairs is.before p ++ own) (file_pairs reader.last.path content is.len p long ∙ ap (λ (blocks : List Pair). first ∷ blocks) (blocks-append reader.last.path is.blocks is.bytes unread (is.read_is ∙ is.full)))
+          ∙ sym (append_assoc (pairs is.before p) (first ∷ block_pairs reader.last.path is.bytes) behind)
+          ∙ ap (λ (front : List Pair). front ++ behind) (sym is.pairs_are);
+    }
+
+-- ---- a first pair
+
+-- a first pair that may stand next is seen
+pub first_taken : (old : TreeReader) (s : List Pair) (p : Parameters) (path : Path) (kind : Kind) (key_bytes value : List ℕ) (counts : Counts) → IsBetweenEntries old s p → IsFirst path kind key_bytes value → MayFollow old.last.path old.last.kind path → CountsMore old.counts kind counts
+    → HasSeen (record { last = record { path = path; kind = kind }; read = 0; counts = counts }) (s ++ (key_bytes, value) ∷ []) p
+unfolding node_pairs
+first_taken old s p path kinds.Directory key_bytes value counts is first follows more =
+    let next = next_from_last is.tree old.last.path old.last.kind path is.is_tree is.last first.path_is first.below_root follows in
+    inl (record {
+      tree = is.tree ++ (path, Directory) ∷ [];
+      is_tree = tree_more is.tree path Directory is.is_tree next tt;
+      pairs_are = ap₂ (λ (front : List Pair) (pair : Pair). front ++ pair ∷ []) is.pairs_are (λ i. (first.key_is i, first.value_is i)) ∙ sym (pairs_more is.tree path Directory p);
+      last = last_more is.tree path Directory next;
+      whole = omega arith;
+      counts_are = counts_more is.tree path Directory old.counts counts is.counts_are more;
+    })
+first_taken old s p path (kinds.File zero) key_bytes value counts is first follows more =
+    let next = next_from_last is.tree old.last.path old.last.kind path is.is_tree is.last first.path_is first.below_root follows in
+    inl (record {
+      tree = is.tree ++ (path, File []) ∷ [];
+      is_tree = tree_more is.tree path (File []) is.is_tree next (omega arith, bytes_from_all [] tt);
+      pairs_are = ap₂ (λ (front : List Pair) (pair : Pair). front ++ pair ∷ []) is.pairs_are (λ i. (first.key_is i, first.value_is i))
+          ∙ ap (λ (blocks : List Pair). pairs is.tree p ++ (key path 0, file_value 0) ∷ blocks) (sym (no_blocks path))
+          ∙ sym (pairs_more is.tree path (File []) p);
+      last = last_more is.tree path (File []) next;
+      whole = omega arith;
+      counts_are = counts_more is.tree path (File []) old.counts counts is.counts_are more;
+    })
+first_taken old s p path (kinds.File (suc n)) key_bytes value counts is first follows more =
+    inr (record {
+      before = is.tree;
+      is_tree = is.is_tree;
+      next = next_from_last is.tree old.last.path old.last.kind path is.is_tree is.last first.path_is first.below_root follows;
+      len = suc n;
+      kind_is = refl;
+      short = first.kind_is;
+      bytes = [];
+      valid = bytes_from_all [] tt;
+      read_is = refl;
+      more = omega arith;
+      blocks = 0;
+      full = omega arith;
+      pairs_are = ap₂ (λ (front : List Pair) (pair : Pair). front ++ pair ∷ []) is.pairs_are (λ i. (first.key_is i, first.value_is i))
+          ∙ ap (λ (blocks : List Pair). pairs is.tree p ++ (key path 0, file_value (suc n)) ∷ blocks) (sym (no_blocks path));
+      counts_are = λ content long. counts_more is.tree path (File content) old.counts counts is.counts_are (subst (λ m. CountsMore old.counts (kinds.File m) counts) (sym long) more);
+    })
+
+-- what the next pair of a tree is
+pub record IsNextFirst (old : TreeReader) (key_bytes value : List ℕ) : Type 0 where
+  pub path : Path
+  pub kind : Kind
+  pub first : IsFirst path kind key_bytes value
+  pub follows : MayFollow old.last.path old.last.kind path
+
+-- behind whole entries each tree goes on with a first pair that may stand next
+pub first_told : (old : TreeReader) (s : List Pair) (p : Parameters) (key_bytes value : List ℕ) → IsBetweenEntries old s p → BeginTree (s ++ (key_bytes, value) ∷ []) p → IsNextFirst old key_bytes value
+first_told old s p key_bytes value is begins =
+    let pair : Pair = (key_bytes, value) in
+    let rest : List Pair = pair ∷ begins.rest in
+    let joined : pairs begins.tree p ≡ pairs is.tree p ++ rest = begins.pairs_are ∙ append_assoc s (pair ∷ []) begins.rest ∙ ap (λ (xs : List Pair). xs ++ rest) is.pairs_are in
+    let front = tree_first begins.tree is.tree rest p begins.is_tree is.is_tree joined in
+    let entries = all_back (IsEntry begins.tree) is.tree front.others (subst (AllByRecursion (IsEntry begins.tree)) front.entries_are begins.is_tree.entries) in
+    let next = next_of_pair begins.tree front.others pair begins.rest p entries front.pairs_are in
+    let may = stands_next is.tree next.later next.path next.node (subst IsTree (front.entries_are ∙ ap (λ (others : Tree). is.tree ++ others) next.entries_are) begins.is_tree) in
+    let parts = pair_parts next.pair_is in
+    record {
+      path = next.path;
+      kind = kind_of next.node;
+      first = record { path_is = next.is_entry.path; below_root = next.is_entry.below_root; kind_is = next.kind_is; key_is = parts.0; value_is = parts.1 };
+      follows = last_from_next is.tree old.last.path old.last.kind next.path is.last may;
+    }
+
+-- counts of so few pairs have room for one entry more
+pub counts_fit : (reader : TreeReader) (s : List Pair) (p : Parameters) → IsBetweenEntries reader s p → length s < pairs_limit
+    → (reader.counts.dirs + reader.counts.files < 4294967295) × (reader.counts.bytes + file_limit ≤ 18446744073709551615)
+counts_fit reader s p is few =
+    let range = in_range is.tree p is.is_tree in
+    let counts = is.counts_are in
+    let size = ap length is.pairs_are in
+    (omega (arith, range.few, counts.dirs_are, counts.files_are, size, few), omega (arith, range.few, range.short, counts.files_are, counts.bytes_are, size, few))
+
+-- ---- a block
+
+-- the pairs of a file with one block more
+one_block_more : (old : TreeReader) (s : List Pair) (p : Parameters) (key_bytes value : List ℕ) (is : IsInFile old s p) → IsNextBlock old.last.path old.read is.len key_bytes value
+    → s ++ (key_bytes, value) ∷ [] ≡ pairs is.before p ++ (key old.last.path 0, file_value is.len) ∷ block_pairs old.last.path (is.bytes ++ value)
+one_block_more old s p key_bytes value is next =
+    let first : Pair = (key old.last.path 0, file_value is.len) in
+    let before = is.more in
+    let number : old.read / file_block + 1 ≡ is.blocks + 1 = omega (arith, is.full) in
+    let numbered = next.0 ∙ ap (key old.last.path) number in
+    ap (λ (front : List Pair). front ++ (key_bytes, value) ∷ []) is.pairs_are
+    ∙ append_assoc (pairs is.before p) (first ∷ block_pairs old.last.path is.bytes) ((key_bytes, value) ∷ [])
+    ∙ ap (λ (blocks : List Pair). pairs is.before p ++ first ∷ blocks)
+    (ap (λ (k : List ℕ). block_pairs old.last.path is.bytes ++ (k, value) ∷ []) numbered
+    ∙ sym (blocks_more old.last.path is.blocks is.bytes value (is.read_is ∙ is.full) (omega (arith, next.1, before)) (omega (arith, next.1))))
+
+-- the bytes that were read, with those of a block
+more_bytes : (bytes value : List ℕ) → IsBytes bytes → IsBytes value → IsBytes (bytes ++ value)
+more_bytes bytes value valid more = bytes_from_all (bytes ++ value) (all_append (λ c. c < 256) bytes value (all_from_bytes bytes valid) (all_from_bytes value more))
+
+-- a block of a file is seen, and others are still to come
+block_inside : (old : TreeReader) (s : List Pair) (p : Parameters) (key_bytes value : List ℕ) (is : IsInFile old s p) → IsNextBlock old.last.path old.read is.len key_bytes value → IsBytes value → old.read + length value < is.len
+    → HasSeen (record old { read = old.read + length value }) (s ++ (key_bytes, value) ∷ []) p
+block_inside old s p key_bytes value is next valid more =
+    inr (record {
+      before = is.before;
+      is_tree = is.is_tree;
+      next = is.next;
+      len = is.len;
+      kind_is = is.kind_is;
+      short = is.short;
+      bytes = is.bytes ++ value;
+      valid = more_bytes is.bytes value is.valid valid;
+      read_is = omega (arith, length-append is.bytes value, is.read_is);
+      more = more;
+      blocks = is.blocks + 1;
+      full = omega (arith, is.full, next.1, more);
+      pairs_are = one_block_more old s p key_bytes value is next;
+      counts_are = is.counts_are;
+    })
+
+-- the last block of a file is seen
+block_last : (old : TreeReader) (s : List Pair) (p : Parameters) (key_bytes value : List ℕ) (is : IsInFile old s p) → IsNextBlock old.last.path old.read is.len key_bytes value → IsBytes value → is.len ≤ old.read + length value
+    → HasSeen (record old { read = old.read + length value }) (s ++ (key_bytes, value) ∷ []) p
+block_last old s p key_bytes value is next valid whole =
+    let content : List ℕ = is.bytes ++ value in
+    let before = is.more in
+    let long : length content ≡ is.len = omega (arith, length-append is.bytes value, is.read_is, next.1, whole, before) in
+    let kind_is : kind_of (File content) ≡ old.last.kind = ap kinds.File long ∙ sym is.kind_is in
+    inl (record {
+      tree = is.before ++ (old.last.path, File content) ∷ [];
+      is_tree = tree_more is.before old.last.path (File content) is.is_tree is.next (omega (arith, long, is.short), more_bytes is.bytes value is.valid valid);
+      pairs_are = one_block_more old s p key_bytes value is next ∙ ap (λ (own : List Pair). pairs is.before p ++ own) (sym (file_pairs old.last.path content is.len p long))
+          ∙ sym (pairs_more is.before old.last.path (File content) p);
+      last = subst (λ (kind : Kind). IsLast old.last.path kind (is.before ++ (old.last.path, File content) ∷ [])) kind_is (last_more is.before old.last.path (File content) is.next);
+      whole = omega (arith, ap size_of is.kind_is, whole);
+      counts_are = is.counts_are content long;
+    })
+
+-- a block of a file is seen
+pub block_taken : (old : TreeReader) (s : List Pair) (p : Parameters) (len : ℕ) (key_bytes value : List ℕ) (is : IsInFile old s p) → is.len ≡ len → IsNextBlock old.last.path old.read len key_bytes value → IsBytes value
+    → HasSeen (record old { read = old.read + length value }) (s ++ (key_bytes, value) ∷ []) p
+block_taken old s p len key_bytes value is same next valid = by_test (subst (λ n. IsNextBlock old.last.path old.read n key_bytes value) (sym same) next) (nat_lt (old.read + length value) is.len) refl
+  where
+    by_test : IsNextBlock old.last.path old.read is.len key_bytes value → (b : Bool) → nat_lt (old.read + length value) is.len ≡ b → HasSeen (record old { read = old.read + length value }) (s ++ (key_bytes, value) ∷ []) p
+    by_test block true t = block_inside old s p key_bytes value is block valid (ltb-true (old.read + length value) is.len t)
+    by_test block false t = block_last old s p key_bytes value is block valid (ltb-false (old.read + length value) is.len t)
+
+-- the file that is read, in a tree whose pairs begin with those that were seen
+pub record HasContent (reader : TreeReader) (len : ℕ) (bytes : List ℕ) (rest : List Pair) : Type 0 where
+  pub content : List ℕ
+  pub long : length content ≡ len
+  pub later : List Pair
+  pub blocks_are : block_pairs reader.last.path content ++ later ≡ block_pairs reader.last.path bytes ++ rest
+
+-- what stands at a path whose first value is a file's
+content_from_value : (path : Path) (node : Node) (len : ℕ) (p : Parameters) (behind : List Pair) → IsNode node → len ≤ file_limit → file_value len ≡ value_of (kind_of node) → node_pairs path node p ≡ (key path 0, value_of (kind_of node)) ∷ behind
+    → (content : List ℕ) × (length content ≡ len) × (block_pairs path content ≡ behind)
+unfolding node_pairs
+content_from_value path Directory len p behind is short value_is pairs_are = let first : ◌≡◌ {A = ℕ} 2 1 = heads_same value_is in absurd (omega arith)
+content_from_value path (File content) len p behind is short value_is pairs_are =
+    let size : length content ≤ file_limit = is.0 in
+    (content, sym (four_bytes_same len (length content) (omega arith) (omega arith) (tails_same value_is)), tails_same pairs_are)
+
+pub content_told : (reader : TreeReader) (s : List Pair) (p : Parameters) (is : IsInFile reader s p) (u : Tree) (rest : List Pair) → IsTree u → pairs u p ≡ s ++ rest → HasContent reader is.len is.bytes rest
+content_told reader s p is u rest tree e =
+    let first : Pair = (key reader.last.path 0, file_value is.len) in
+    let blocks = block_pairs reader.last.path is.bytes in
+    let behind_all : List Pair = first ∷ (blocks ++ rest) in
+    let front = tree_first u is.before behind_all p tree is.is_tree (e ∙ ap (λ (xs : List Pair). xs ++ rest) is.pairs_are ∙ append_assoc (pairs is.before p) (first ∷ blocks) rest) in
+    let entries = all_back (IsEntry u) is.before front.others (subst (AllByRecursion (IsEntry u)) front.entries_are tree.entries) in
+    let next = next_of_pair u front.others first (blocks ++ rest) p entries front.pairs_are in
+    let parts = pair_parts next.pair_is in
+    let same : reader.last.path ≡ next.path = keys_tell_paths reader.last.path next.path is.next.valid next.is_entry.path parts.0 in
+    let found = content_from_value next.path next.node is.len p next.behind next.is_entry.node is.short parts.1 next.node_pairs_are in
+    record {
+      content = found.0;
+      long = found.1;
+      later = pairs next.later p;
+      blocks_are = ap (λ (path : Path). block_pairs path found.0 ++ pairs next.later p) same ∙ ap (λ (own : List Pair). own ++ pairs next.later p) found.2 ∙ next.rest_is;
+    }
+
+-- how many blocks were seen
+seen_blocks : (reader : TreeReader) (s : List Pair) (p : Parameters) (is : IsInFile reader s p) → length (block_pairs reader.last.path is.bytes) ≡ is.blocks
+seen_blocks reader s p is =
+    let full : length is.bytes ≡ file_block * is.blocks = is.read_is ∙ is.full in
+    length-block_pairs reader.last.path is.bytes ∙ (let e : run_count file_block (length is.bytes) ≡ is.blocks = omega (arith, full) in e)
+
+-- in a file each tree goes on with its next block
+pub block_told : (old : TreeReader) (s : List Pair) (p : Parameters) (len : ℕ) (key_bytes value : List ℕ) (is : IsInFile old s p) → is.len ≡ len → BeginTree (s ++ (key_bytes, value) ∷ []) p → IsNextBlock old.last.path old.read len key_bytes value
+block_told old s p len key_bytes value is same begins =
+    let pair : Pair = (key_bytes, value) in
+    let told = content_told old s p is begins.tree (pair ∷ begins.rest) begins.is_tree (begins.pairs_are ∙ append_assoc s (pair ∷ []) begins.rest) in
+    let before = is.more in
+    let block = block_is old.last.path told.content is.blocks (block_pairs old.last.path is.bytes) pair told.later begins.rest (omega (arith, told.long, is.full, before)) (seen_blocks old s p is) told.blocks_are in (
+      block.0 ∙ ap (key old.last.path) (let e : is.blocks + 1 ≡ old.read / file_block + 1 = omega (arith, is.full) in e),
+      block.1 ∙ (let e : min (length told.content - file_block * is.blocks) file_block ≡ min (len - old.read) file_block = omega (arith, told.long, is.full, same) in e),
+    )
+
+-- ---- the end
+
+-- a list that ends in a file is no tree's
+not_whole : (reader : TreeReader) (s : List Pair) (p : Parameters) → IsInFile reader s p → (t : Tree) → IsTree t → s ≡ pairs t p → ⊥
+not_whole reader s p is t tree e =
+    let told = content_told reader s p is t [] tree (sym e ∙ sym (append-nil s)) in
+    let before = is.more in
+    let size = length-block_pairs reader.last.path told.content in
+    let both = length-append (block_pairs reader.last.path told.content) told.later in
+    let seen = length-append (block_pairs reader.last.path is.bytes) [] in
+    absurd (omega (arith, size, both, seen, ap length told.blocks_are, seen_blocks reader s p is, told.long, is.full, before))
+
+-- whole entries are a tree's
+pub whole_from_seen : (reader : TreeReader) (s : List Pair) (p : Parameters) → HasSeen reader s p → size_of reader.last.kind ≤ reader.read → AreOfTree s p
+whole_from_seen reader s p seen whole = let is = between reader s p seen whole in record { tree = is.tree; is_tree = is.is_tree; pairs_are = is.pairs_are }
+
+pub seen_from_whole : (reader : TreeReader) (s : List Pair) (p : Parameters) → HasSeen reader s p → AreOfTree s p → size_of reader.last.kind ≤ reader.read
+seen_from_whole reader s p (inl is) of = is.whole
+seen_from_whole reader s p (inr is) of = absurd (not_whole reader s p is of.tree of.is_tree of.pairs_are)
+
+-- and the counts are that tree's
+pub counts_told : (reader : TreeReader) (s : List Pair) (p : Parameters) → HasSeen reader s p → (t : Tree) → IsTree t → s ≡ pairs t p → AreCounts t reader.counts
+counts_told reader s p (inl is) t tree e = subst (λ (u : Tree). AreCounts u reader.counts) (pairs_tell_trees is.tree t p is.is_tree tree (sym is.pairs_are ∙ e)) is.counts_are
+counts_told reader s p (inr is) t tree e = absurd (not_whole reader s p is t tree e)

@@ -1,0 +1,12 @@
+use Rattle.std.proofs.Common.{ap, subst, sym, arith, leb-true, le-leb}
+use Rattle.tree_reader.specs.Seen.{size_of}
+use Rattle.tree_reader.proofs.Readings.{whole_from_seen, seen_from_whole}
+use Rattle.tree_reader.proofs.reader.TreeReader.is_whole.Goals as goal
+
+pub returns-in-File : goal.returns-in-File
+returns-in-File c s p seen =
+    let reader = c.args.self.now in
+    let size = ap size_of c.in-File.is in (
+      λ whole. whole_from_seen reader s p seen (omega (arith, size, leb-true c.in-File.len reader.read whole)),
+      λ of. le-leb c.in-File.len reader.read (omega (arith, size, seen_from_whole reader s p seen of)),
+    )

@@ -1,0 +1,133 @@
+//! The reader.
+
+ghost use Rattle.std.specs.Prelude.{◌≡◌, ◌↔◌, ◌<◌, ◌≤◌, IsTrue, [], false};
+ghost use Rattle.store_model.specs.Parameters.{Parameters};
+ghost use Rattle.store_model.specs.Paths as paths;
+ghost use Rattle.tree_reader.specs.Seen.{HasSeen, IsNextBlock, MayFollow, size_of};
+ghost use Rattle.tree_reader.specs.ReaderCalls.{AddsPair, TellsWhole, TellsCounts};
+
+use crate::counts::{Counts, counted};
+use crate::first::{Entry, first_in};
+use path_keys::Path;
+use store_base::{Key, Value};
+use tree_pairs::{FILE_BLOCK, Kind};
+
+/// Reads the pairs of a tree one after another, in the order of their keys. It knows what was read last and no list.
+#[derive(Clone, Copy, Debug)]
+pub struct TreeReader {
+    /// The last entry, and before the first one the root.
+    last: Entry,
+    /// How many bytes of it were read, if it is a file.
+    read: u32,
+    /// What was counted, the last entry as a whole.
+    counts: Counts,
+}
+
+impl TreeReader {
+    /// A reader that has seen no pair.
+    pub fn new() -> Self
+        ensures { (p : Parameters) → HasSeen result [] p }
+    {
+        TreeReader {
+            last: Entry {
+                path: Path::root(),
+                kind: Kind::Directory,
+            },
+            read: 0,
+            counts: Counts {
+                dirs: 0,
+                files: 0,
+                bytes: 0,
+            },
+        }
+    }
+
+    /// Takes the next pair: whether some tree's pairs begin with those that were taken and this one. Its key has to be
+    /// greater than theirs. Where the answer is no, nothing changed.
+    pub fn add(&mut self, key: &Key, value: &Value) -> bool
+        ensures { AddsPair self.old self.new (key.now, value.now) result }
+    {
+        match self.last.kind {
+            Kind::File(len) if self.read < len => self.add_block(len, key, value),
+            _ => self.add_first(key, value),
+        }
+    }
+
+    /// Takes the next block of a file of so many bytes.
+    fn add_block(&mut self, len: u32, key: &Key, value: &Value) -> bool
+        requires file { self.old.last.kind ≡ Kind.File len }
+        requires more { self.old.read < len }
+        ensures { AddsPair self.old self.new (key.now, value.now) result }
+    {
+        if !self.is_next_block(len, key, value) {
+            return false;
+        }
+        self.read += value.as_slice().len() as u32;
+        true
+    }
+
+    /// Whether a pair is the next block of a file of so many bytes: it has the next number, and it is full unless it is
+    /// the last.
+    fn is_next_block(&self, len: u32, key: &Key, value: &Value) -> bool
+        requires { self.now.read < len }
+        ensures { IsTrue result ↔ IsNextBlock self.now.last.path self.now.read len key.now value.now }
+    {
+        let number = self.read / FILE_BLOCK + 1;
+        let expected = (len - self.read).min(FILE_BLOCK);
+        *key == self.last.path.key(number) && value.as_slice().len() as u32 == expected
+    }
+
+    /// Takes the first pair of an entry behind the last one.
+    fn add_first(&mut self, key: &Key, value: &Value) -> bool
+        requires { size_of self.old.last.kind ≤ self.old.read }
+        ensures { AddsPair self.old self.new (key.now, value.now) result }
+    {
+        let Some(entry) = first_in(key, value.as_slice()) else {
+            return false;
+        };
+        if !self.may_follow(&entry.path) {
+            return false;
+        }
+        let Some(counts) = counted(self.counts, entry.kind) else {
+            return false;
+        };
+        *self = TreeReader {
+            last: entry,
+            read: 0,
+            counts,
+        };
+        true
+    }
+
+    /// Whether an entry may stand at a path, behind the last one: its parent is the root, the last path if that is a
+    /// directory, or strictly above it.
+    fn may_follow(&self, path: &Path) -> bool
+        requires { paths.is_root path.now ≡ false }
+        ensures { IsTrue result ↔ MayFollow self.now.last.path self.now.last.kind path.now }
+    {
+        let Some(parent) = path.parent() else {
+            return false;
+        };
+        self.last.path < *path
+            && (parent.is_root()
+                || (parent == self.last.path && self.last.kind == Kind::Directory)
+                || self.last.path.is_inside(&parent))
+    }
+
+    /// Whether the pairs that were taken are all those of a tree.
+    pub fn is_whole(&self) -> bool
+        ensures { TellsWhole self.now result }
+    {
+        match self.last.kind {
+            Kind::Directory => true,
+            Kind::File(len) => self.read >= len,
+        }
+    }
+
+    /// What the tree holds whose pairs were taken. Where they are no tree's, nothing is promised of it.
+    pub fn counts(&self) -> Counts
+        ensures { TellsCounts self.now result }
+    {
+        self.counts
+    }
+}
