@@ -18,7 +18,7 @@ pub fn walk_groups<S: ReadSlots, W: Draw, P: TakesPairs>(
 ) -> Result<bool, Fault>
     requires count { (S.state slots.old).count ≡ (W.drawn draw.now).slots }
     requires stub { ⊥ }
-    ensures call { (given : List Pair) → P.took pairs.old given → (taken : List Pair) × (P.took pairs.new taken × WalksTable (W.drawn draw.now) (S.state slots.old) (S.state slots.new) used given taken result) }
+    ensures call { WalksTable (W.drawn draw.now) (S.state slots.old) (S.state slots.new) used (P.took pairs.old) (P.took pairs.new) result }
     ensures follows { S.follows slots.old slots.new }
 {
     let _ = Met::none_of(used);

@@ -1,5 +1,5 @@
 -- What a search for the contents of slots answers, by the calls that it makes.
-use Rattle.std.proofs.Common.{◌≡◌, ℕ, ◌*◌, ◌≤◌, List, [], length, Bool, true, false, Option, Some, None, MatchOption, Result, Ok, Err, IfOk, refl, sym, ap, subst, ◌∙◌, arith}
+use Rattle.std.proofs.Common.{◌≡◌, ℕ, ◌*◌, ◌≤◌, List, [], map, length, Bool, true, false, Option, Some, None, MatchOption, Result, Ok, Err, IfOk, refl, sym, ap, subst, ◌∙◌, arith}
 use Rattle.std.specs.Bool.{MatchBool}
 use Rattle.store_model.specs.Parameters.{Parameters, IsParameters}
 use Rattle.store_model.specs.Trees.{Tree}
@@ -8,12 +8,13 @@ use Rattle.store_model.specs.Draws.{draw_of}
 use Rattle.store_model.specs.Placement.{Table, pages_in}
 use Rattle.store_base.specs.SlotsState.{SlotsState, IsObservable}
 use Rattle.layout_conditions.specs.Layouts.{HaveLayout}
+use Rattle.tree_pairs.specs.TreeCalls.{pairs_limit}
 use Rattle.tree_reader.specs.declared.counts.Counts.{Counts}
 use Rattle.tree_reader.specs.Fronts.{AreOfTree}
 use Rattle.table_order.specs.OrderCalls.{IsOrderedBelow, Checks}
 use Rattle.group_walk.specs.Lookups.{ReadsOnly}
 use Rattle.group_walk.specs.Walked.{MeetWalk}
-use Rattle.group_walk.specs.Walks.{WalksTable, HoldsList}
+use Rattle.group_walk.specs.Walks.{pair_of, WalksTable, HoldsList}
 use Rattle.layout_conditions.specs.Conditions.{StandsIn}
 use Rattle.image_check.specs.declared.contents.Contents.{Contents}
 use Rattle.image_check.specs.Orders.{FindsOrder}
@@ -43,11 +44,11 @@ module _ (p : Parameters) (valid : IsParameters p) (old mid : SlotsState) where
     its_table observable =
         subst (λ o. MatchOption o ((table : Table) → IsOrderedBelow (draw_of p) (draw_of p).height old.slots table → ⊥) (λ n. (table : Table) × IsOrderedBelow (draw_of p) (draw_of p).height old.slots table × (n ≡ length (pages_in table)))) some (finds.found observable)
 
-    module _ (taken : List Pair) (whole : Bool) (walks : WalksTable (draw_of p) mid new used [] taken (Ok whole)) where
+    module _ (Took TookNow : List Pair → Type 0) (whole : Bool) (walks : WalksTable (draw_of p) mid new used Took TookNow (Ok whole)) where
       reads_both : {T : Type 0} (value : T) → ReadsOnly old new (Ok value)
       reads_both value = reads_answered old new whole value (reads_then old mid new found (Ok whole) finds.reads walks.reads)
 
-      walked : (observable : IsObservable old) → MatchBool whole (HoldsList (draw_of p) (its_table observable).0 [] taken) (MeetWalk (draw_of p) (StandsIn (its_table observable).0) → ⊥)
+      walked : (observable : IsObservable old) → MatchBool whole (HoldsList (draw_of p) (its_table observable).0 Took TookNow) (MeetWalk (draw_of p) (StandsIn (its_table observable).0) → ⊥)
       walked observable =
           let table = its_table observable in
           walks.walked table.0 (finds.reads.calls.observable ∙ observable) (finds.reads.slots observable ∙ table.1.slots_are) (sound_of p old.slots table.0 table.1) (sym table.2)
@@ -59,36 +60,50 @@ module _ (p : Parameters) (valid : IsParameters p) (old mid : SlotsState) where
         params = tt;
         found = λ observable t have.
             let table = its_table observable in
-            subst (λ b. MatchBool b (HoldsList (draw_of p) table.0 [] taken) (MeetWalk (draw_of p) (StandsIn table.0) → ⊥)) cut (walked observable) (layout_walks p valid old.slots table.0 table.1 t have);
+            subst (λ b. MatchBool b (HoldsList (draw_of p) table.0 Took TookNow) (MeetWalk (draw_of p) (StandsIn table.0) → ⊥)) cut (walked observable) (layout_walks p valid old.slots table.0 table.1 t have);
       }
 
       module _ (is_whole : whole ≡ true) where
-        holds : (observable : IsObservable old) → HoldsList (draw_of p) (its_table observable).0 [] taken
-        holds observable = subst (λ b. MatchBool b (HoldsList (draw_of p) (its_table observable).0 [] taken) (MeetWalk (draw_of p) (StandsIn (its_table observable).0) → ⊥)) is_whole (walked observable)
+        holds : (observable : IsObservable old) → HoldsList (draw_of p) (its_table observable).0 Took TookNow
+        holds observable = subst (λ b. MatchBool b (HoldsList (draw_of p) (its_table observable).0 Took TookNow) (MeetWalk (draw_of p) (StandsIn (its_table observable).0) → ⊥)) is_whole (walked observable)
 
-        -- the pairs are few
-        pub few_pairs : IsObservable old → length taken ≤ 31 * p.slots
-        few_pairs observable = let table = its_table observable in few_taken p valid old.slots table.0 table.1 taken (holds observable)
+        -- the pairs that were taken
+        taken : IsObservable old → List Pair
+        taken observable = map pair_of (holds observable).cells
+
+        took : Took [] → (observable : IsObservable old) → TookNow (taken observable)
+        took none observable = (holds observable).handed_on [] none
+
+        few : (observable : IsObservable old) → length (taken observable) ≤ pairs_limit
+        few observable =
+            let table = its_table observable in
+            let most = valid.slots_in_range in
+            let low = few_taken p valid old.slots table.0 table.1 Took TookNow (holds observable) in
+            omega arith
 
         -- they are no tree's
-        pub nothing_counted : (IsObservable old → AreOfTree taken p → ⊥) → FindsContents p old new (Ok None)
-        nothing_counted none = record {
+        pub nothing_counted : (found : Option Counts) → Took [] → ((s : List Pair) → TookNow s → length s ≤ pairs_limit → MatchOption found (AreOfTree s p → ⊥) (AreCounted s p)) → found ≡ None → FindsContents p old new (Ok None)
+        nothing_counted found none tells is = record {
           reads = reads_both None;
           params = tt;
           found = λ observable t have.
               let table = its_table observable in
-              none observable (record { tree = t; is_tree = have.tree; pairs_are = layout_taken p valid old.slots table.0 table.1 taken (holds observable) t have });
+              let s = taken observable in
+              subst (λ o. MatchOption o (AreOfTree s p → ⊥) (AreCounted s p)) is (tells s (took none observable) (few observable))
+              (record { tree = t; is_tree = have.tree; pairs_are = layout_taken p valid old.slots table.0 table.1 Took TookNow (holds observable) t have });
         }
 
         -- they are those of a tree
-        pub found_all : (contents : Contents) → contents.params ≡ p → contents.used ≡ used → (IsObservable old → AreCounted taken p contents.counts) → FindsContents p old new (Ok (Some contents))
-        found_all contents named used_is counted = record {
+        pub found_all : (found : Option Counts) (contents : Contents) → Took [] → ((s : List Pair) → TookNow s → length s ≤ pairs_limit → MatchOption found (AreOfTree s p → ⊥) (AreCounted s p)) → found ≡ Some contents.counts
+            → contents.params ≡ p → contents.used ≡ used → FindsContents p old new (Ok (Some contents))
+        found_all found contents none tells is named used_is = record {
           reads = reads_both (Some contents);
           params = named;
           found = λ observable.
               let table = its_table observable in
-              let are = counted observable in
-              let layout = found_tree p valid old.slots table.0 table.1 taken (holds observable) are.tree are.is_tree are.pairs_are in
+              let s = taken observable in
+              let are = subst (λ o. MatchOption o (AreOfTree s p → ⊥) (AreCounted s p)) is (tells s (took none observable) (few observable)) in
+              let layout = found_tree p valid old.slots table.0 table.1 Took TookNow (holds observable) are.tree are.is_tree are.pairs_are in
               record {
                 tree = are.tree;
                 layout = layout;
@@ -97,7 +112,7 @@ module _ (p : Parameters) (valid : IsParameters p) (old mid : SlotsState) where
                   params_are = named;
                   tree = are.is_tree;
                   fits = layout.fits;
-                  used_is = used_is ∙ table.2 ∙ found_count p valid old.slots table.0 table.1 taken (holds observable) are.tree are.is_tree are.pairs_are;
+                  used_is = used_is ∙ table.2 ∙ found_count p valid old.slots table.0 table.1 Took TookNow (holds observable) are.tree are.is_tree are.pairs_are;
                   counts_are = are.counts_are;
                 };
               };

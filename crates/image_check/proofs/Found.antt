@@ -108,7 +108,11 @@ module _ (p : Parameters) (valid : IsParameters p) (slots : List (List ℕ)) (ta
       let meets = (layout_meets slots p t valid have).0 in
       subst (λ (u : Table). MeetWalk (draw_of p) (StandsIn u)) (one_table meets) (record { runs = meets.runs; groups = meets.groups; met = meets.met })
 
-  module _ (taken : List Pair) (holds : HoldsList (draw_of p) table [] taken) where
+  module _ (Took TookNow : List Pair → Type 0) (holds : HoldsList (draw_of p) table Took TookNow) where
+    -- the pairs that were taken
+    abbrev pub taken : List Pair
+    taken = map pair_of holds.cells
+
     -- a cell of level 0 is that of its pair
     of_pair : (cell : Cell) → HasCell (StandsIn table) 0 cell → cell_on 0 (pair_of cell) ≡ cell
     of_pair cell has =
@@ -123,18 +127,18 @@ module _ (p : Parameters) (valid : IsParameters p) (slots : List (List ℕ)) (ta
     -- each pair that was taken is that of a cell
     taken_cell : (pair : Pair) → Contains taken pair → HasCell (StandsIn table) 0 (cell_on 0 pair)
     taken_cell pair held =
-        let cell = held_map pair_of holds.cells pair (subst (λ s. Contains s pair) holds.taken_is held) in
+        let cell = held_map pair_of holds.cells pair held in
         let has = (holds.cells_are cell.0).0 cell.1 in
         subst (HasCell (StandsIn table) 0) (sym (of_pair cell.0 has) ∙ ap (cell_on 0) cell.2) has
 
     -- and each cell of level 0 has its pair taken
     cell_taken : (pair : Pair) → HasCell (StandsIn table) 0 (cell_on 0 pair) → Contains taken pair
     cell_taken pair has =
-        subst (λ s. Contains s pair) (sym holds.taken_is) (map_held pair_of holds.cells (cell_on 0 pair) ((holds.cells_are (cell_on 0 pair)).1 has))
+        map_held pair_of holds.cells (cell_on 0 pair) ((holds.cells_are (cell_on 0 pair)).1 has)
 
     -- they rise
     rising_taken : IsStrictlySortedBy pair_cmp taken
-    rising_taken = subst (IsStrictlySortedBy pair_cmp) (sym holds.taken_is) (pairs_rise holds.cells holds.rising)
+    rising_taken = pairs_rise holds.cells holds.rising
 
     -- where they are a tree's, the slots meet the conditions
     abbrev meets : (t : Tree) → IsTree t → taken ≡ pairs t p → MeetConditions slots p
@@ -183,4 +187,4 @@ module _ (p : Parameters) (valid : IsParameters p) (slots : List (List ℕ)) (ta
         let fewer = no_longer cell_cmp_total holds.cells all (cells_rise holds.cells holds.rising) held in
         let sum = sum_by-le (λ (page : Page). length page.cells) 31 (pages_in table) (All-from_recursion (λ (page : Page). length page.cells ≤ 31) (pages_in table) (all_weaker IsPage (λ page. length page.cells ≤ 31) short_page (pages_in table) is.ordered.pages)) in
         let room = room_of_table (draw_of p) table is.ordered in
-        omega (arith, ap length holds.taken_is, length-map holds.cells pair_of, length-flat_map (λ (page : Page). page.cells) (pages_in table))
+        omega (arith, length-map holds.cells pair_of, length-flat_map (λ (page : Page). page.cells) (pages_in table))

@@ -1,5 +1,5 @@
 -- Pairs that are taken one after another by a reader that may refuse one.
-use Rattle.std.proofs.Common.{◌≡◌, ℕ, ◌+◌, ◌<◌, ◌≤◌, List, [], ◌∷◌, ◌++◌, length, Bool, true, false, not, IsTrue, refl, sym, ap, subst, ◌∙◌, arith, append_assoc, append_nil, length-append}
+use Rattle.std.proofs.Common.{◌≡◌, ℕ, ◌+◌, ◌<◌, ◌≤◌, List, [], ◌∷◌, ◌++◌, length, Bool, true, false, not, IsTrue, refl, sym, ap, subst, ◌∙◌, arith, append_assoc, append-nil, length-append}
 use Rattle.std.specs.Bool.{MatchBool, OnTrue, OnFalse}
 use Rattle.store_model.specs.Parameters.{Parameters}
 use Rattle.store_model.specs.Pairs.{Pair, pairs}
@@ -25,7 +25,7 @@ pub begin_refused : (old new : TreeReader) (s : List Pair) (pair : Pair) (p : Pa
 begin_refused old new s pair p result adds seen is = record {
   first = s ++ pair ∷ [];
   rest = [];
-  split = sym (append_nil (s ++ pair ∷ []));
+  split = sym (append-nil (s ++ pair ∷ []));
   none = λ few. subst (λ b. OnFalse b (BeginTree (s ++ pair ∷ []) p → ⊥)) is (adds.refused s p seen (omega (arith, few, length-append s (pair ∷ []))));
 }
 

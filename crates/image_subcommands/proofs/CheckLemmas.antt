@@ -24,6 +24,30 @@ use Rattle.image_subcommands.specs.ScrubCall.{ScrubsToSome, ScrubsTree, IsScrub}
 use Rattle.image_subcommands.specs.Statuses.{IsCheckStatus, IsScrubStatus, IsJudged, done_of_verdict}
 use Rattle.image_subcommands.proofs.ReportLemmas.{is_no_verdict, ends_in, is_reported, is_silent, Found, ends_by_verdict}
 
+-- ---- memory
+
+wants_memory : (fault : Fault) → fault_status fault ≡ statuses.NoMemory → IsErrOf {T = Verdict} {E = Fault} (Err fault) causes.NoMemory
+wants_memory causes.Disk e = absurd (cc)
+wants_memory causes.NoMemory e = refl
+
+no_verdict : (verdict : Verdict) → verdict_status verdict ≡ statuses.NoMemory → ⊥
+no_verdict (verdicts.Clean pages dirs files bytes) e = cc
+no_verdict verdicts.NotImage e = cc
+no_verdict verdicts.Damaged e = cc
+
+no_sink_fault : statuses.SinkFault ≡ statuses.NoMemory → ⊥
+no_sink_fault e = cc
+
+-- printing takes no memory
+printed_in_memory : (verdict : Verdict) (old new : SinkState) (status : Status) → PrintsVerdict verdict old new status → status ≡ statuses.NoMemory → ⊥
+printed_in_memory verdict old new status prints e = ⊎_elim (λ s. no_sink_fault (sym s ∙ e)) (λ s. no_verdict verdict (sym s ∙ e)) prints.status_is
+
+-- nor does what came to a verdict without
+pub reported_in_memory : {W : Type 0} (sink_of : W → SinkState) (result : Result Verdict Fault) (sink sink_new : W) (status : Status)
+    → (IsErrOf result causes.NoMemory → ⊥) → PrintsReport sink_of result sink sink_new status → status ≡ statuses.NoMemory → ⊥
+reported_in_memory sink_of (Ok verdict) sink sink_new status memory prints e = printed_in_memory verdict (sink_of sink) (sink_of sink_new) status prints e
+reported_in_memory sink_of (Err fault) sink sink_new status memory prints e = memory (wants_memory fault (sym prints.status_is ∙ e))
+
 -- what reads keep of a disk
 pub read_keeps : {T : Type 0} (old new : DiskState) (result : Result T Fault) → ReadsDisk old new result → KeepsDisk old new
 read_keeps old new result reads = record { size = reads.size; observable = reads.observable; faults = reads.rise; writes = reads.writes; syncs = reads.syncs }
@@ -41,7 +65,7 @@ judges_check verdicts.Damaged = refl
 
 module _ (old : DiskState) (observable : IsObservable old) where
   found_by_check : (verdict : Verdict) → IsVerdict old verdict → Found (RepresentsSome old) (IsDamaged old) old verdict
-  found_by_check (verdicts.Clean pages dirs files bytes) is = record { tree = is.tree; params = is.params; represents = is.represents observable }
+  found_by_check (verdicts.Clean pages dirs files bytes) is = record { tree = (is.image observable).tree; params = is.params; represents = (is.image observable).represents }
   found_by_check verdicts.NotImage is = is
   found_by_check verdicts.Damaged is = is
 
@@ -72,6 +96,7 @@ module _ {D R W : Type 0} (disk_of : D → DiskState) (sink_of : W → SinkState
           reads = checks.reads.reads observable;
         };
         source = refl;
+        no_memory = λ e. absurd (reported_in_memory sink_of result before.sink sink status checks.memory prints e);
         report = is_reported sink_of (IsVerdict old) result before.sink sink status checks.verdict prints;
         silent = is_silent sink_of result before.sink sink status prints;
       }
@@ -130,28 +155,6 @@ scrubs_tree sink_of t p old new (Err fault) sink sink_new status observable call
       limit = counts.limit;
     }
 
-wants_memory : (fault : Fault) → fault_status fault ≡ statuses.NoMemory → IsErrOf {T = Verdict} {E = Fault} (Err fault) causes.NoMemory
-wants_memory causes.Disk e = absurd (cc)
-wants_memory causes.NoMemory e = refl
-
-no_verdict : (verdict : Verdict) → verdict_status verdict ≡ statuses.NoMemory → ⊥
-no_verdict (verdicts.Clean pages dirs files bytes) e = cc
-no_verdict verdicts.NotImage e = cc
-no_verdict verdicts.Damaged e = cc
-
-no_sink_fault : statuses.SinkFault ≡ statuses.NoMemory → ⊥
-no_sink_fault e = cc
-
--- printing takes no memory
-printed_in_memory : (verdict : Verdict) (old new : SinkState) (status : Status) → PrintsVerdict verdict old new status → status ≡ statuses.NoMemory → ⊥
-printed_in_memory verdict old new status prints e = ⊎_elim (λ s. no_sink_fault (sym s ∙ e)) (λ s. no_verdict verdict (sym s ∙ e)) prints.status_is
-
--- a scrub for which memory ran out
-scrub_wants_memory : {W : Type 0} (sink_of : W → SinkState) (old new : DiskState) (result : Result Verdict Fault) (sink sink_new : W) (status : Status)
-    → IsObservable old → Scrubs old new result → PrintsReport sink_of result sink sink_new status → status ≡ statuses.NoMemory → ReadsOnly old new
-scrub_wants_memory sink_of old new (Ok verdict) sink sink_new status observable call prints e = absurd (printed_in_memory verdict (sink_of sink) (sink_of sink_new) status prints e)
-scrub_wants_memory sink_of old new (Err fault) sink sink_new status observable call prints e = call.no_memory observable (wants_memory fault (sym prints.status_is ∙ e))
-
 module _ {D R W : Type 0} (disk_of : D → DiskState) (sink_of : W → SinkState) (before : Outside D R W) where
   pub scrub_ends : (disk : D) (result : Result Verdict Fault) (sink : W) (status : Status) → Scrubs (disk_of before.disk) (disk_of disk) result → PrintsReport sink_of result before.sink sink status
       → IsScrub disk_of sink_of before (record { status = status; done = done_of_verdict status; disk = disk; source = before.source; sink = sink })
@@ -165,9 +168,9 @@ module _ {D R W : Type 0} (disk_of : D → DiskState) (sink_of : W → SinkState
               sink_of result before.sink sink status (found_by_scrub_of old observable result call.verdict) call.faults prints;
           scrubs = λ t p to. scrubs_tree sink_of t p old (disk_of disk) result before.sink sink status observable call prints to;
           nothing = call.only_read observable;
-          no_memory = scrub_wants_memory sink_of old (disk_of disk) result before.sink sink status observable call prints;
         };
         source = refl;
+        no_memory = λ e. absurd (reported_in_memory sink_of result before.sink sink status call.memory prints e);
         report = is_reported sink_of (IsScrubVerdict old) result before.sink sink status call.verdict prints;
         silent = is_silent sink_of result before.sink sink status prints;
       }

@@ -48,7 +48,6 @@ scrubs_none disk sink sound = record {
     limit = none_made disk (writes_to_scrub p.slots disk.bytes) (opening_syncs p.slots disk.bytes);
   };
   nothing = λ none. ReadsOnly-refl disk sound;
-  no_memory = λ e. ReadsOnly-refl disk sound;
 }
 
 -- the image itself is one on the way of a wipe
@@ -102,6 +101,7 @@ module _ {D R W : Type 0} (disk_of : D → DiskState) (sink_of : W → SinkState
     done = refl;
     observed = λ observable. record { ends = ends_by_none _ _ (disk_of before.disk) (sink_of before.sink); reads = ReadsOnly-refl (disk_of before.disk) (sound before.disk observable) };
     source = refl;
+    no_memory = λ e. refl;
     report = λ judged. absurd (false≢true judged);
     silent = λ unjudged. refl;
   }
@@ -112,6 +112,7 @@ module _ {D R W : Type 0} (disk_of : D → DiskState) (sink_of : W → SinkState
     done = refl;
     observed = λ observable. scrubs_none (disk_of before.disk) (sink_of before.sink) (sound before.disk observable);
     source = refl;
+    no_memory = λ e. refl;
     report = λ judged. absurd (false≢true judged);
     silent = λ unjudged. refl;
   }

@@ -6,6 +6,7 @@ use Rattle.image_check.specs.Verdicts.{IsVerdict, IsDamaged}
 use Rattle.script_lines.specs.SinkState.{SinkState}
 use Rattle.image_subcommands.specs.declared.outcome.Outcome.{Outcome}
 use Rattle.image_subcommands.specs.declared.status.Status.{Status}
+use Rattle.image_subcommands.specs.declared.status.Status.TheVariants as statuses
 use Rattle.image_subcommands.specs.Outside.{Outside}
 use Rattle.image_check.specs.Standing.{RepresentsSome}
 use Rattle.image_subcommands.specs.Reports.{Reports, EndsByVerdict}
@@ -25,5 +26,7 @@ module _ {D R W : Type 0} (disk_of : D → DiskState) (sink_of : W → SinkState
     pub observed : IsObservable (disk_of before.disk) → ChecksDisk after.status (disk_of before.disk) (disk_of after.disk) (sink_of before.sink) (sink_of after.sink)
     -- what stands then
     pub source : after.source ≡ before.source
+    -- it takes no memory itself: where it was wanting while the words were read, nothing was called
+    pub no_memory : after.status ≡ statuses.NoMemory → after.disk ≡ before.disk
     pub report : IsJudged after.status → Reports (IsVerdict (disk_of before.disk)) after.status (sink_of before.sink) (sink_of after.sink)
     pub silent : (IsJudged after.status → ⊥) → after.sink ≡ before.sink

@@ -39,9 +39,8 @@ pub record ScrubsDisk (status : Status) (disk disk_new : DiskState) (sink sink_n
   -- it is clean where scrubbing leaves the layout of a tree, and damaged where it leaves that of none
   pub ends : EndsByVerdict (ScrubsToSome disk) (IsBeyondScrubbing disk) status disk disk_new sink sink_new
   pub scrubs : (t : Tree) (p : Parameters) → ScrubsTo disk.bytes t p → ScrubsTree t p status disk disk_new
-  -- where it leaves that of none the disk is only read, also where the report could not be printed; and so for want of memory
+  -- where it leaves that of none the disk is only read, also where the report could not be printed
   pub nothing : ((t : Tree) (p : Parameters) → ScrubsTo disk.bytes t p → ⊥) → ReadsOnly disk disk_new
-  pub no_memory : status ≡ statuses.NoMemory → ReadsOnly disk disk_new
 
 module _ {D R W : Type 0} (disk_of : D → DiskState) (sink_of : W → SinkState) where
   pub record IsScrub (before : Outside D R W) (after : Outcome D R W) : Type 0 where
@@ -51,5 +50,7 @@ module _ {D R W : Type 0} (disk_of : D → DiskState) (sink_of : W → SinkState
     pub observed : IsObservable (disk_of before.disk) → ScrubsDisk after.status (disk_of before.disk) (disk_of after.disk) (sink_of before.sink) (sink_of after.sink)
     -- what stands then
     pub source : after.source ≡ before.source
+    -- it takes no memory itself: where it was wanting while the words were read, nothing was called
+    pub no_memory : after.status ≡ statuses.NoMemory → after.disk ≡ before.disk
     pub report : IsJudged after.status → Reports (IsScrubVerdict (disk_of before.disk)) after.status (sink_of before.sink) (sink_of after.sink)
     pub silent : (IsJudged after.status → ⊥) → after.sink ≡ before.sink

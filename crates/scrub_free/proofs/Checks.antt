@@ -19,7 +19,7 @@ use Rattle.gate_journal.specs.ReadingLaws.{ReadsOnly-trans}
 use Rattle.gate_journal.proofs.Stages.{on_ok_map}
 use Rattle.image_check.specs.declared.verdict.Verdict.{Verdict}
 use Rattle.image_check.specs.declared.verdict.Verdict.TheVariants.{Clean, NotImage, Damaged}
-use Rattle.image_check.specs.Contents.{HaveLayout}
+use Rattle.layout_conditions.specs.Layouts.{HaveLayout}
 use Rattle.image_check.specs.ImageCalls.{ReadsDisk}
 use Rattle.image_check.specs.Verdicts.{clean_of, IsSlotsVerdict, IsImageWith, HasParameters}
 use Rattle.image_check.proofs.Images.{slots_in, represents_tree, represented_layout}
@@ -150,7 +150,7 @@ module _ (old mid new : DiskState) (p : Parameters) (verdict : Verdict) (has : H
     verdict = subst (IsScrubVerdict old) (sym is) (record { params = p; has_parameters = has; no_tree = none_found is });
     clean = λ told t q scrubs. absurd (none_found is told t q scrubs);
     only_read = λ told none. both_read told;
-    no_memory = λ told error. both_read told;
+    memory = λ error. cc;
     scrubs = λ told t q scrubs. absurd (none_found is told t q scrubs);
     counts = λ told t q scrubs. absurd (none_found is told t q scrubs);
   }
@@ -192,7 +192,7 @@ module _ (old mid new : DiskState) (p : Parameters) (verdict : Verdict) (has : H
       verdict = clean_verdict pages dirs files bytes is;
       clean = clean_is;
       only_read = λ told none. absurd (not_none told none);
-      no_memory = λ told error. cc;
+      memory = λ error. cc;
       scrubs = λ told t q to.
           let image = after_reads p.slots old new last (Ok value) (both_read told) (scrubs (both_kept.observable ∙ told)) in
           let answered : ScrubsImage {E = Fault} p.slots old last (Ok verdict) = record { crash = image.crash; reads = image.reads; durable = image.durable; done = image.done } in
@@ -212,7 +212,7 @@ module _ (old mid new : DiskState) (p : Parameters) (verdict : Verdict) (has : H
       verdict = tt;
       clean = λ told t q to. tt;
       only_read = λ told none. absurd (not_none told none);
-      no_memory = λ told error. cc;
+      memory = λ error. cc;
       scrubs = λ told t q to.
           let image = after_reads p.slots old new last (Err error) (both_read told) (scrubs (both_kept.observable ∙ told)) in
           let answered : ScrubsImage {T = Verdict} {E = Fault} p.slots old last (Err Disk) = record { crash = image.crash; reads = image.reads; durable = tt; done = tt } in

@@ -13,7 +13,7 @@ use Rattle.gate_journal.specs.Places.{ReadsOnly}
 use Rattle.gate_journal.specs.ViewState.{viewed}
 use Rattle.image_check.specs.declared.verdict.Verdict.{Verdict}
 use Rattle.image_check.specs.declared.verdict.Verdict.TheVariants as verdicts
-use Rattle.image_check.specs.Contents.{HaveLayout}
+use Rattle.layout_conditions.specs.Layouts.{HaveLayout}
 use Rattle.image_check.specs.Verdicts.{clean_of, IsSlotsVerdict, IsImageWith, HasParameters, IsNoImage}
 use Rattle.image_check.specs.ImageCalls.{ReadsDisk}
 use Rattle.scrub_free.specs.ScrubbedSlots.{scrubbed_slots}
@@ -57,6 +57,8 @@ slots_after p disk = (scrubbed_slots (viewed p.slots disk)).slots
 -- a check of the slots that scrubbing would leave
 pub record ChecksScrubbed (p : Parameters) (old new : DiskState) (result : Result Verdict Fault) : Type 0 where
   pub reads : ReadsDisk old new result
+  -- it takes no memory
+  pub memory : IsErrOf result NoMemory → ⊥
   pub never : IfOk result (λ verdict. verdict ≡ verdicts.NotImage → ⊥)
   pub verdict : IsObservable old → IfOk result (IsSlotsVerdict (slots_after p old) p)
   pub clean : IsObservable old → (t : Tree) → HaveLayout (slots_after p old) t p → IfOk result (λ verdict. verdict ≡ clean_of t p)
@@ -66,13 +68,14 @@ pub record Scrubs (old new : DiskState) (result : Result Verdict Fault) : Type 0
   pub kept : KeepsDisk old new
   -- each failed call is counted, and no other
   pub faults : new.faults ≡ disk_faults_after old.faults result
+  -- it takes no memory
+  pub memory : IsErrOf result NoMemory → ⊥
   -- the verdict is that on what scrubbing leaves
   pub verdict : IfOk result (IsScrubVerdict old)
   -- and where that is the layout of a tree it is that on the tree
   pub clean : IsObservable old → (t : Tree) (p : Parameters) → ScrubsTo old.bytes t p → IfOk result (λ verdict. verdict ≡ clean_of t p)
-  -- where it is the layout of no tree, or for want of memory, nothing is written or synced
+  -- where it is the layout of no tree nothing is written or synced
   pub only_read : IsObservable old → ((t : Tree) (p : Parameters) → ScrubsTo old.bytes t p → ⊥) → ReadsOnly old new
-  pub no_memory : IsObservable old → IsErrOf result NoMemory → ReadsOnly old new
   -- and otherwise the image is scrubbed, with just the writes and syncs that this takes, as far as the counts go
   pub scrubs : IsObservable old → (t : Tree) (p : Parameters) → ScrubsTo old.bytes t p → ScrubsImage p.slots old new result
   pub counts : IsObservable old → (t : Tree) (p : Parameters) → ScrubsTo old.bytes t p → CountsScrub p.slots old new result

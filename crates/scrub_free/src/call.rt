@@ -12,23 +12,18 @@ use crate::view::ScrubbedView;
 use disk_model::Disk;
 use gate_journal::View;
 use image_check::{Verdict, check_slots, read_params};
-use std::alloc::Global;
 use store_base::{DiskFault, Fault, Params};
 
 /// The verdict on the slots that scrubbing would leave. The disk is only read, and handed back; with it comes of how
 /// many slots, from the first on, the check found that recovery leaves them clean.
-fn check_scrubbed<D: Disk>(
-    alloc: Global,
-    disk: D,
-    params: &Params,
-) -> (D, u32, Result<Verdict, Fault>)
+fn check_scrubbed<D: Disk>(disk: D, params: &Params) -> (D, u32, Result<Verdict, Fault>)
     requires { (D.state disk).size ≡ image_len params.now.slots }
     ensures call { ChecksScrubbed params.now (D.state disk) (D.state result.0) result.2 }
     ensures within { result.1 ≤ params.now.slots }
     ensures clean { IsObservable (D.state result.0) → StandClean (recovered_slot params.now.slots (D.state result.0).bytes) result.1 }
 {
     let mut slots = ScrubbedView::new(View::new(disk, params));
-    let checked = check_slots(alloc, &mut slots, params);
+    let checked = check_slots(&mut slots, params);
     let (view, clean) = slots.into_slots();
     (view.into_disk(), clean, checked)
 }
@@ -49,10 +44,10 @@ fn answer_of(scrubbed: Result<(), DiskFault>, verdict: Verdict) -> Result<Verdic
 /// `Clean` comes with what that tree holds, and then the disk is durable and reads its layout; no slot is written that
 /// is clean.
 ///
-/// `Fault::Disk` comes only where the disk failed; `Fault::NoMemory` comes before the first write. Each image that a
+/// `Fault::Disk` comes only where the disk failed, and `Fault::NoMemory` never: it takes no memory. Each image that a
 /// crash at any moment of the call may leave is one that a crash before it might have left, or scrubs to the same, and
 /// so does what the disk reads after a fault: scrub it again.
-pub fn scrub<D: Disk>(alloc: Global, mut disk: D) -> (D, Result<Verdict, Fault>)
+pub fn scrub<D: Disk>(mut disk: D) -> (D, Result<Verdict, Fault>)
     ensures { Scrubs (D.state disk) (D.state result.0) result.1 }
 {
     let params = match read_params(&mut disk) {
@@ -60,7 +55,7 @@ pub fn scrub<D: Disk>(alloc: Global, mut disk: D) -> (D, Result<Verdict, Fault>)
         Ok(None) => return (disk, Ok(Verdict::NotImage)),
         Err(fault) => return (disk, Err(fault.into())),
     };
-    let (mut disk, clean, checked) = check_scrubbed(alloc, disk, &params);
+    let (mut disk, clean, checked) = check_scrubbed(disk, &params);
     let verdict = match checked {
         Ok(verdict) => verdict,
         Err(fault) => return (disk, Err(fault)),

@@ -81,8 +81,8 @@ fn serve_request<D: Disk, R: Source, W: Sink>(
     match request {
         Request::Format(params) => format_disk(&params, disk, source, sink),
         Request::Run => run(alloc, disk, source, sink),
-        Request::Check => check_disk(alloc, disk, source, sink),
-        Request::Scrub => scrub_disk(alloc, disk, source, sink),
+        Request::Check => check_disk(disk, source, sink),
+        Request::Scrub => scrub_disk(disk, source, sink),
         Request::Wipe => wipe_disk(disk, source, sink),
         Request::Big(number, count) => big(alloc, number, count, disk, source, sink),
     }

@@ -1,7 +1,7 @@
 use Rattle.std.proofs.Common.{ℕ, sym, subst}
 use Rattle.image_subcommands.specs.Outside.{outside_of}
 use Rattle.image_subcommands.specs.ScrubCall.{IsScrub}
-use Rattle.image_subcommands.proofs.CheckLemmas.{scrub_ends}
+use Rattle.image_subcommands.proofs.CheckLemmas.{scrub_ends, reported_in_memory}
 use Rattle.image_subcommands.proofs.ReportLemmas.{outside_report}
 use Rattle.image_subcommands.proofs.scrub.scrub_disk.Goals as goal
 
@@ -17,3 +17,6 @@ returns-clause-outside g c =
     let new = g.D.Disk.state c.scrub-disk.result.0 in
     outside_report g.W.Sink.state c.scrub-disk.result.1 old new (g.R.Source.state c.args.source) c.args.sink c.print_report-status.new.sink c.print_report-status.result
     c.scrub-disk.ensures.kept c.scrub-disk.ensures.faults c.print_report-status.ensures
+
+pub returns-clause-memory : goal.returns-clause-memory
+returns-clause-memory g c = reported_in_memory g.W.Sink.state c.scrub-disk.result.1 c.args.sink c.print_report-status.new.sink c.print_report-status.result c.scrub-disk.ensures.memory c.print_report-status.ensures

@@ -7,12 +7,6 @@ use Rattle.image_check.proofs.Taken.{none_of_tree, counted_of}
 use Rattle.image_check.proofs.pairs.TreePairs.counts.Goals.{then-self-via-then-self, then-self-via-else-self+then-not-is_whole}
 use Rattle.image_check.proofs.pairs.TreePairs.counts.Goals as goal
 
-pub is_whole-requires : goal.is_whole-requires
-is_whole-requires c = ?
-
-pub counts-requires : goal.counts-requires
-counts-requires c = ?
-
 pub returns-then-self : goal.returns-then-self
 returns-then-self c s p took few are =
     elim c.then-self.branch [

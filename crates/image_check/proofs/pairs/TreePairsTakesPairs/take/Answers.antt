@@ -7,9 +7,6 @@ use Rattle.image_check.specs.TreePairs.{BeginNoTree}
 use Rattle.image_check.proofs.Taken.{begin_none, took_more}
 use Rattle.image_check.proofs.pairs.TreePairsTakesPairs.take.Goals as goal
 
-pub add-requires : goal.add-requires
-add-requires c = ?
-
 pub returns-then-not-self : goal.returns-then-not-self
 returns-then-not-self c s took p =
     let seen = subst (λ b. MatchBool b (BeginNoTree s p) (HasSeen c.args.self.now.reader s p)) c.if-not-self.true (took p) in
