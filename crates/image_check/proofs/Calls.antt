@@ -40,7 +40,7 @@ module _ (p : Parameters) (valid : IsParameters p) (old mid : SlotsState) where
 
   module _ (new : SlotsState) (found : Option ℕ) (used : ℕ) (finds : FindsOrder (draw_of p) (draw_of p).height old mid (Ok found)) (some : found ≡ Some used) where
     -- the table that they are
-    its_table : IsObservable old → (table : Table) × IsOrderedBelow (draw_of p) (draw_of p).height old.slots table × (used ≡ length (pages_in table))
+    abbrev its_table : IsObservable old → (table : Table) × IsOrderedBelow (draw_of p) (draw_of p).height old.slots table × (used ≡ length (pages_in table))
     its_table observable =
         subst (λ o. MatchOption o ((table : Table) → IsOrderedBelow (draw_of p) (draw_of p).height old.slots table → ⊥) (λ n. (table : Table) × IsOrderedBelow (draw_of p) (draw_of p).height old.slots table × (n ≡ length (pages_in table)))) some (finds.found observable)
 
@@ -48,7 +48,7 @@ module _ (p : Parameters) (valid : IsParameters p) (old mid : SlotsState) where
       reads_both : {T : Type 0} (value : T) → ReadsOnly old new (Ok value)
       reads_both value = reads_answered old new whole value (reads_then old mid new found (Ok whole) finds.reads walks.reads)
 
-      walked : (observable : IsObservable old) → MatchBool whole (HoldsList (draw_of p) (its_table observable).0 Took TookNow) (MeetWalk (draw_of p) (StandsIn (its_table observable).0) → ⊥)
+      abbrev walked : (observable : IsObservable old) → MatchBool whole (HoldsList (draw_of p) (its_table observable).0 Took TookNow) (MeetWalk (draw_of p) (StandsIn (its_table observable).0) → ⊥)
       walked observable =
           let table = its_table observable in
           walks.walked table.0 (finds.reads.calls.observable ∙ observable) (finds.reads.slots observable ∙ table.1.slots_are) (sound_of p old.slots table.0 table.1) (sym table.2)
@@ -64,11 +64,11 @@ module _ (p : Parameters) (valid : IsParameters p) (old mid : SlotsState) where
       }
 
       module _ (is_whole : whole ≡ true) where
-        holds : (observable : IsObservable old) → HoldsList (draw_of p) (its_table observable).0 Took TookNow
+        abbrev holds : (observable : IsObservable old) → HoldsList (draw_of p) (its_table observable).0 Took TookNow
         holds observable = subst (λ b. MatchBool b (HoldsList (draw_of p) (its_table observable).0 Took TookNow) (MeetWalk (draw_of p) (StandsIn (its_table observable).0) → ⊥)) is_whole (walked observable)
 
         -- the pairs that were taken
-        taken : IsObservable old → List Pair
+        abbrev taken : IsObservable old → List Pair
         taken observable = map pair_of (holds observable).cells
 
         took : Took [] → (observable : IsObservable old) → TookNow (taken observable)
