@@ -1,4 +1,0 @@
-pub mod Lookups
-pub mod Streams
-pub mod Walked
-pub mod Walks
