@@ -1,1 +1,5 @@
 pub mod LookupLemmas
+pub mod KeyOrder
+pub mod MetPages
+pub mod MetGroups
+pub mod MetWhole
