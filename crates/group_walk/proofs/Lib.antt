@@ -3,3 +3,5 @@ pub mod KeyOrder
 pub mod MetPages
 pub mod MetGroups
 pub mod MetWhole
+pub mod KeysBelow
+pub mod Counts

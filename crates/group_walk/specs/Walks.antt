@@ -44,10 +44,16 @@ pub record IsWalked (d : Draw) (m : PageMap) (level : ℕ) (own : List Cell) (be
   pub left : after.left + length pages ≡ before.left
   pub handed_on : (pairs : List Pair) → Took pairs → TookNow (pairs ++ map pair_of stream)
 
+-- below the cells of a level all was met; the start leads none of it
+pub record AreCellsWalked (d : Draw) (m : PageMap) (level : ℕ) (own : List Cell) (before after : Met) (Took TookNow : List Pair → Type 0) : Type 0 where
+  pub below : IsWalked d m level own before after Took TookNow
+  pub keyed : (page : Page) → Contains below.pages page → page.label.lead ≡ Start → ⊥
+
 -- a group was met, and all below it
 pub record IsGroupWalked (d : Draw) (m : PageMap) (level : ℕ) (lead : Lead) (before after : Met) (Took TookNow : List Pair → Type 0) : Type 0 where
   pub below : IsWalked d m (level + 1) (leader_cells lead) before after Took TookNow
   pub first : (page : Page) → InMap m page → page.label ≡ label_of level lead 0 → Contains below.pages page
+  pub starts : (page : Page) → Contains below.pages page → page.label.lead ≡ Start → (lead ≡ Start) × (page.label.level ≡ level)
 
 -- wherever the walk comes to the group, the pages don't meet the conditions
 abbrev pub RefutesGroup : Draw → PageMap → ℕ → Lead → Met → Type 0
@@ -73,7 +79,7 @@ pub record WalksCell (d : Draw) (old new : SlotsState) (level : ℕ) (cell : Cel
   pub fewer : after.left ≤ before.left
   pub handed : HandsOn Took TookNow
   pub walked : (m : PageMap) → IsObservable old → HoldsPages d old.slots m → HasCell (InMap m) level cell → level ≤ d.level cell.key → IsAbove before.last cell.key
-      → IfOk result (λ whole. MatchBool whole (IsWalked d m level (cell ∷ []) before after Took TookNow) (RefutesCell d m level cell before))
+      → IfOk result (λ whole. MatchBool whole (AreCellsWalked d m level (cell ∷ []) before after Took TookNow) (RefutesCell d m level cell before))
 
 -- a walk over the cells of a page, and over all below them
 pub record WalksCells (d : Draw) (old new : SlotsState) (page : Page) (before after : Met) (Took TookNow : List Pair → Type 0) (result : Result Bool Fault) : Type 0 where
@@ -81,7 +87,7 @@ pub record WalksCells (d : Draw) (old new : SlotsState) (page : Page) (before af
   pub fewer : after.left ≤ before.left
   pub handed : HandsOn Took TookNow
   pub walked : (m : PageMap) → IsObservable old → HoldsPages d old.slots m → InMap m page → LeadsOn d page.label.level page.label.lead
-      → IfOk result (λ whole. MatchBool whole (IsWalked d m page.label.level page.cells before after Took TookNow) (RefutesCells d m page before))
+      → IfOk result (λ whole. MatchBool whole (AreCellsWalked d m page.label.level page.cells before after Took TookNow) (RefutesCells d m page before))
 
 -- the pages of the table meet the conditions, and what was taken are the pairs of level 0, in the order of their keys
 pub record HoldsList (d : Draw) (table : Table) (Took TookNow : List Pair → Type 0) : Type 0 where
