@@ -5,3 +5,5 @@ pub mod MetGroups
 pub mod MetWhole
 pub mod KeysBelow
 pub mod Counts
+pub mod Places
+pub mod Handing

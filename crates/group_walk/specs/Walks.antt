@@ -15,7 +15,7 @@ use Rattle.store_model.specs.PageMaps.{PageMap, HoldsPages}
 use Rattle.store_base.specs.declared.store_fault.Fault.{Fault}
 use Rattle.store_base.specs.SlotsState.{SlotsState, IsObservable}
 use Rattle.layout_conditions.specs.Conditions.{StandsIn, IsSound}
-use Rattle.layout_conditions.specs.Pages.{HasCell}
+use Rattle.layout_conditions.specs.Pages.{AreRunOf, HasCell}
 use Rattle.skip_groups.specs.Groups.{label_of}
 use Rattle.group_walk.specs.declared.met.Met.{Met}
 use Rattle.group_walk.specs.Lookups.{ReadsOnly}
@@ -48,6 +48,11 @@ pub record IsWalked (d : Draw) (m : PageMap) (level : ℕ) (own : List Cell) (be
 pub record AreCellsWalked (d : Draw) (m : PageMap) (level : ℕ) (own : List Cell) (before after : Met) (Took TookNow : List Pair → Type 0) : Type 0 where
   pub below : IsWalked d m level own before after Took TookNow
   pub keyed : (page : Page) → Contains below.pages page → page.label.lead ≡ Start → ⊥
+
+-- the cells of a page were met, and all below them
+pub record IsPageWalked (d : Draw) (m : PageMap) (page : Page) (before after : Met) (Took TookNow : List Pair → Type 0) : Type 0 where
+  pub cells : AreCellsWalked d m page.label.level page.cells before after Took TookNow
+  pub run : AreRunOf d page.label.level page.label.lead page.label.index page.cells
 
 -- a group was met, and all below it
 pub record IsGroupWalked (d : Draw) (m : PageMap) (level : ℕ) (lead : Lead) (before after : Met) (Took TookNow : List Pair → Type 0) : Type 0 where
@@ -87,7 +92,7 @@ pub record WalksCells (d : Draw) (old new : SlotsState) (page : Page) (before af
   pub fewer : after.left ≤ before.left
   pub handed : HandsOn Took TookNow
   pub walked : (m : PageMap) → IsObservable old → HoldsPages d old.slots m → InMap m page → LeadsOn d page.label.level page.label.lead
-      → IfOk result (λ whole. MatchBool whole (AreCellsWalked d m page.label.level page.cells before after Took TookNow) (RefutesCells d m page before))
+      → IfOk result (λ whole. MatchBool whole (IsPageWalked d m page before after Took TookNow) (RefutesCells d m page before))
 
 -- the pages of the table meet the conditions, and what was taken are the pairs of level 0, in the order of their keys
 pub record HoldsList (d : Draw) (table : Table) (Took TookNow : List Pair → Type 0) : Type 0 where
