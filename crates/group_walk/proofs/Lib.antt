@@ -7,3 +7,4 @@ pub mod KeysBelow
 pub mod Counts
 pub mod Places
 pub mod Handing
+pub mod CellSteps
