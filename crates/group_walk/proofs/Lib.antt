@@ -8,3 +8,7 @@ pub mod Counts
 pub mod Places
 pub mod Handing
 pub mod CellSteps
+pub mod BelowCells
+pub mod GroupSteps
+pub mod GroupAhead
+pub mod GroupEnds
