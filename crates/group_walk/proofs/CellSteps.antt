@@ -209,18 +209,9 @@ module _ (d : Draw) (old now new : SlotsState) (page : Page) (i : ℕ) (cell : C
     walked = λ m observable holds there leads. tt;
   }
 
-  -- a key that is in no place refutes the conditions
-  pub cells_misplaced : (IsInPlace d page.label.level page.label.lead page.label.index i cell.key → ⊥) → WalksCells d old now page before mid Took TookMid (Ok false)
-  cells_misplaced not = record {
-    reads = reads_value old now tt false far.reads;
-    fewer = far.fewer;
-    handed = far.handed;
-    walked = λ m observable holds there leads pages comes meets. not (place_of_run d page.label.level page.label.lead page.label.index page.cells i cell (meets.runs.levels page there) is);
-  }
-
-  -- and so does one that is not above the last
-  pub cells_not_rising : (IsAbove mid.last cell.key → ⊥) → WalksCells d old now page before mid Took TookMid (Ok false)
-  cells_not_rising not = record {
+  -- a key that is in no place, or not above the last, refutes the conditions
+  pub cells_wrong : (IsInPlace d page.label.level page.label.lead page.label.index i cell.key × IsAbove mid.last cell.key → ⊥) → WalksCells d old now page before mid Took TookMid (Ok false)
+  cells_wrong not = record {
     reads = reads_value old now tt false far.reads;
     fewer = far.fewer;
     handed = far.handed;
@@ -228,10 +219,11 @@ module _ (d : Draw) (old now new : SlotsState) (page : Page) (i : ℕ) (cell : C
         let so_far = far.walked m observable holds there leads in
         let below = so_far.cells.below in
         let has : HasKey (InMap m) page.label.level cell.key = record { cell = cell; key_is = refl; has = cell_there m there } in
-        not (above_by below.stream before.last mid.last cell.key below.goes_on
-        (stream_below d (InMap m) meets page.label.level (take i page.cells) below.pages below.stream below.walked cell.key has
-        (λ other held. below_in_page page i cell other (valid_in d old.slots m page holds there) is held))
-        (comes.ahead meets cell (held_at page.cells i cell is)));
+        not (place_of_run d page.label.level page.label.lead page.label.index page.cells i cell (meets.runs.levels page there) is,
+          above_by below.stream before.last mid.last cell.key below.goes_on
+          (stream_below d (InMap m) meets page.label.level (take i page.cells) below.pages below.stream below.walked cell.key has
+          (λ other held. below_in_page page i cell other (valid_in d old.slots m page holds there) is held))
+          (comes.ahead meets cell (held_at page.cells i cell is)));
   }
 
 -- all cells were walked over

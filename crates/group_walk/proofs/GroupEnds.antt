@@ -1,5 +1,6 @@
 -- How the walk over a group goes on, and how it ends.
-use Rattle.std.proofs.Common.{◌≡◌, ℕ, zero, suc, ◌+◌, ◌-◌, ◌<◌, ◌≤◌, ◌⊎◌, inl, inr, Bool, true, false, List, [], ◌∷◌, ◌++◌, Option, Some, None, Result, Ok, Err, length, map, refl, sym, ap, subst, ◌∙◌, arith, length-append}
+use Rattle.std.specs.Prelude.{IsTrue}
+use Rattle.std.proofs.Common.{◌≡◌, ◌↔◌, ℕ, zero, suc, ◌+◌, ◌-◌, ◌<◌, ◌≤◌, ◌⊎◌, inl, inr, Bool, true, false, List, [], ◌∷◌, ◌++◌, Option, Some, None, Result, Ok, Err, length, map, refl, sym, ap, subst, ◌∙◌, arith, length-append}
 use Rattle.std.specs.List.{Contains}
 use Rattle.std.specs.FinMap as maps
 use Rattle.std.proofs.Math.Nat.{eq-zero-or-pos, eq-or-lt_of_le}
@@ -146,6 +147,10 @@ module _ (d : Draw) (old now seen : SlotsState) (level : ℕ) (lead : Lead) (pas
           let leads = meets.groups.leads level key (subst (IsLed (InMap m) level) lead_is led) in
           let named : leads.page.label ≡ label_of level lead past = leads.label_is ∙ (λ i. label_of level (sym lead_is i) (sym none i)) in
           none-some leads.page (absent ∙ sym (ap (page_at m) named) ∙ leads.there)
+
+  pub runs_absent : (may_end : Bool) → Looked mid taken → FindsPage d now seen l (Ok None) → IsTrue may_end ↔ ((0 < past) ⊎ IsStart lead) → WalksGroup d old seen level lead before taken Took TookMid (Ok may_end)
+  runs_absent true looked finds told = runs_ended looked finds (told.0 refl)
+  runs_absent false looked finds told = runs_lacking looked finds (λ above. let no = told.1 (inl above) in cc) (λ start. let no = told.1 (inr start) in cc)
 
   module _ (page : Page) (finds : FindsPage d now seen l (Ok (Some page))) where
     named : page.label ≡ label_of level lead past

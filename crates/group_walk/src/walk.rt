@@ -1,6 +1,6 @@
 //! The walk down from the start of each level.
 
-ghost use Rattle.std.specs.Prelude.{◌≡◌, ◌↔◌, IsTrue};
+ghost use Rattle.std.specs.Prelude.{◌≡◌, ◌↔◌, ◌⊎◌, ◌<◌, IsTrue};
 ghost use Rattle.store_base.specs.Leads.{model_lead};
 ghost use Rattle.group_walk.specs.Walked.{IsInPlace, IsStart};
 ghost use Rattle.group_walk.specs.Streams.{IsAbove};
@@ -35,13 +35,20 @@ fn is_above(last: &Option<Key>, key: &Key) -> bool
     }
 }
 
-/// Whether the start leads.
-fn is_start(lead: &Lead) -> bool
-    ensures { IsTrue result ↔ IsStart (model_lead lead.now) }
+/// Whether cell `i` of a page belongs there, behind the last key.
+fn is_next<W: Draw>(draw: &W, label: &Label, i: u32, cell: &Cell, last: &Option<Key>) -> bool
+    ensures { IsTrue result ↔ (IsInPlace (W.drawn draw.now) label.now.level label.now.lead label.now.index i cell.now.key × IsAbove last.now cell.now.key) }
+{
+    is_in_place(draw, label, i, &cell.key) && is_above(last, &cell.key)
+}
+
+/// Whether a group may have so many runs: one that a key leads has some.
+fn may_end(lead: &Lead, runs: u32) -> bool
+    ensures { IsTrue result ↔ ((0 < runs) ⊎ IsStart (model_lead lead.now)) }
 {
     match lead {
         Lead::Start => true,
-        Lead::Key(_) => false,
+        Lead::Key(_) => runs > 0,
     }
 }
 
@@ -86,10 +93,10 @@ fn walk_cells<S: ReadSlots, W: Draw, P: TakesPairs>(
     let label = page.label();
     for i in 0..page.len() {
         let cell = page.cell(i);
-        if !is_in_place(draw, &label, i, &cell.key) || !is_above(&met.last, &cell.key) {
+        if !is_next(draw, &label, i, &cell, &met.last) {
             return Ok(false);
         }
-        if !walk_cell(slots, draw, label.level, &cell, met, sink)? {
+        if !walk_cell(slots, draw, page.level(), &cell, met, sink)? {
             return Ok(false);
         }
     }
@@ -115,7 +122,7 @@ fn walk_group<S: ReadSlots, W: Draw, P: TakesPairs>(
     'runs: loop {
         let label = label_in_group(level, lead, index);
         let Some(page) = look_up(slots, draw, &label, &mut met.next)? else {
-            return Ok(index > 0 || is_start(lead));
+            return Ok(may_end(lead, index));
         };
         if met.left == 0 {
             return Ok(false);
