@@ -12,3 +12,4 @@ pub mod BelowCells
 pub mod GroupSteps
 pub mod GroupAhead
 pub mod GroupEnds
+pub mod TableSteps

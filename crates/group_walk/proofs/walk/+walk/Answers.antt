@@ -174,3 +174,12 @@ walk_group-runs-preserved g t c =
       (λ room. let yes : c.is_last.result ≡ true = c.is_last.ensures.1 room in let no = c.if-is_last.false in cc),
       g.met.S.ReadSlots.follows_trans c.args.slots.now c.look_up.new.slots c.walk_cells.new.slots follows c.in_ok-walk_cells.ensures.follows,
     )
+
+pub walk_cell-returns-in_default-clause-call : goal.walk_cell-returns-in_default-clause-call
+walk_cell-returns-in_default-clause-call g t c =
+    let d = g.W.Draw.drawn c.args.draw.now in
+    let state = g.S.ReadSlots.state c.args.slots.now in
+    let took = g.P.TakesPairs.took c.args.sink.now in
+    let none : c.args.cell.now.value ≡ None = sym (ap (λ (x : Cell). x.value) c.cell.view_is) ∙ c.in_default.is in
+    let zero_is : c.args.level ≡ 0 = omega (arith, c.if-level-gt0.false) in
+    subst (λ (n : ℕ). WalksCell d state state n c.args.cell.now c.args.met.now c.args.met.now took took (Ok false)) (sym zero_is) (walks_no_pair d state c.args.cell.now c.args.met.now took none)
