@@ -1,0 +1,4 @@
+pub mod Lookups
+pub mod Streams
+pub mod Walked
+pub mod Walks

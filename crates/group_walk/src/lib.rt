@@ -1,0 +1,10 @@
+//! The walk over the groups of pages that a table holds, from the start of each level down to level 0.
+#![tactic(auto)]
+
+mod lookup;
+mod met;
+mod sink;
+mod walk;
+
+pub use sink::TakesPairs;
+pub use walk::walk_groups;
