@@ -30,7 +30,7 @@ use Rattle.tree_reader.proofs.NextLemmas.{tree_more, last_more, stands_next, nex
 
 -- nothing was seen
 pub seen_none : (path : Path) (p : Parameters) → path ≡ [] → HasSeen (record { last = record { path = path; kind = kinds.Directory }; read = 0; counts = record { dirs = 0; files = 0; bytes = 0 } }) [] p
-unfolding pairs
+unfolding pairs HasSeen
 seen_none path p root = inl (record {
   tree = [];
   is_tree = IsTree-empty;
@@ -42,10 +42,12 @@ seen_none path p root = inl (record {
 
 -- what was read of the last entry tells where it stands
 pub between : (reader : TreeReader) (s : List Pair) (p : Parameters) → HasSeen reader s p → size_of reader.last.kind ≤ reader.read → IsBetweenEntries reader s p
+unfolding HasSeen
 between reader s p (inl is) whole = is
 between reader s p (inr is) whole = absurd (omega (arith, ap size_of is.kind_is, is.more, whole))
 
 pub in_file : (reader : TreeReader) (s : List Pair) (p : Parameters) (len : ℕ) → HasSeen reader s p → reader.last.kind ≡ kinds.File len → reader.read < len → (is : IsInFile reader s p) × (is.len ≡ len)
+unfolding HasSeen
 in_file reader s p len (inl is) kind_is more = absurd (omega (arith, ap size_of kind_is, is.whole, more))
 in_file reader s p len (inr is) kind_is more = (is, ap size_of (sym is.kind_is ∙ kind_is))
 
@@ -56,6 +58,7 @@ file_pairs path content len p long = ap (λ n. (key path 0, file_value n) ∷ bl
 
 -- some tree's pairs begin with those that were seen: a file that is not whole may go on with zeros
 pub seen_begins : (reader : TreeReader) (s : List Pair) (p : Parameters) → HasSeen reader s p → BeginTree s p
+unfolding HasSeen
 seen_begins reader s p (inl is) = record { tree = is.tree; is_tree = is.is_tree; rest = []; pairs_are = sym is.pairs_are ∙ sym (append-nil s) }
 seen_begins reader s p (inr is) =
     let unread : List ℕ = zeros (is.len - reader.read) in
@@ -79,7 +82,7 @@ seen_begins reader s p (inr is) =
 -- a first pair that may stand next is seen
 pub first_taken : (old : TreeReader) (s : List Pair) (p : Parameters) (path : Path) (kind : Kind) (key_bytes value : List ℕ) (counts : Counts) → IsBetweenEntries old s p → IsFirst path kind key_bytes value → MayFollow old.last.path old.last.kind path → CountsMore old.counts kind counts
     → HasSeen (record { last = record { path = path; kind = kind }; read = 0; counts = counts }) (s ++ (key_bytes, value) ∷ []) p
-unfolding node_pairs
+unfolding node_pairs HasSeen
 first_taken old s p path kinds.Directory key_bytes value counts is first follows more =
     let next = next_from_last is.tree old.last.path old.last.kind path is.is_tree is.last first.path_is first.below_root follows in
     inl (record {
@@ -178,6 +181,7 @@ more_bytes bytes value valid more = bytes_from_all (bytes ++ value) (all_append 
 -- a block of a file is seen, and others are still to come
 block_inside : (old : TreeReader) (s : List Pair) (p : Parameters) (key_bytes value : List ℕ) (is : IsInFile old s p) → IsNextBlock old.last.path old.read is.len key_bytes value → IsBytes value → old.read + length value < is.len
     → HasSeen (record old { read = old.read + length value }) (s ++ (key_bytes, value) ∷ []) p
+unfolding HasSeen
 block_inside old s p key_bytes value is next valid more =
     inr (record {
       before = is.before;
@@ -199,6 +203,7 @@ block_inside old s p key_bytes value is next valid more =
 -- the last block of a file is seen
 block_last : (old : TreeReader) (s : List Pair) (p : Parameters) (key_bytes value : List ℕ) (is : IsInFile old s p) → IsNextBlock old.last.path old.read is.len key_bytes value → IsBytes value → is.len ≤ old.read + length value
     → HasSeen (record old { read = old.read + length value }) (s ++ (key_bytes, value) ∷ []) p
+unfolding HasSeen
 block_last old s p key_bytes value is next valid whole =
     let content : List ℕ = is.bytes ++ value in
     let before = is.more in
@@ -291,10 +296,12 @@ pub whole_from_seen : (reader : TreeReader) (s : List Pair) (p : Parameters) →
 whole_from_seen reader s p seen whole = let is = between reader s p seen whole in record { tree = is.tree; is_tree = is.is_tree; pairs_are = is.pairs_are }
 
 pub seen_from_whole : (reader : TreeReader) (s : List Pair) (p : Parameters) → HasSeen reader s p → AreOfTree s p → size_of reader.last.kind ≤ reader.read
+unfolding HasSeen
 seen_from_whole reader s p (inl is) of = is.whole
 seen_from_whole reader s p (inr is) of = absurd (not_whole reader s p is of.tree of.is_tree of.pairs_are)
 
 -- and the counts are that tree's
 pub counts_told : (reader : TreeReader) (s : List Pair) (p : Parameters) → HasSeen reader s p → (t : Tree) → IsTree t → s ≡ pairs t p → AreCounts t reader.counts
+unfolding HasSeen
 counts_told reader s p (inl is) t tree e = subst (λ (u : Tree). AreCounts u reader.counts) (pairs_tell_trees is.tree t p is.is_tree tree (sym is.pairs_are ∙ e)) is.counts_are
 counts_told reader s p (inr is) t tree e = absurd (not_whole reader s p is t tree e)
