@@ -1,11 +1,11 @@
 -- What a reader has seen, from pair to pair.
-use Rattle.std.proofs.Common.{◌≡◌, ℕ, zero, suc, ◌+◌, ◌-◌, ◌*◌, ◌/◌, ◌<◌, ◌≤◌, min, List, [], ◌∷◌, ◌++◌, length, replicate, Bool, true, false, inl, inr, IsTrue, Some, nat_lt, ltb-true, ltb-false, refl, sym, ap, ap₂, subst, ◌∙◌, arith}
+use Rattle.std.proofs.Common.{◌≡◌, ℕ, zero, suc, ◌+◌, ◌-◌, ◌*◌, ◌/◌, ◌<◌, ◌≤◌, min, List, [], ◌∷◌, ◌++◌, length, Bool, true, false, inl, inr, nat_lt, ltb-true, ltb-false, refl, sym, ap, ap₂, subst, ◌∙◌, arith}
 use Rattle.std.specs.List.{AllByRecursion}
 use Rattle.std.proofs.lemmas.List.{append-nil, append_assoc, length-append, length-replicate}
 use Rattle.store_model.specs.Lists.{IsBytes, zeros, run_count}
 use Rattle.store_model.specs.Parameters.{Parameters}
 use Rattle.store_model.specs.Paths.{Path, key}
-use Rattle.store_model.specs.Pairs.{Pair, file_block, directory_value, file_value, node_pairs, pairs}
+use Rattle.store_model.specs.Pairs.{Pair, file_block, file_value, node_pairs, pairs}
 use Rattle.store_model.specs.Trees.{Tree, Node, file_limit, IsNode, IsEntry, IsTree, node_at}
 use Rattle.store_model.specs.Trees.Node.{Directory, File}
 use Rattle.store_model.proofs.ListsLemmas.{all_append, all_back, all_replicate, all_from_bytes, bytes_from_all}
@@ -20,11 +20,11 @@ use Rattle.tree_reader.specs.declared.counts.Counts.{Counts}
 use Rattle.tree_reader.specs.declared.reader.TreeReader.{TreeReader}
 use Rattle.tree_reader.specs.Counts.{AreCounts, CountsMore}
 use Rattle.tree_reader.specs.Fronts.{AreOfTree, BeginTree, IsFirst, block_pairs}
-use Rattle.tree_reader.specs.Seen.{IsLast, MayStandNext, MayFollow, IsNextBlock, size_of, IsBetweenEntries, IsInFile, HasSeen}
+use Rattle.tree_reader.specs.Seen.{IsLast, MayFollow, IsNextBlock, size_of, IsBetweenEntries, IsInFile, HasSeen}
 use Rattle.tree_reader.proofs.BlockLemmas.{pairs_behind, blocks-append, blocks_more, no_blocks, block_is}
 use Rattle.tree_reader.proofs.CountLemmas.{counts_more, in_range}
-use Rattle.tree_reader.proofs.FrontLemmas.{length-block_pairs, keys_tell_paths, pair_parts, pairs_more, tree_first, next_of_pair}
-use Rattle.tree_reader.proofs.NextLemmas.{tree_more, last_more, stands_next, next_from_last, last_from_next}
+use Rattle.tree_reader.proofs.FrontLemmas.{length-block_pairs, keys_tell_paths, pairs_more, tree_first, next_of_pair}
+use Rattle.tree_reader.proofs.NextLemmas.{tree_more, last_more, next_stands, next_from_last, last_from_next}
 
 -- ---- where a reader stands
 
@@ -140,12 +140,11 @@ first_told old s p key_bytes value is begins =
     let front = tree_first begins.tree is.tree rest p begins.is_tree is.is_tree joined in
     let entries = all_back (IsEntry begins.tree) is.tree front.others (subst (AllByRecursion (IsEntry begins.tree)) front.entries_are begins.is_tree.entries) in
     let next = next_of_pair begins.tree front.others pair begins.rest p entries front.pairs_are in
-    let may = stands_next is.tree next.later next.path next.node (subst IsTree (front.entries_are ∙ ap (λ (others : Tree). is.tree ++ others) next.entries_are) begins.is_tree) in
-    let parts = pair_parts next.pair_is in
+    let may = next_stands begins.tree is.tree front.others next.later next.path next.node begins.is_tree front.entries_are next.entries_are in
     record {
       path = next.path;
       kind = kind_of next.node;
-      first = record { path_is = next.is_entry.path; below_root = next.is_entry.below_root; kind_is = next.kind_is; key_is = parts.0; value_is = parts.1 };
+      first = record { path_is = next.is_entry.path; below_root = next.is_entry.below_root; kind_is = next.kind_is; key_is = next.key_is; value_is = next.value_is };
       follows = last_from_next is.tree old.last.path old.last.kind next.path is.last may;
     }
 
@@ -244,6 +243,10 @@ content_from_value path (File content) len p behind is short value_is pairs_are 
     let size : length content ≤ file_limit = is.0 in
     (content, sym (four_bytes_same len (length content) (omega arith) (omega arith) (tails_same value_is)), tails_same pairs_are)
 
+-- the blocks of a file at an equal path, in front of other pairs
+blocks_of_same : (x y : Path) (content : List ℕ) (behind later rest : List Pair) → x ≡ y → block_pairs y content ≡ behind → behind ++ later ≡ rest → block_pairs x content ++ later ≡ rest
+blocks_of_same x y content behind later rest same own joined = ap (λ (path : Path). block_pairs path content ++ later) same ∙ ap (λ (pairs : List Pair). pairs ++ later) own ∙ joined
+
 pub content_told : (reader : TreeReader) (s : List Pair) (p : Parameters) (is : IsInFile reader s p) (u : Tree) (rest : List Pair) → IsTree u → pairs u p ≡ s ++ rest → HasContent reader is.len is.bytes rest
 content_told reader s p is u rest tree e =
     let first : Pair = (key reader.last.path 0, file_value is.len) in
@@ -252,14 +255,13 @@ content_told reader s p is u rest tree e =
     let front = tree_first u is.before behind_all p tree is.is_tree (e ∙ ap (λ (xs : List Pair). xs ++ rest) is.pairs_are ∙ append_assoc (pairs is.before p) (first ∷ blocks) rest) in
     let entries = all_back (IsEntry u) is.before front.others (subst (AllByRecursion (IsEntry u)) front.entries_are tree.entries) in
     let next = next_of_pair u front.others first (blocks ++ rest) p entries front.pairs_are in
-    let parts = pair_parts next.pair_is in
-    let same : reader.last.path ≡ next.path = keys_tell_paths reader.last.path next.path is.next.valid next.is_entry.path parts.0 in
-    let found = content_from_value next.path next.node is.len p next.behind next.is_entry.node is.short parts.1 next.node_pairs_are in
+    let same : reader.last.path ≡ next.path = keys_tell_paths reader.last.path next.path is.next.valid next.is_entry.path next.key_is in
+    let found = content_from_value next.path next.node is.len p next.behind next.is_entry.node is.short next.value_is next.node_pairs_are in
     record {
       content = found.0;
       long = found.1;
       later = pairs next.later p;
-      blocks_are = ap (λ (path : Path). block_pairs path found.0 ++ pairs next.later p) same ∙ ap (λ (own : List Pair). own ++ pairs next.later p) found.2 ∙ next.rest_is;
+      blocks_are = blocks_of_same reader.last.path next.path found.0 next.behind (pairs next.later p) (blocks ++ rest) same found.2 next.rest_is;
     }
 
 -- how many blocks were seen

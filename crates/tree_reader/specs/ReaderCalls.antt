@@ -1,5 +1,5 @@
 -- What the calls of a reader promise.
-use Rattle.std.specs.Prelude.{◌≡◌, ℕ, ◌<◌, IsTrue, ◌↔◌, List, [], ◌∷◌, ◌++◌, length, Bool}
+use Rattle.std.specs.Prelude.{◌≡◌, ◌<◌, IsTrue, ◌↔◌, List, [], ◌∷◌, ◌++◌, length, Bool}
 use Rattle.std.specs.Bool.{OnTrue, OnFalse}
 use Rattle.store_model.specs.Parameters.{Parameters}
 use Rattle.store_model.specs.Trees.{Tree, IsTree}
