@@ -20,10 +20,10 @@ const NO_SLOT: u32 = u32::MAX;
 const STARTS: usize = 8;
 
 /// A draw, and what helps to find a page in the slots that it lays out: the starts that were drawn last, each with its
-/// label, since a page that is new is looked for when it is staged, and once more when it is laid; what was digested last
-/// of a label's front, since the labels of a group begin alike; and the slots where pages were found last, each at the
-/// place of its label. By now such a slot may hold another page or none, so whoever asks looks there, and contracts tell
-/// nothing of it.
+/// label, since a page that is new is looked for when it is staged, and once more when it is laid; what was digested
+/// last of a label's front, since the labels of a group begin alike; and the slots where pages were found last, each at
+/// the place of its label. By now such a slot may hold another page or none, so whoever asks looks there, and contracts
+/// tell nothing of it.
 #[derive(Drop)]
 pub struct Finder<W: Draw> {
     /// The draw.
