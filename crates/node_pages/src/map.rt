@@ -67,11 +67,7 @@ impl Pages for MapPages {
     ghost follows_trans = { λ _ _ _ _ _. tt };
 
     fn get(&mut self, label: &Label) -> Result<Option<Page>, Fault> {
-        self.lookups = self.lookups.saturating_add(1);
-        match place_of(&self.pages, label) {
-            Ok(at) => Ok(Some(*self.pages[at])),
-            Err(_) => Ok(None),
-        }
+        Ok(self.look(label)?.copied())
     }
 
     fn look(&mut self, label: &Label) -> Result<Option<&Page>, Fault> {

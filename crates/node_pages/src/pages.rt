@@ -17,8 +17,8 @@ use store_base::{Fault, Label};
 ///
 /// Clauses on the map hold where the pages are observable, those on counts for all pages; pages that were not
 /// observable stay so. A call answers `Fault::Disk` only where the count of faults rises in it, by one (a count that is
-/// 2^64 - 1 stays). The count of lookups rises by one where a page is asked for, and by one at most where that fails; no
-/// other call changes it. What is at hand under a label, a page or that there is none, is had without memory.
+/// 2^64 - 1 stays). The count of lookups rises by one where a page is asked for, and by one at most where that fails;
+/// no other call changes it. What is at hand under a label, a page or that there is none, is had without memory.
 /// `follows` says what every call keeps of the state below, as that nothing was committed, also where the call fails;
 /// pages in memory have nothing below them.
 pub trait Pages {

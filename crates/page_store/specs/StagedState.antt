@@ -13,9 +13,9 @@ use Rattle.table_memory.specs.OverlayState.{overlaid}
 use Rattle.page_store.specs.PageImages.{table_slots, pages_in_table, SlotStandsAt}
 use Rattle.table_memory.specs.Staging.{StagedPages, with_changes}
 
--- Staged pages at one moment: what the image is made with, its draw, the pages now, those in the table, what is staged, what is
--- remembered of the table, the disk, whether the value is spent, and how many pages were asked for. Where the disk is not
--- observable, and of a value that is spent, the maps mean nothing.
+-- Staged pages at one moment: what the image is made with, its draw, the pages now, those in the table, what is staged,
+-- what is remembered of the table, the disk, whether the value is spent, and how many pages were asked for. Where the
+-- disk is not observable, and of a value that is spent, the maps mean nothing.
 pub record StagedState (D W : Type 0) : Type 0 where
   pub params : Parameters
   pub draw : W

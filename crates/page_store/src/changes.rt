@@ -100,8 +100,8 @@ impl Changes {
         }
     }
 
-    /// Whether something is known of the label, whose place in the memo this is, by the changes or by the memo. It takes
-    /// no memory.
+    /// Whether something is known of the label, whose place in the memo this is, by the changes or by the memo. It
+    /// takes no memory.
     // The memo comes first, since to find a label among the changes takes comparisons of labels.
     pub fn knows(&self, memo: &PageMemo, place: usize, label: &Label) -> bool
         requires { place ≡ memo_place (label_bytes label.now) }

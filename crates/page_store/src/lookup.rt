@@ -48,7 +48,7 @@ impl<D: Disk, W: Draw> Lookup<D, W> {
     }
 
     /// Reads and remembers the page of the label, whose place in the memo this is, unless it is known by the changes or
-    /// by the memo. It is not remembered where there is no memory for it. Where the page is known the call only answers.
+    /// by the memo. It is not remembered where there is no memory for it. Where it is known the call only answers.
     pub fn learn(&mut self, changes: &Changes, place: usize, label: &Label) -> Result<(), Fault>
         requires { place ≡ memo_place (label_bytes label.now) }
         ensures call { Consults (slots_seen D.state self.old.overlay) (slots_seen D.state self.new.overlay) result }

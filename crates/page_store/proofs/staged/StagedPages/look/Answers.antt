@@ -40,8 +40,8 @@ returns g c =
     let s = c.self.inside in
     let slots = c.learn.new.self.overlay in
     let heard = λ (known : IsKnown s.changes.pages.entries s.lookup.memo c.args.label.now).
-        let still = subst (λ (memo : Remembered). IsKnown s.changes.pages.entries memo c.args.label.now) (sym (c.learn.ensures.kept known)) known in
-        looked_answered c.shown.result (c.shown.ensures.known.1 still) in
+    let still = subst (λ (memo : Remembered). IsKnown s.changes.pages.entries memo c.args.label.now) (sym (c.learn.ensures.kept known)) known in
+    looked_answered c.shown.result (c.shown.ensures.known.1 still) in
     let faults = c.in_ok-learn.ensures.call.calls.faults ∙ sym (c.shown.ensures.faults (g.D.Disk.state s.lookup.overlay.disk).faults) in
     let looked = page_looked g.D.Disk.state s.lookup.finder.draw (g.W.Draw.drawn s.lookup.finder.draw) s.lookup.overlay.params slots.params s.lookup.overlay.disk slots.disk s.lookup.overlay.touched.entries slots.touched.entries s.changes.pages.entries s.lookup.memo c.learn.new.self.memo s.used s.settled s.lookups s.is_spent c.self.invariant c.learn.ensures.follows c.learn.ensures.call.reads _ c.self.view_is c.args.label.now c.saturating_add-self-inside.result (looked_at c.shown.result) (omega arith) (omega arith) c.saturating_add-self-inside.ensures heard (looked_known c.shown.result (IsKnown s.changes.pages.entries c.learn.new.self.memo c.args.label.now) c.shown.ensures.known) faults (rw c.learn.ensures.draw at c.shown.ensures.found) in
     let seen = λ (w : g.row.W.Denot). staged_state g.D.Disk.state slots.params w slots.disk s.changes.pages.entries c.learn.new.self.memo c.saturating_add-self-inside.result s.is_spent in
