@@ -29,7 +29,9 @@ fn check_round<S: ReadSlots, W: Draw, L: Ledger>(
     ensures follows { S.follows slots.old slots.new }
 {
     let mut there = [0; BLOCK];
+    // Of the page at each place, from which place on the labels up to its own are known to be smaller.
     let mut reach = [0; MAX_SLOTS as usize];
+    // The place behind the last free slot.
     let mut run = 0;
     let mut used = 0;
     for place in 0..round.count {
@@ -59,13 +61,13 @@ fn check_round<S: ReadSlots, W: Draw, L: Ledger>(
     Ok(Some(used))
 }
 
-/// How many pages the slots hold, where each is all zero or a page, each page's level is below the height, and the pages
-/// are in order; `None` exactly where that is not so.
+/// How many pages the slots hold, where each is all zero or a page, each page's level is below the height, and the
+/// pages are in order; `None` exactly where that is not so.
 ///
 /// Each slot that is read and each start that is drawn counts as a step: they are at most four for each slot.
 ///
-/// There have to be as many slots as the draw's, at most `MAX_SLOTS`. A fault of the slots ends the call, and the slots are
-/// as they were; it takes no memory, so want of memory comes from slots alone that may take some.
+/// There have to be as many slots as the draw's, at most `MAX_SLOTS`. A fault of the slots ends the call, and the slots
+/// are as they were. The call takes no memory, so want of memory comes from slots alone that may take some.
 pub fn check_order<S: ReadSlots, W: Draw, L: Ledger>(
     slots: &mut S,
     draw: &W,
