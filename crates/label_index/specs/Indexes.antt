@@ -45,6 +45,11 @@ pub record IsIndexOf (state : SlotsState) (entries : List Entry) : Type 0 where
   pub there : AreThere state.count entries
   pub indexes : IsObservable state → Indexes state.slots entries
 
+-- the entries tell the pages that lie in slots, in any order
+pub record AreNoted (state : SlotsState) (entries : List Entry) : Type 0 where
+  pub there : AreThere state.count entries
+  pub tells : IsObservable state → TellsPages state.slots entries
+
 -- the same entries, in the order of their digests
 pub record IsSortOf (old new : List Entry) : Type 0 where
   pub same : IsPermutation old new
