@@ -12,8 +12,7 @@ use Rattle.store_model.proofs.ListsLemmasOrder.{held_all}
 use Rattle.store_base.specs.declared.store_fault.Fault.{Fault}
 use Rattle.store_base.specs.SlotsState.{SlotsState, IsObservable}
 use Rattle.layout_conditions.specs.Pages.{HasCell, HasKey}
-use Rattle.group_walk.specs.declared.met.Met.{Met}
-use Rattle.group_walk.specs.Streams.{IsAbove, IsReached, GoesOn}
+use Rattle.group_walk.specs.Streams.{IsAbove, IsReached, GoesOn, Progress}
 use Rattle.group_walk.specs.Walked.{InMap, IsPassed, MeetWalk, Walked, ComesTo, ComesToCell}
 use Rattle.group_walk.specs.Walks.{HandsOn, pair_of, leader_cells, IsWalked, AreCellsWalked, IsGroupWalked, WalksGroup, WalksCell}
 use Rattle.group_walk.proofs.LookupLemmas.{reads_none}
@@ -22,7 +21,7 @@ use Rattle.group_walk.proofs.MetGroups.{met_pair, met_as}
 use Rattle.group_walk.proofs.CellSteps.{valid_in}
 use Rattle.group_walk.proofs.Handing.{hands_none}
 
-module _ (d : Draw) (old new : SlotsState) (low level : ℕ) (cell : Cell) (before after : Met) (Took TookNow : List Pair → Type 0) (next : level ≡ low + 1) where
+module _ (d : Draw) (old new : SlotsState) (low level : ℕ) (cell : Cell) (before after : Progress) (Took TookNow : List Pair → Type 0) (next : level ≡ low + 1) where
   -- the group that the cell leads was met
   group_met : (m : PageMap) → IsGroupWalked d m low (Leader cell.key) before after Took TookNow → AreCellsWalked d m (low + 1) (cell ∷ []) before after Took TookNow
   group_met m group =
@@ -68,7 +67,7 @@ module _ (d : Draw) (old new : SlotsState) (low level : ℕ) (cell : Cell) (befo
   }
 
 -- the pair of a cell of level 0
-pub walks_pair : (d : Draw) (state : SlotsState) (cell : Cell) (value : List ℕ) (before after : Met) (Took TookNow : List Pair → Type 0) → cell.value ≡ Some value → after.left ≡ before.left → after.last ≡ Some cell.key
+pub walks_pair : (d : Draw) (state : SlotsState) (cell : Cell) (value : List ℕ) (before after : Progress) (Took TookNow : List Pair → Type 0) → cell.value ≡ Some value → after.left ≡ before.left → after.last ≡ Some cell.key
     → ((pairs : List Pair) → Took pairs → TookNow (pairs ++ (cell.key, value) ∷ [])) → WalksCell d state state 0 cell before after Took TookNow (Ok true)
 walks_pair d state cell value before after Took TookNow is left last takes = record {
   reads = reads_none state true;
@@ -88,7 +87,7 @@ walks_pair d state cell value before after Took TookNow is left last takes = rec
 }
 
 -- on level 0 each cell has a value
-pub walks_no_pair : (d : Draw) (state : SlotsState) (cell : Cell) (met : Met) (Took : List Pair → Type 0) → cell.value ≡ None → WalksCell d state state 0 cell met met Took Took (Ok false)
+pub walks_no_pair : (d : Draw) (state : SlotsState) (cell : Cell) (met : Progress) (Took : List Pair → Type 0) → cell.value ≡ None → WalksCell d state state 0 cell met met Took Took (Ok false)
 walks_no_pair d state cell met Took is = record {
   reads = reads_none state false;
   fewer = omega arith;

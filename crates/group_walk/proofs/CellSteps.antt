@@ -19,9 +19,8 @@ use Rattle.store_base.specs.SlotsState.{SlotsState, IsObservable}
 use Rattle.store_base.proofs.SlotsCalls.{IsObservable-later}
 use Rattle.node_pages.proofs.Joined.{take_next}
 use Rattle.layout_conditions.specs.Pages.{HasCell, HasKey}
-use Rattle.group_walk.specs.declared.met.Met.{Met}
 use Rattle.group_walk.specs.Lookups.{ReadsOnly}
-use Rattle.group_walk.specs.Streams.{HasKeyIn, IsAbove, IsReached, GoesOn}
+use Rattle.group_walk.specs.Streams.{HasKeyIn, IsAbove, IsReached, GoesOn, Progress}
 use Rattle.group_walk.specs.Walked.{InMap, AreDistinct, IsLeadIn, IsPassed, LeadsOn, IsInPlace, MeetWalk, Walked, AreMetOf, ComesToCell, ComesToCells}
 use Rattle.group_walk.specs.Walks.{HandsOn, pair_of, IsWalked, AreCellsWalked, IsPageWalked, RefutesCell, RefutesCells, WalksCell, WalksCells}
 use Rattle.group_walk.proofs.LookupLemmas.{reads_none, reads_then, reads_value, reads_fault}
@@ -33,13 +32,13 @@ use Rattle.group_walk.proofs.Handing.{hands_none, hands_both, handed_none, hande
 
 -- ---- what was walked, one part behind another
 
-pub walked_none : (d : Draw) (m : PageMap) (level : ℕ) (met : Met) (Took : List Pair → Type 0) → AreCellsWalked d m level [] met met Took Took
+pub walked_none : (d : Draw) (m : PageMap) (level : ℕ) (met : Progress) (Took : List Pair → Type 0) → AreCellsWalked d m level [] met met Took Took
 walked_none d m level met Took = record {
   below = record { pages = []; stream = []; walked = met_none d (InMap m) level; goes_on = goes_nowhere met.last; left = omega arith; handed_on = handed_none Took };
   keyed = λ page held. absurd (none_in page held);
 }
 
-pub walked_both : (d : Draw) (m : PageMap) (level : ℕ) (own1 own2 : List Cell) (before mid after : Met) (Took TookMid TookNow : List Pair → Type 0)
+pub walked_both : (d : Draw) (m : PageMap) (level : ℕ) (own1 own2 : List Cell) (before mid after : Progress) (Took TookMid TookNow : List Pair → Type 0)
     → AreCellsWalked d m level own1 before mid Took TookMid → AreCellsWalked d m level own2 mid after TookMid TookNow → AreCellsWalked d m level (own1 ++ own2) before after Took TookNow
 walked_both d m level own1 own2 before mid after Took TookMid TookNow a b = record {
   below = record {
@@ -115,18 +114,18 @@ apart_behind level stream last now first second on passed lower keyed leads p q 
 
 -- ---- the cells of a page
 
-pub record CellsMet (d : Draw) (m : PageMap) (page : Page) (i : ℕ) (before after : Met) (Took TookNow : List Pair → Type 0) : Type 0 where
+pub record CellsMet (d : Draw) (m : PageMap) (page : Page) (i : ℕ) (before after : Progress) (Took TookNow : List Pair → Type 0) : Type 0 where
   pub cells : AreCellsWalked d m page.label.level (take i page.cells) before after Took TookNow
   pub placed : (j : ℕ) (cell : Cell) → j < i → slice_get page.cells j ≡ Some cell → IsInPlace d page.label.level page.label.lead page.label.index j cell.key
 
 -- the first cells of a page were walked over, so many
-pub record CellsSoFar (d : Draw) (old now : SlotsState) (page : Page) (i : ℕ) (before after : Met) (Took TookNow : List Pair → Type 0) : Type 0 where
+pub record CellsSoFar (d : Draw) (old now : SlotsState) (page : Page) (i : ℕ) (before after : Progress) (Took TookNow : List Pair → Type 0) : Type 0 where
   pub reads : ReadsOnly {T = Unit {0}} old now (Ok tt)
   pub fewer : after.left ≤ before.left
   pub handed : HandsOn Took TookNow
   pub walked : (m : PageMap) → IsObservable old → HoldsPages d old.slots m → InMap m page → LeadsOn d page.label.level page.label.lead → CellsMet d m page i before after Took TookNow
 
-pub cells_begin : (d : Draw) (state : SlotsState) (page : Page) (met : Met) (Took : List Pair → Type 0) → CellsSoFar d state state page 0 met met Took Took
+pub cells_begin : (d : Draw) (state : SlotsState) (page : Page) (met : Progress) (Took : List Pair → Type 0) → CellsSoFar d state state page 0 met met Took Took
 cells_begin d state page met Took = record {
   reads = reads_none state tt;
   fewer = omega arith;
@@ -142,7 +141,7 @@ valid_in d slots m page holds there = (holds.pages (label_bytes page.label) page
 pub still_holds : {T : Type 0} (d : Draw) (old new : SlotsState) (m : PageMap) (result : Result T Fault) → ReadsOnly old new result → IsObservable old → HoldsPages d old.slots m → HoldsPages d new.slots m
 still_holds d old new m result reads observable holds = subst (λ (slots : List (List ℕ)). HoldsPages d slots m) (sym (reads.slots observable)) holds
 
-module _ (d : Draw) (old now new : SlotsState) (page : Page) (i : ℕ) (cell : Cell) (before mid after : Met) (Took TookMid TookNow : List Pair → Type 0)
+module _ (d : Draw) (old now new : SlotsState) (page : Page) (i : ℕ) (cell : Cell) (before mid after : Progress) (Took TookMid TookNow : List Pair → Type 0)
     (far : CellsSoFar d old now page i before mid Took TookMid) (is : slice_get page.cells i ≡ Some cell) where
   -- the cell stands on the level of the page
   cell_there : (m : PageMap) → InMap m page → HasCell (InMap m) page.label.level cell
@@ -227,7 +226,7 @@ module _ (d : Draw) (old now new : SlotsState) (page : Page) (i : ℕ) (cell : C
   }
 
 -- all cells were walked over
-pub cells_done : (d : Draw) (old now : SlotsState) (page : Page) (i : ℕ) (before after : Met) (Took TookNow : List Pair → Type 0) → CellsSoFar d old now page i before after Took TookNow → length page.cells ≤ i
+pub cells_done : (d : Draw) (old now : SlotsState) (page : Page) (i : ℕ) (before after : Progress) (Took TookNow : List Pair → Type 0) → CellsSoFar d old now page i before after Took TookNow → length page.cells ≤ i
     → WalksCells d old now page before after Took TookNow (Ok true)
 cells_done d old now page i before after Took TookNow far all = record {
   reads = reads_value old now tt true far.reads;

@@ -19,9 +19,8 @@ use Rattle.store_base.specs.SlotsState.{SlotsState, IsObservable}
 use Rattle.store_base.proofs.SlotsCalls.{IsObservable-later}
 use Rattle.layout_conditions.specs.Pages.{KeysRise, AreRunOf, LeadsGroup, HasCell, HasKey, FollowsFull, IsLed}
 use Rattle.skip_groups.specs.Groups.{label_of}
-use Rattle.group_walk.specs.declared.met.Met.{Met}
 use Rattle.group_walk.specs.Lookups.{ReadsOnly, FindsPage}
-use Rattle.group_walk.specs.Streams.{HasKeyIn, IsAbove, IsReached, GoesOn}
+use Rattle.group_walk.specs.Streams.{HasKeyIn, IsAbove, IsReached, GoesOn, Progress}
 use Rattle.group_walk.specs.Walked.{InMap, AreDistinct, IsPassed, IsAhead, IsStart, LeadsOn, IsNextRun, MeetWalk, Walked, Opened, AreMetOf, ComesTo, ComesToCells}
 use Rattle.group_walk.specs.Walks.{HandsOn, pair_of, leader_cells, IsWalked, AreCellsWalked, IsPageWalked, IsGroupWalked, RefutesGroup, WalksCells, WalksGroup}
 use Rattle.group_walk.proofs.LookupLemmas.{reads_none, reads_then, reads_value, reads_fault}
@@ -36,7 +35,7 @@ use Rattle.group_walk.proofs.Handing.{hands_none, hands_both, handed_none, hande
 
 -- ---- the runs so far
 
-pub record RunsMet (d : Draw) (m : PageMap) (level : ℕ) (lead : Lead) (past : ℕ) (before after : Met) (Took TookNow : List Pair → Type 0) : Type 0 where
+pub record RunsMet (d : Draw) (m : PageMap) (level : ℕ) (lead : Lead) (past : ℕ) (before after : Progress) (Took TookNow : List Pair → Type 0) : Type 0 where
   pub runs : List Page
   pub cells : List Cell
   pub pages : List Page
@@ -48,18 +47,18 @@ pub record RunsMet (d : Draw) (m : PageMap) (level : ℕ) (lead : Lead) (past : 
   pub left : after.left + (length runs + length pages) ≡ before.left
   pub handed_on : (pairs : List Pair) → Took pairs → TookNow (pairs ++ map pair_of stream)
 
-pub record FullRunsMet (d : Draw) (m : PageMap) (level : ℕ) (lead : Lead) (past : ℕ) (before after : Met) (Took TookNow : List Pair → Type 0) : Type 0 where
+pub record FullRunsMet (d : Draw) (m : PageMap) (level : ℕ) (lead : Lead) (past : ℕ) (before after : Progress) (Took TookNow : List Pair → Type 0) : Type 0 where
   pub met : RunsMet d m level lead past before after Took TookNow
   pub full : (page : Page) → Contains met.runs page → length page.cells ≡ page_room page.label.level
 
 -- the first runs of a group were walked over, so many, and are full
-pub record RunsSoFar (d : Draw) (old now : SlotsState) (level : ℕ) (lead : Lead) (past : ℕ) (before after : Met) (Took TookNow : List Pair → Type 0) : Type 0 where
+pub record RunsSoFar (d : Draw) (old now : SlotsState) (level : ℕ) (lead : Lead) (past : ℕ) (before after : Progress) (Took TookNow : List Pair → Type 0) : Type 0 where
   pub reads : ReadsOnly {T = Unit {0}} old now (Ok tt)
   pub fewer : after.left + past ≤ before.left
   pub handed : HandsOn Took TookNow
   pub walked : (m : PageMap) → IsObservable old → HoldsPages d old.slots m → LeadsOn d level lead → FullRunsMet d m level lead past before after Took TookNow
 
-pub runs_begin : (d : Draw) (state : SlotsState) (level : ℕ) (lead : Lead) (met : Met) (Took : List Pair → Type 0) → RunsSoFar d state state level lead 0 met met Took Took
+pub runs_begin : (d : Draw) (state : SlotsState) (level : ℕ) (lead : Lead) (met : Progress) (Took : List Pair → Type 0) → RunsSoFar d state state level lead 0 met met Took Took
 runs_begin d state level lead met Took = record {
   reads = reads_none state tt;
   fewer = omega arith;
@@ -85,7 +84,7 @@ runs_begin d state level lead met Took = record {
 pub one_in_map : (m : PageMap) (p q : Page) → InMap m p → InMap m q → p.label ≡ q.label → p ≡ q
 one_in_map m p q there other same = same_Some p q (sym there ∙ ap (page_at m) same ∙ other)
 
-module _ (d : Draw) (m : PageMap) (level : ℕ) (lead : Lead) (past : ℕ) (before mid : Met) (Took TookMid : List Pair → Type 0) (far : FullRunsMet d m level lead past before mid Took TookMid) where
+module _ (d : Draw) (m : PageMap) (level : ℕ) (lead : Lead) (past : ℕ) (before mid : Progress) (Took TookMid : List Pair → Type 0) (far : FullRunsMet d m level lead past before mid Took TookMid) where
   module _ (page : Page) (there : InMap m page) (named : page.label ≡ label_of level lead past) where
     level_is : page.label.level ≡ level
     level_is = ap (λ (l : Label). l.level) named
@@ -94,7 +93,7 @@ module _ (d : Draw) (m : PageMap) (level : ℕ) (lead : Lead) (past : ℕ) (befo
     index_is = ap (λ (l : Label). l.index) named
 
     -- one more run was walked over
-    pub runs_grown : (taken after : Met) (TookNow : List Pair → Type 0) → taken.left + 1 ≡ mid.left → taken.last ≡ mid.last → IsPageWalked d m page taken after TookMid TookNow
+    pub runs_grown : (taken after : Progress) (TookNow : List Pair → Type 0) → taken.left + 1 ≡ mid.left → taken.last ≡ mid.last → IsPageWalked d m page taken after TookMid TookNow
         → (grown : RunsMet d m level lead (past + 1) before after Took TookNow) × ((p : Page) → Contains grown.runs p → Contains far.met.runs p ⊎ Contains (page ∷ []) p)
     runs_grown taken after TookNow left last walk =
         let met = far.met in

@@ -29,9 +29,8 @@ use Rattle.store_base.proofs.SlotsCalls.{IsObservable-later}
 use Rattle.layout_conditions.specs.Conditions.{StandsIn, IsSound, AreRuns, AreGroups, AreMet}
 use Rattle.layout_conditions.specs.Pages.{LeadsGroup, HasCell, HasKey, FollowsFull, IsLed}
 use Rattle.skip_groups.specs.Groups.{label_of}
-use Rattle.group_walk.specs.declared.met.Met.{Met}
 use Rattle.group_walk.specs.Lookups.{ReadsOnly}
-use Rattle.group_walk.specs.Streams.{HasKeyIn, IsAbove, GoesOn}
+use Rattle.group_walk.specs.Streams.{HasKeyIn, IsAbove, GoesOn, Progress}
 use Rattle.group_walk.specs.Walked.{InMap, AreDistinct, IsPassed, IsLedBy, IsNextRun, MeetWalk, Walked, AreMetOf, ComesTo}
 use Rattle.group_walk.specs.Walks.{HandsOn, pair_of, leader_cells, IsGroupWalked, WalksGroup, HoldsList, WalksTable}
 use Rattle.group_walk.proofs.LookupLemmas.{reads_none, reads_then, reads_value, reads_fault}
@@ -46,7 +45,7 @@ use Rattle.group_walk.proofs.Handing.{hands_none, hands_both, handed_none, hande
 
 -- ---- the levels so far
 
-pub record LevelsMet (d : Draw) (m : PageMap) (level used : ℕ) (met : Met) (Took TookNow : List Pair → Type 0) : Type 0 where
+pub record LevelsMet (d : Draw) (m : PageMap) (level used : ℕ) (met : Progress) (Took TookNow : List Pair → Type 0) : Type 0 where
   pub pages : List Page
   pub stream : List Cell
   pub walked : Walked d (InMap m) level [] pages stream
@@ -56,12 +55,12 @@ pub record LevelsMet (d : Draw) (m : PageMap) (level used : ℕ) (met : Met) (To
   pub starts : (page : Page) → InMap m page → page.label.lead ≡ Start → page.label.index ≡ 0 → page.label.level < level → Contains pages page
 
 -- the groups of the start on the first so many levels were walked over, and all below them
-pub record LevelsSoFar (d : Draw) (old now : SlotsState) (level used : ℕ) (met : Met) (Took TookNow : List Pair → Type 0) : Type 0 where
+pub record LevelsSoFar (d : Draw) (old now : SlotsState) (level used : ℕ) (met : Progress) (Took TookNow : List Pair → Type 0) : Type 0 where
   pub reads : ReadsOnly {T = Unit {0}} old now (Ok tt)
   pub handed : HandsOn Took TookNow
   pub walked : (m : PageMap) → IsObservable old → HoldsPages d old.slots m → LevelsMet d m level used met Took TookNow
 
-pub levels_begin : (d : Draw) (state : SlotsState) (used : ℕ) (met : Met) (Took : List Pair → Type 0) → met.left ≡ used → met.last ≡ None → LevelsSoFar d state state 0 used met Took Took
+pub levels_begin : (d : Draw) (state : SlotsState) (used : ℕ) (met : Progress) (Took : List Pair → Type 0) → met.left ≡ used → met.last ≡ None → LevelsSoFar d state state 0 used met Took Took
 levels_begin d state used met Took left last = record {
   reads = reads_none state tt;
   handed = hands_none Took;
@@ -125,7 +124,7 @@ module _ (d : Draw) (m : PageMap) (meets : MeetWalk d (InMap m)) (height : ℕ) 
 
 -- ---- one more level
 
-module _ (d : Draw) (old now new : SlotsState) (level used : ℕ) (mid after : Met) (Took TookMid TookNow : List Pair → Type 0) (far : LevelsSoFar d old now level used mid Took TookMid) where
+module _ (d : Draw) (old now new : SlotsState) (level used : ℕ) (mid after : Progress) (Took TookMid TookNow : List Pair → Type 0) (far : LevelsSoFar d old now level used mid Took TookMid) where
   later : IsObservable old → IsObservable now
   later = IsObservable-later old now (Ok tt) far.reads.calls
 
@@ -199,7 +198,7 @@ module _ (d : Draw) (law : IsLawful d) (old : SlotsState) (table : Table) (slots
   found page (slot, held) = standing_found d old.slots the_map table slot page law is_table held
 
   -- what the walk met is a whole table's list
-  pub holds_list : (used : ℕ) (met : Met) (Took TookNow : List Pair → Type 0) → LevelsMet d the_map d.height used met Took TookNow → used ≡ length (pages_in table) → met.left ≡ 0 → HoldsList d table Took TookNow
+  pub holds_list : (used : ℕ) (met : Progress) (Took TookNow : List Pair → Type 0) → LevelsMet d the_map d.height used met Took TookNow → used ≡ length (pages_in table) → met.left ≡ 0 → HoldsList d table Took TookNow
   holds_list used met Took TookNow so_far count none = record {
     meets = meets_as d (Contains so_far.pages) (StandsIn table) (λ page held. stands page (w.there page held)) (λ page stand. all page (found page stand))
         (record { runs = w.runs; groups = w.groups; met = λ page held. led_by page (w.led page held) });
@@ -227,16 +226,16 @@ module _ (d : Draw) (law : IsLawful d) (old : SlotsState) (table : Table) (slots
       from_by cell (inr held) = absurd (none_in cell held.1)
 
   -- a page that was not met refutes the conditions
-  pub not_all : (used : ℕ) (met : Met) (Took TookNow : List Pair → Type 0) → LevelsMet d the_map d.height used met Took TookNow → used ≡ length (pages_in table) → (met.left ≡ 0 → ⊥) → MeetWalk d (StandsIn table) → ⊥
+  pub not_all : (used : ℕ) (met : Progress) (Took TookNow : List Pair → Type 0) → LevelsMet d the_map d.height used met Took TookNow → used ≡ length (pages_in table) → (met.left ≡ 0 → ⊥) → MeetWalk d (StandsIn table) → ⊥
   not_all used met Took TookNow so_far count some meets =
       let all = all_met d the_map (meets_as d (StandsIn table) (InMap the_map) found stands meets) d.height so_far.pages so_far.stream so_far.walked (λ page there. sound.levels page (stands page there)) so_far.starts in
       let many = many_in_map the_map so_far.pages (holds_table).pages all in
       let left = so_far.left in
       some (omega (arith, left, many, count, table_count))
 
-module _ (d : Draw) (law : IsLawful d) (old now : SlotsState) (level used : ℕ) (mid : Met) (Took TookMid : List Pair → Type 0) (far : LevelsSoFar d old now level used mid Took TookMid) where
+module _ (d : Draw) (law : IsLawful d) (old now : SlotsState) (level used : ℕ) (mid : Progress) (Took TookMid : List Pair → Type 0) (far : LevelsSoFar d old now level used mid Took TookMid) where
   -- what is below the start's group refutes the conditions
-  pub levels_refuted : (new : SlotsState) (after : Met) (TookNow : List Pair → Type 0) → WalksGroup d now new level Start mid after TookMid TookNow (Ok false) → WalksTable d old new used Took TookNow (Ok false)
+  pub levels_refuted : (new : SlotsState) (after : Progress) (TookNow : List Pair → Type 0) → WalksGroup d now new level Start mid after TookMid TookNow (Ok false) → WalksTable d old new used Took TookNow (Ok false)
   levels_refuted new after TookNow walks = record {
     reads = reads_then old now new tt (Ok false) far.reads walks.reads;
     handed = hands_both Took TookMid TookNow far.handed walks.handed;
