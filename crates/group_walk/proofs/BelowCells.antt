@@ -1,20 +1,17 @@
 -- The walk below one cell: down to the group that it leads, or on level 0 its pair.
-use Rattle.std.proofs.Common.{◌≡◌, ℕ, suc, ◌+◌, ◌<◌, ◌≤◌, ◌⊎◌, inl, inr, Bool, true, false, List, [], ◌∷◌, ◌++◌, Option, Some, None, Result, Ok, Err, length, map, refl, sym, ap, subst, ◌∙◌, arith}
+use Rattle.std.proofs.Common.{◌≡◌, ℕ, ◌+◌, Bool, true, false, List, [], ◌∷◌, ◌++◌, Option, Some, None, Result, Ok, Err, refl, sym, subst, arith}
 use Rattle.std.specs.Prelude.{unwrap_or}
-use Rattle.std.specs.List.{Contains, AllByRecursion}
-use Rattle.store_model.specs.Labels.{Lead, Label}
-use Rattle.store_model.specs.Labels.Lead.{Start, Leader}
+use Rattle.store_model.specs.Labels.Lead.{Leader}
 use Rattle.store_model.specs.Pairs.{Pair}
 use Rattle.store_model.specs.Draws.{Draw}
-use Rattle.store_model.specs.Pages.{Cell, Page, IsCell, IsCellValue, IsPage}
-use Rattle.store_model.specs.PageMaps.{PageMap, HoldsPages}
+use Rattle.store_model.specs.Pages.{Cell, Page, IsCell, IsCellValue}
+use Rattle.store_model.specs.PageMaps.{PageMap}
 use Rattle.store_model.proofs.ListsLemmasOrder.{held_all}
 use Rattle.store_base.specs.declared.store_fault.Fault.{Fault}
-use Rattle.store_base.specs.SlotsState.{SlotsState, IsObservable}
-use Rattle.layout_conditions.specs.Pages.{HasCell, HasKey}
-use Rattle.group_walk.specs.Streams.{IsAbove, IsReached, GoesOn, Progress}
-use Rattle.group_walk.specs.Walked.{InMap, IsPassed, MeetWalk, Walked, ComesTo, ComesToCell}
-use Rattle.group_walk.specs.Walks.{HandsOn, pair_of, leader_cells, IsWalked, AreCellsWalked, IsGroupWalked, WalksGroup, WalksCell}
+use Rattle.store_base.specs.SlotsState.{SlotsState}
+use Rattle.group_walk.specs.Streams.{GoesOn, Progress}
+use Rattle.group_walk.specs.Walked.{InMap, IsPassed, ComesTo, ComesToCell}
+use Rattle.group_walk.specs.Walks.{AreCellsWalked, IsGroupWalked, WalksGroup, WalksCell}
 use Rattle.group_walk.proofs.LookupLemmas.{reads_none}
 use Rattle.group_walk.proofs.KeyOrder.{none_in, not_below_itself, reached_below, goes_on_one}
 use Rattle.group_walk.proofs.MetGroups.{met_pair, met_as}

@@ -1,7 +1,6 @@
 -- The walk over the cells of a page, cell by cell.
-use Rattle.std.proofs.Common.{◌≡◌, ℕ, zero, suc, ◌+◌, ◌<◌, ◌≤◌, ◌⊎◌, inl, inr, Bool, true, false, List, [], ◌∷◌, ◌++◌, Option, Some, None, Result, Ok, Err, length, take, slice_get, refl, sym, ap, subst, ◌∙◌, arith, length-append}
+use Rattle.std.proofs.Common.{◌≡◌, ℕ, ◌+◌, ◌<◌, ◌≤◌, ◌⊎◌, inl, inr, true, false, List, [], ◌∷◌, ◌++◌, Option, Some, None, Result, Ok, Err, length, take, slice_get, refl, sym, ap, subst, ◌∙◌, arith, length-append}
 use Rattle.std.specs.List.{Contains}
-use Rattle.std.specs.FinMap as maps
 use Rattle.std.specs.declared.cmp.Ordering.TheVariants.{Less}
 use Rattle.std.proofs.Math.Nat.{eq-or-lt_of_le}
 use Rattle.std.proofs.lemmas.List.{take_all}
@@ -13,7 +12,7 @@ use Rattle.store_model.specs.Labels.Lead.{Start, Leader}
 use Rattle.store_model.specs.Pairs.{Pair}
 use Rattle.store_model.specs.Draws.{Draw}
 use Rattle.store_model.specs.Pages.{Cell, Page, IsPage}
-use Rattle.store_model.specs.PageMaps.{PageMap, page_at, HoldsPages}
+use Rattle.store_model.specs.PageMaps.{PageMap, HoldsPages}
 use Rattle.store_base.specs.declared.store_fault.Fault.{Fault}
 use Rattle.store_base.specs.SlotsState.{SlotsState, IsObservable}
 use Rattle.store_base.proofs.SlotsCalls.{IsObservable-later}
@@ -21,9 +20,9 @@ use Rattle.node_pages.proofs.Joined.{take_next}
 use Rattle.layout_conditions.specs.Pages.{HasCell, HasKey}
 use Rattle.group_walk.specs.Lookups.{ReadsOnly}
 use Rattle.group_walk.specs.Streams.{HasKeyIn, IsAbove, IsReached, GoesOn, Progress}
-use Rattle.group_walk.specs.Walked.{InMap, AreDistinct, IsLeadIn, IsPassed, LeadsOn, IsInPlace, MeetWalk, Walked, AreMetOf, ComesToCell, ComesToCells}
-use Rattle.group_walk.specs.Walks.{HandsOn, pair_of, IsWalked, AreCellsWalked, IsPageWalked, RefutesCell, RefutesCells, WalksCell, WalksCells}
-use Rattle.group_walk.proofs.LookupLemmas.{reads_none, reads_then, reads_value, reads_fault}
+use Rattle.group_walk.specs.Walked.{InMap, AreDistinct, IsLeadIn, IsPassed, LeadsOn, IsInPlace, AreMetOf, ComesToCell, ComesToCells}
+use Rattle.group_walk.specs.Walks.{HandsOn, AreCellsWalked, WalksCell, WalksCells}
+use Rattle.group_walk.proofs.LookupLemmas.{reads_none, reads_then, reads_value}
 use Rattle.group_walk.proofs.KeyOrder.{none_in, not_below_itself, reached_below, goes_nowhere, goes_on_both, rise_behind}
 use Rattle.group_walk.proofs.MetPages.{met_none, met_both, distinct_both}
 use Rattle.group_walk.proofs.KeysBelow.{stream_below}
@@ -156,7 +155,7 @@ module _ (d : Draw) (old now new : SlotsState) (page : Page) (i : ℕ) (cell : C
       walked = λ m observable holds there leads.
           let so_far = far.walked m observable holds there leads in
           let more = walks.walked m (IsObservable-later old now (Ok tt) far.reads.calls observable) (still_holds d old now m (Ok tt) far.reads observable holds) (cell_there m there)
-              (level_of_place d page.label.level page.label.lead page.label.index i cell.key leads place) above in
+          (level_of_place d page.label.level page.label.lead page.label.index i cell.key leads place) above in
           record {
             cells = subst (λ (own : List Cell). AreCellsWalked d m page.label.level own before after Took TookNow) (sym (take_next page.cells i cell is))
                 (walked_both d m page.label.level (take i page.cells) (cell ∷ []) before mid after Took TookMid TookNow so_far.cells more);
@@ -173,14 +172,16 @@ module _ (d : Draw) (old now new : SlotsState) (page : Page) (i : ℕ) (cell : C
     -- the walk comes to the cell
     comes_to_cell : (m : PageMap) (pages : List Page) → CellsMet d m page i before mid Took TookMid → (comes : ComesToCells d m page before.left before.last pages) → (all : List Page) × ComesToCell d m page.label.level cell mid.left mid.last all
     comes_to_cell m pages so_far comes =
-        let below = so_far.cells.below in
-        (pages ++ below.pages, record {
-          met = met_of_both m before.left mid.left pages below.pages comes.met below.walked.there below.walked.distinct
-              (apart_behind page.label.level below.stream before.last mid.last pages below.pages below.goes_on comes.passed below.walked.lower so_far.cells.keyed below.walked.lead_keys) below.left;
-          passed = λ other held lower. passed_by so_far comes other lower (Contains-append_cases pages below.pages other held);
-          there = cell_there m comes.there;
-          above = above;
-        })
+        let below = so_far.cells.below in (
+          pages ++ below.pages,
+          record {
+            met = met_of_both m before.left mid.left pages below.pages comes.met below.walked.there below.walked.distinct
+                (apart_behind page.label.level below.stream before.last mid.last pages below.pages below.goes_on comes.passed below.walked.lower so_far.cells.keyed below.walked.lead_keys) below.left;
+            passed = λ other held lower. passed_by so_far comes other lower (Contains-append_cases pages below.pages other held);
+            there = cell_there m comes.there;
+            above = above;
+          },
+        )
       where
         passed_by : (so_far : CellsMet d m page i before mid Took TookMid) → ComesToCells d m page before.left before.last pages → (other : Page) → other.label.level < page.label.level
             → Contains pages other ⊎ Contains so_far.cells.below.pages other → IsPassed mid.last other.label.lead
@@ -218,11 +219,13 @@ module _ (d : Draw) (old now new : SlotsState) (page : Page) (i : ℕ) (cell : C
         let so_far = far.walked m observable holds there leads in
         let below = so_far.cells.below in
         let has : HasKey (InMap m) page.label.level cell.key = record { cell = cell; key_is = refl; has = cell_there m there } in
-        not (place_of_run d page.label.level page.label.lead page.label.index page.cells i cell (meets.runs.levels page there) is,
+        not (
+          place_of_run d page.label.level page.label.lead page.label.index page.cells i cell (meets.runs.levels page there) is,
           above_by below.stream before.last mid.last cell.key below.goes_on
-          (stream_below d (InMap m) meets page.label.level (take i page.cells) below.pages below.stream below.walked cell.key has
-          (λ other held. below_in_page page i cell other (valid_in d old.slots m page holds there) is held))
-          (comes.ahead meets cell (held_at page.cells i cell is)));
+              (stream_below d (InMap m) meets page.label.level (take i page.cells) below.pages below.stream below.walked cell.key has
+              (λ other held. below_in_page page i cell other (valid_in d old.slots m page holds there) is held))
+              (comes.ahead meets cell (held_at page.cells i cell is)),
+        );
   }
 
 -- all cells were walked over

@@ -1,5 +1,5 @@
 -- Where pages meet the conditions, what comes next in a group is above the last key.
-use Rattle.std.proofs.Common.{◌≡◌, ℕ, zero, suc, ◌+◌, ◌-◌, ◌<◌, ◌≤◌, ◌⊎◌, inl, inr, List, [], ◌∷◌, ◌++◌, Option, Some, None, length, map, refl, sym, ap, subst, ◌∙◌, arith}
+use Rattle.std.proofs.Common.{◌≡◌, ℕ, zero, ◌+◌, ◌-◌, ◌<◌, ◌≤◌, ◌⊎◌, inl, inr, List, [], ◌∷◌, Option, Some, None, length, refl, sym, ap, subst, ◌∙◌, arith}
 use Rattle.std.specs.List.{Contains}
 use Rattle.std.specs.declared.cmp.Ordering.TheVariants.{Less}
 use Rattle.std.proofs.Math.Nat.{eq-zero-or-pos}
@@ -8,14 +8,14 @@ use Rattle.store_model.specs.Labels.{Lead, Label}
 use Rattle.store_model.specs.Labels.Lead.{Start, Leader}
 use Rattle.store_model.specs.Pairs.{Pair}
 use Rattle.store_model.specs.Draws.{Draw}
-use Rattle.store_model.specs.Pages.{Cell, Page, IsPage}
+use Rattle.store_model.specs.Pages.{Cell, Page}
 use Rattle.store_model.specs.PageMaps.{PageMap, HoldsPages}
 use Rattle.store_model.proofs.ListsLemmas.{rising_from_map, rising_head}
 use Rattle.store_model.proofs.ListsLemmasOrder.{held_cases, held_first, held_all}
 use Rattle.std.specs.List.Sorted.{IsStrictlySortedBy}
-use Rattle.layout_conditions.specs.Pages.{AreLedBy, AreRunOf, HasKey, FollowsFull}
+use Rattle.layout_conditions.specs.Pages.{AreLedBy, AreRunOf, HasKey}
 use Rattle.skip_groups.specs.Groups.{label_of}
-use Rattle.group_walk.specs.Streams.{HasKeyIn, cell_order, IsAbove, Progress}
+use Rattle.group_walk.specs.Streams.{cell_order, IsAbove, Progress}
 use Rattle.group_walk.specs.Walked.{InMap, IsAhead, MeetWalk}
 use Rattle.group_walk.proofs.KeyOrder.{key_trans}
 use Rattle.group_walk.proofs.MetGroups.{label_is}

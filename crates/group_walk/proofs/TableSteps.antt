@@ -1,14 +1,12 @@
 -- The walk over the groups that the start leads, level by level, and what it tells of the table.
 use Rattle.std.specs.Prelude.{IsTrue}
-use Rattle.std.proofs.Common.{◌≡◌, ◌↔◌, ℕ, zero, suc, ◌+◌, ◌-◌, ◌<◌, ◌≤◌, ◌⊎◌, inl, inr, Bool, true, false, List, [], ◌∷◌, ◌++◌, Option, Some, None, Result, Ok, Err, length, map, refl, sym, ap, subst, ◌∙◌, arith, length-append}
+use Rattle.std.proofs.Common.{◌≡◌, ◌↔◌, ℕ, zero, suc, ◌+◌, ◌-◌, ◌<◌, ◌⊎◌, inl, inr, Bool, true, false, List, [], ◌++◌, Option, None, Ok, Err, length, map, refl, sym, ap, subst, ◌∙◌, arith, length-append}
 use Rattle.std.specs.Bool.{MatchBool}
 use Rattle.std.specs.List.{Contains}
 use Rattle.std.specs.FinMap as maps
-use Rattle.std.specs.declared.cmp.Ordering.TheVariants.{Less}
 use Rattle.std.proofs.Math.Nat.{eq-or-lt_of_le}
-use Rattle.std.proofs.lemmas.List.Elements.{Contains-append_left, Contains-append_right, Contains-append_cases}
+use Rattle.std.proofs.lemmas.List.Elements.{Contains-append_left, Contains-append_right}
 use Rattle.std.proofs.lemmas.List.Sorted.{length_permutation}
-use Rattle.std.proofs.lemmas.Option.{none-some}
 use Rattle.store_model.specs.Lists.{in_order}
 use Rattle.store_model.specs.Paths.{key_cmp}
 use Rattle.store_model.specs.Labels.{Lead, Label}
@@ -16,9 +14,9 @@ use Rattle.store_model.specs.Labels.Lead.{Start, Leader}
 use Rattle.store_model.specs.Pairs.{Pair}
 use Rattle.store_model.specs.Draws.{Draw, IsLawful}
 use Rattle.store_model.specs.Pages.{Cell, Page, page_room}
-use Rattle.store_model.specs.Placement.{Table, pages_in, page_cmp, IsOrderedTable}
+use Rattle.store_model.specs.Placement.{Table, pages_in, page_cmp}
 use Rattle.store_model.specs.Images.{slots_of}
-use Rattle.store_model.specs.PageMaps.{PageMap, page_at, map_of_pages, pages_of_map, HoldsPages, IsTableOf}
+use Rattle.store_model.specs.PageMaps.{PageMap, map_of_pages, HoldsPages, IsTableOf}
 use Rattle.store_model.proofs.ListsLemmas.{rising_to_map}
 use Rattle.store_model.proofs.ListsLemmasOrder.{IsPermutation-in_order}
 use Rattle.store_model.proofs.PlacementLemmasTables.{distinct_labels_of_table}
@@ -26,14 +24,14 @@ use Rattle.store_model.proofs.PageMapsLemmas.{pages_of_map-map_of_pages, len-pag
 use Rattle.store_base.specs.declared.store_fault.Fault.{Fault}
 use Rattle.store_base.specs.SlotsState.{SlotsState, IsObservable}
 use Rattle.store_base.proofs.SlotsCalls.{IsObservable-later}
-use Rattle.layout_conditions.specs.Conditions.{StandsIn, IsSound, AreRuns, AreGroups, AreMet}
-use Rattle.layout_conditions.specs.Pages.{LeadsGroup, HasCell, HasKey, FollowsFull, IsLed}
+use Rattle.layout_conditions.specs.Conditions.{StandsIn, IsSound}
+use Rattle.layout_conditions.specs.Pages.{HasCell, HasKey, IsLed}
 use Rattle.skip_groups.specs.Groups.{label_of}
 use Rattle.group_walk.specs.Lookups.{ReadsOnly}
-use Rattle.group_walk.specs.Streams.{HasKeyIn, IsAbove, GoesOn, Progress}
-use Rattle.group_walk.specs.Walked.{InMap, AreDistinct, IsPassed, IsLedBy, IsNextRun, MeetWalk, Walked, AreMetOf, ComesTo}
-use Rattle.group_walk.specs.Walks.{HandsOn, pair_of, leader_cells, IsGroupWalked, WalksGroup, HoldsList, WalksTable}
-use Rattle.group_walk.proofs.LookupLemmas.{reads_none, reads_then, reads_value, reads_fault}
+use Rattle.group_walk.specs.Streams.{GoesOn, Progress}
+use Rattle.group_walk.specs.Walked.{InMap, IsLedBy, MeetWalk, Walked, ComesTo}
+use Rattle.group_walk.specs.Walks.{HandsOn, pair_of, IsGroupWalked, WalksGroup, HoldsList, WalksTable}
+use Rattle.group_walk.proofs.LookupLemmas.{reads_none, reads_then, reads_value}
 use Rattle.group_walk.proofs.KeyOrder.{none_in, goes_nowhere, goes_on_both, rise_behind}
 use Rattle.group_walk.proofs.MetPages.{follows_more, leads_more, cell_more, key_more, led_more, met_none, met_both}
 use Rattle.group_walk.proofs.MetGroups.{label_is, met_raised}

@@ -1,19 +1,18 @@
-use Rattle.std.proofs.Common.{◌≡◌, ◌⊎◌, inl, inr, ℕ, ◌-◌, ◌+◌, Bool, List, [], ◌∷◌, ◌++◌, Option, Some, None, Result, Ok, Err, true, false, refl, sym, ap, subst, ◌∙◌, arith}
+use Rattle.std.proofs.Common.{◌≡◌, ℕ, ◌-◌, Bool, List, [], ◌∷◌, ◌++◌, Option, Some, None, Ok, true, false, refl, sym, ap, subst, ◌∙◌, arith}
 use Rattle.std.proofs.lemmas.Result.{err_from_is_err_and}
 use Rattle.store_base.specs.Leads.{model_lead}
-use Rattle.store_base.specs.declared.store_fault.Fault.{Fault}
-use Rattle.store_model.specs.Labels.{Lead, Label}
+use Rattle.store_model.specs.Labels.{Label}
 use Rattle.store_model.specs.Labels.Lead.{Leader}
 use Rattle.store_model.specs.Pairs.{Pair}
 use Rattle.store_model.specs.Pages.{Cell, Page}
 use Rattle.group_walk.specs.Lookups.{FindsPage}
 use Rattle.group_walk.specs.Walked.{IsInPlace}
-use Rattle.group_walk.specs.Streams.{IsAbove, Progress, progress}
+use Rattle.group_walk.specs.Streams.{Progress, progress}
 use Rattle.group_walk.specs.Walks.{WalksGroup, WalksCells, WalksCell}
 use Rattle.group_walk.proofs.BelowCells.{walks_group_below, walks_pair, walks_no_pair}
-use Rattle.group_walk.proofs.CellSteps.{cells_begin, cells_next, cells_refuted, cells_failed, cells_wrong, cells_done}
+use Rattle.group_walk.proofs.CellSteps.{cells_begin, cells_next, cells_refuted, cells_wrong, cells_done}
 use Rattle.group_walk.proofs.GroupSteps.{runs_begin}
-use Rattle.group_walk.proofs.GroupEnds.{runs_not_looked, runs_absent, runs_overfull, runs_failed, runs_next, runs_done, runs_refuted}
+use Rattle.group_walk.proofs.GroupEnds.{runs_absent, runs_overfull, runs_failed, runs_next, runs_done, runs_refuted}
 use Rattle.group_walk.proofs.walk.+walk.Goals as goal
 
 pub walk_cell-returns-then-level-gt0-clause-call : goal.walk_cell-returns-then-level-gt0-clause-call
@@ -50,8 +49,8 @@ walk_cells-returns-then-not-is_next-clause-call g t c =
     cells_wrong d (g.S.ReadSlots.state c.args.slots.now) (g.S.ReadSlots.state c.loop-i.slots) (g.S.ReadSlots.state c.loop-i.slots) page c.loop-i.i cell (progress c.args.met.now.left c.args.met.now.last) (progress c.loop-i.met.left c.loop-i.met.last) (progress c.loop-i.met.left c.loop-i.met.last)
     (g.P.TakesPairs.took c.args.sink.now) (g.P.TakesPairs.took c.loop-i.sink) (g.P.TakesPairs.took c.loop-i.sink) c.loop-i.invariant.0 c.cell-cell.ensures.value
     (λ both. let place = subst (λ (l : Label). IsInPlace d l.level l.lead l.index c.loop-i.i cell.key) (sym c.label-label.ensures.value) both.0 in
-        let yes : c.is_next.result ≡ true = c.is_next.ensures.1 (place, both.1) in
-        let no = c.if-not-is_next.true in absurd (cc))
+    let yes : c.is_next.result ≡ true = c.is_next.ensures.1 (place, both.1) in
+    let no = c.if-not-is_next.true in absurd (cc))
 
 pub walk_cells-returns-then-not-branch-clause-call :
     goal.walk_cells-returns-then-not-branch-clause-call
@@ -79,8 +78,8 @@ walk_cells-loop-i-preserved g t c =
     let place = subst (λ (l : Label). IsInPlace d l.level l.lead l.index c.loop-i.i cell.key) c.label-label.ensures.value next.0 in
     let walks = subst (λ (n : ℕ). WalksCell d now new n cell (progress c.loop-i.met.left c.loop-i.met.last) (progress c.walk_cell.new.met.left c.walk_cell.new.met.last) (g.P.TakesPairs.took c.loop-i.sink) (g.P.TakesPairs.took c.walk_cell.new.sink) (Ok c.in_ok-walk_cell.field-0)) c.level.ensures c.in_ok-walk_cell.ensures.call in (
       cells_next d (g.S.ReadSlots.state c.args.slots.now) now new page c.loop-i.i cell (progress c.args.met.now.left c.args.met.now.last) (progress c.loop-i.met.left c.loop-i.met.last) (progress c.walk_cell.new.met.left c.walk_cell.new.met.last)
-      (g.P.TakesPairs.took c.args.sink.now) (g.P.TakesPairs.took c.loop-i.sink) (g.P.TakesPairs.took c.walk_cell.new.sink) c.loop-i.invariant.0 c.cell-cell.ensures.value place next.1
-      (subst (λ (b : Bool). WalksCell d now new page.label.level cell (progress c.loop-i.met.left c.loop-i.met.last) (progress c.walk_cell.new.met.left c.walk_cell.new.met.last) (g.P.TakesPairs.took c.loop-i.sink) (g.P.TakesPairs.took c.walk_cell.new.sink) (Ok b)) c.if-not-branch.false walks),
+          (g.P.TakesPairs.took c.args.sink.now) (g.P.TakesPairs.took c.loop-i.sink) (g.P.TakesPairs.took c.walk_cell.new.sink) c.loop-i.invariant.0 c.cell-cell.ensures.value place next.1
+          (subst (λ (b : Bool). WalksCell d now new page.label.level cell (progress c.loop-i.met.left c.loop-i.met.last) (progress c.walk_cell.new.met.left c.walk_cell.new.met.last) (g.P.TakesPairs.took c.loop-i.sink) (g.P.TakesPairs.took c.walk_cell.new.sink) (Ok b)) c.if-not-branch.false walks),
       g.met.S.ReadSlots.follows_trans c.args.slots.now c.loop-i.slots c.walk_cell.new.slots c.loop-i.invariant.1 c.in_ok-walk_cell.ensures.follows,
     )
 
@@ -166,11 +165,11 @@ walk_group-runs-preserved g t c =
     let some = c.if-met-eq0.false in
     let follows = g.met.S.ReadSlots.follows_trans c.args.slots.now c.runs.slots c.look_up.new.slots c.runs.invariant.1 c.in_ok-page.ensures.follows in (
       runs_next d (g.S.ReadSlots.state c.args.slots.now) now seen c.args.level (model_lead c.args.lead.now) c.runs.index (progress c.args.met.now.left c.args.met.now.last) (progress c.runs.met.left c.runs.met.last) taken
-      (g.P.TakesPairs.took c.args.sink.now) (g.P.TakesPairs.took c.runs.sink) c.runs.invariant.0 c.label_in_group-label.result c.label_in_group-label.ensures c.in-Some.page
-      (subst (λ (o : Option Page). FindsPage d now seen c.label_in_group-label.result (Ok o)) c.in-Some.is c.in_ok-page.ensures.call)
-      (progress c.walk_cells.new.met.left c.walk_cells.new.met.last) new (g.P.TakesPairs.took c.walk_cells.new.sink) (record { left = omega (arith, some); last = refl })
-      (subst (λ (b : Bool). WalksCells d seen new c.in-Some.page taken (progress c.walk_cells.new.met.left c.walk_cells.new.met.last) (g.P.TakesPairs.took c.runs.sink) (g.P.TakesPairs.took c.walk_cells.new.sink) (Ok b)) c.if-not-branch.false c.in_ok-walk_cells.ensures.call)
-      (λ room. let yes : c.is_last.result ≡ true = c.is_last.ensures.1 room in let no = c.if-is_last.false in cc),
+          (g.P.TakesPairs.took c.args.sink.now) (g.P.TakesPairs.took c.runs.sink) c.runs.invariant.0 c.label_in_group-label.result c.label_in_group-label.ensures c.in-Some.page
+          (subst (λ (o : Option Page). FindsPage d now seen c.label_in_group-label.result (Ok o)) c.in-Some.is c.in_ok-page.ensures.call)
+          (progress c.walk_cells.new.met.left c.walk_cells.new.met.last) new (g.P.TakesPairs.took c.walk_cells.new.sink) (record { left = omega (arith, some); last = refl })
+          (subst (λ (b : Bool). WalksCells d seen new c.in-Some.page taken (progress c.walk_cells.new.met.left c.walk_cells.new.met.last) (g.P.TakesPairs.took c.runs.sink) (g.P.TakesPairs.took c.walk_cells.new.sink) (Ok b)) c.if-not-branch.false c.in_ok-walk_cells.ensures.call)
+          (λ room. let yes : c.is_last.result ≡ true = c.is_last.ensures.1 room in let no = c.if-is_last.false in cc),
       g.met.S.ReadSlots.follows_trans c.args.slots.now c.look_up.new.slots c.walk_cells.new.slots follows c.in_ok-walk_cells.ensures.follows,
     )
 

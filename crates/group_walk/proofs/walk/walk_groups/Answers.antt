@@ -1,4 +1,4 @@
-use Rattle.std.proofs.Common.{◌≡◌, ℕ, Bool, true, false, Ok, refl, sym, ap, subst, ◌∙◌, arith}
+use Rattle.std.proofs.Common.{Bool, Ok, subst, arith}
 use Rattle.std.proofs.lemmas.Bool.{eqb-true, eq-eqb}
 use Rattle.store_model.specs.Labels.Lead.{Start}
 use Rattle.group_walk.specs.Streams.{progress}
@@ -24,8 +24,8 @@ loop-level-preserved g c =
     let now = g.S.ReadSlots.state c.loop-level.slots in
     let new = g.S.ReadSlots.state c.walk_group.new.slots in (
       levels_next d (g.S.ReadSlots.state c.args.slots.now) now new c.loop-level.level c.args.used (progress c.loop-level.met.left c.loop-level.met.last) (progress c.walk_group.new.met.left c.walk_group.new.met.last)
-      (g.P.TakesPairs.took c.args.sink.now) (g.P.TakesPairs.took c.loop-level.sink) (g.P.TakesPairs.took c.walk_group.new.sink) c.loop-level.invariant.0
-      (subst (λ (b : Bool). WalksGroup d now new c.loop-level.level Start (progress c.loop-level.met.left c.loop-level.met.last) (progress c.walk_group.new.met.left c.walk_group.new.met.last) (g.P.TakesPairs.took c.loop-level.sink) (g.P.TakesPairs.took c.walk_group.new.sink) (Ok b)) c.if-not-branch.false c.in_ok-walk_group.ensures.call),
+          (g.P.TakesPairs.took c.args.sink.now) (g.P.TakesPairs.took c.loop-level.sink) (g.P.TakesPairs.took c.walk_group.new.sink) c.loop-level.invariant.0
+          (subst (λ (b : Bool). WalksGroup d now new c.loop-level.level Start (progress c.loop-level.met.left c.loop-level.met.last) (progress c.walk_group.new.met.left c.walk_group.new.met.last) (g.P.TakesPairs.took c.loop-level.sink) (g.P.TakesPairs.took c.walk_group.new.sink) (Ok b)) c.if-not-branch.false c.in_ok-walk_group.ensures.call),
       g.met.S.ReadSlots.follows_trans c.args.slots.now c.loop-level.slots c.walk_group.new.slots c.loop-level.invariant.1 c.in_ok-walk_group.ensures.follows,
     )
 
