@@ -1,6 +1,6 @@
 -- Lemmas on lookups of pages in slots.
-use Rattle.std.proofs.Common.{◌≡◌, ◌↔◌, ℕ, ◌<◌, List, Option, Some, None, IfSome, IfOk, Result, Ok, Err, length, slice_get, refl, sym, ap, subst, ◌∙◌, arith}
-use Rattle.std.proofs.lemmas.Option.{same_Some, none-some}
+use Rattle.std.proofs.Common.{◌≡◌, ℕ, ◌<◌, List, Option, Some, None, IfSome, Result, Ok, Err, slice_get, refl, sym, ap, subst, ◌∙◌, arith}
+use Rattle.std.proofs.lemmas.Option.{same_Some}
 use Rattle.store_model.specs.Labels.{Label, IsLabel, label_bytes}
 use Rattle.store_model.specs.Draws.{Draw, IsLawful}
 use Rattle.store_model.specs.Pages.{Page, IsPage}
@@ -11,7 +11,7 @@ use Rattle.store_model.proofs.ImagesLemmas.{IsSlot}
 use Rattle.store_model.proofs.TreesLemmasBytes.{labels_same, slots_same}
 use Rattle.store_model.proofs.PageMapsLemmas.{table_of_held_map, standing_found}
 use Rattle.store_base.specs.declared.store_fault.Fault.{Fault}
-use Rattle.store_base.specs.SlotsState.{SlotsState, IsObservable, IsGet}
+use Rattle.store_base.specs.SlotsState.{SlotsState, IsGet}
 use Rattle.store_base.proofs.SlotsCalls.{AreSlotCalls-none, AreSlotCalls-then, AreSlotCalls-value, AreSlotCalls-fault, IsObservable-later}
 use Rattle.ordered_table.proofs.Reading.{stands_in, seen_page}
 use Rattle.group_walk.specs.Lookups.{ReadsOnly, LiesIn, ReadsPage, GuessesPage, FindsSlot, FindsPage}

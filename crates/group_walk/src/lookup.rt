@@ -7,6 +7,7 @@ ghost use Rattle.store_model.specs.Pages.{IsPage};
 ghost use Rattle.store_model.specs.Images.{slot_bytes};
 ghost use Rattle.group_walk.specs.Lookups.{ReadsPage, FindsSlot, GuessesPage, FindsPage};
 
+use crate::guess::Guess;
 use node_pages::{Page, decode_page, label_in};
 use ordered_table::{Steps, find};
 use seeded_draw::Draw;
@@ -45,21 +46,28 @@ fn page_in<S: ReadSlots>(slots: &mut S, at: u32, label: &Label) -> Result<Option
     Ok(page_of_label(&slot, label))
 }
 
-/// The page of the label where slot `at` holds it; `None` tells nothing. A fault of the slots ends the call.
-fn page_guessed<S: ReadSlots, W: Draw>(
+/// The page of the label where it is guessed to lie; `None` tells nothing. A fault of the slots ends the call.
+fn page_guessed<S: ReadSlots, W: Draw, G: Guess>(
     slots: &mut S,
     draw: &W,
-    at: u32,
     label: &Label,
+    guess: &mut G,
 ) -> Result<Option<Page>, Fault>
     requires { (S.state slots.old).count ≡ (W.drawn draw.now).slots }
     ensures call { GuessesPage (W.drawn draw.now) (S.state slots.old) (S.state slots.new) label.now result }
     ensures follows { S.follows slots.old slots.new }
 {
+    let Some(at) = guess.slot_of(label) else {
+        return Ok(None);
+    };
     if at >= draw.slots() {
         return Ok(None);
     }
-    page_in(slots, at, label)
+    let page = page_in(slots, at, label)?;
+    if page.is_some() {
+        guess.found(label, at);
+    }
+    Ok(page)
 }
 
 /// As `find`, with a ledger for the steps.
@@ -79,13 +87,12 @@ fn find_counted<S: ReadSlots, W: Draw, L: Ledger>(
     find(slots, draw, label, &mut Steps::<L>::new(blank))
 }
 
-/// The page of the label, found by a search; `None` exactly where the slots hold no such page. `next` is then the slot
-/// behind it.
-fn page_found<S: ReadSlots, W: Draw>(
+/// The page of the label, found by a search; `None` exactly where the slots hold no such page.
+fn page_found<S: ReadSlots, W: Draw, G: Guess>(
     slots: &mut S,
     draw: &W,
     label: &Label,
-    next: &mut u32,
+    guess: &mut G,
 ) -> Result<Option<Page>, Fault>
     requires { (S.state slots.old).count ≡ (W.drawn draw.now).slots }
     ensures call { FindsPage (W.drawn draw.now) (S.state slots.old) (S.state slots.new) label.now result }
@@ -95,27 +102,26 @@ fn page_found<S: ReadSlots, W: Draw>(
         return Ok(None);
     };
     reveal_label(label);
-    *next = at.saturating_add(1);
+    guess.found(label, at);
     page_in(slots, at, label)
 }
 
-/// The page of the label; `None` exactly where the slots hold no such page. It is looked for in slot `next` first, and
-/// searched for only where it is not there; `next` is then the slot behind it.
+/// The page of the label; `None` exactly where the slots hold no such page. It is looked at where it is guessed to lie,
+/// and searched for where it is not there.
 ///
 /// There have to be as many slots as the draw's. A fault of the slots ends the call; it writes nothing.
-pub(crate) fn look_up<S: ReadSlots, W: Draw>(
+pub(crate) fn look_up<S: ReadSlots, W: Draw, G: Guess>(
     slots: &mut S,
     draw: &W,
     label: &Label,
-    next: &mut u32,
+    guess: &mut G,
 ) -> Result<Option<Page>, Fault>
     requires { (S.state slots.old).count ≡ (W.drawn draw.now).slots }
     ensures call { FindsPage (W.drawn draw.now) (S.state slots.old) (S.state slots.new) label.now result }
     ensures follows { S.follows slots.old slots.new }
 {
-    if let Some(page) = page_guessed(slots, draw, *next, label)? {
-        *next = next.saturating_add(1);
+    if let Some(page) = page_guessed(slots, draw, label, guess)? {
         return Ok(Some(page));
     }
-    page_found(slots, draw, label, next)
+    page_found(slots, draw, label, guess)
 }

@@ -3,11 +3,12 @@
 ghost use Rattle.std.specs.Prelude.{◌≡◌, ◌↔◌, ◌⊎◌, ◌<◌, IsTrue};
 ghost use Rattle.store_base.specs.Leads.{model_lead};
 ghost use Rattle.group_walk.specs.Walked.{IsInPlace, IsStart};
-ghost use Rattle.group_walk.specs.Streams.{IsAbove};
+ghost use Rattle.group_walk.specs.Streams.{IsAbove, progress};
 ghost use Rattle.group_walk.specs.Walks.{WalksGroup, WalksCells, WalksCell, WalksTable};
 
+use crate::guess::Guess;
 use crate::lookup::look_up;
-use crate::met::Met;
+use crate::progress::Progress;
 use crate::sink::TakesPairs;
 use node_pages::{Cell, Page};
 use seeded_draw::Draw;
@@ -54,16 +55,16 @@ fn may_end(lead: &Lead, runs: u32) -> bool
 
 /// Goes down from a cell of the level to the group that it leads on the level below, and on level 0 hands its pair on.
 #[cycle(walk)]
-fn walk_cell<S: ReadSlots, W: Draw, P: TakesPairs>(
+fn walk_cell<S: ReadSlots, W: Draw, P: TakesPairs, G: Guess + Drop>(
     slots: &mut S,
     draw: &W,
     level: u8,
     cell: &Cell,
-    met: &mut Met,
+    met: &mut Progress<G>,
     sink: &mut P,
 ) -> Result<bool, Fault>
     requires { (S.state slots.old).count ≡ (W.drawn draw.now).slots }
-    ensures call { WalksCell (W.drawn draw.now) (S.state slots.old) (S.state slots.new) level cell.now met.old met.new (P.took sink.old) (P.took sink.new) result }
+    ensures call { WalksCell (W.drawn draw.now) (S.state slots.old) (S.state slots.new) level cell.now (progress met.old.left met.old.last) (progress met.new.left met.new.last) (P.took sink.old) (P.took sink.new) result }
     ensures follows { S.follows slots.old slots.new }
 {
     if level > 0 {
@@ -79,15 +80,15 @@ fn walk_cell<S: ReadSlots, W: Draw, P: TakesPairs>(
 
 /// Walks over the cells of a page, and all below them.
 #[cycle(walk)]
-fn walk_cells<S: ReadSlots, W: Draw, P: TakesPairs>(
+fn walk_cells<S: ReadSlots, W: Draw, P: TakesPairs, G: Guess + Drop>(
     slots: &mut S,
     draw: &W,
     page: &Page,
-    met: &mut Met,
+    met: &mut Progress<G>,
     sink: &mut P,
 ) -> Result<bool, Fault>
     requires { (S.state slots.old).count ≡ (W.drawn draw.now).slots }
-    ensures call { WalksCells (W.drawn draw.now) (S.state slots.old) (S.state slots.new) page.now met.old met.new (P.took sink.old) (P.took sink.new) result }
+    ensures call { WalksCells (W.drawn draw.now) (S.state slots.old) (S.state slots.new) page.now (progress met.old.left met.old.last) (progress met.new.left met.new.last) (P.took sink.old) (P.took sink.new) result }
     ensures follows { S.follows slots.old slots.new }
 {
     let label = page.label();
@@ -106,22 +107,22 @@ fn walk_cells<S: ReadSlots, W: Draw, P: TakesPairs>(
 /// Walks over the group that `lead` leads on the level, and all below it. Each run is looked for behind a full one; a
 /// group that a key leads has to be there.
 #[cycle(walk)]
-fn walk_group<S: ReadSlots, W: Draw, P: TakesPairs>(
+fn walk_group<S: ReadSlots, W: Draw, P: TakesPairs, G: Guess + Drop>(
     slots: &mut S,
     draw: &W,
     level: u8,
     lead: &Lead,
-    met: &mut Met,
+    met: &mut Progress<G>,
     sink: &mut P,
 ) -> Result<bool, Fault>
     requires { (S.state slots.old).count ≡ (W.drawn draw.now).slots }
-    ensures call { WalksGroup (W.drawn draw.now) (S.state slots.old) (S.state slots.new) level (model_lead lead.now) met.old met.new (P.took sink.old) (P.took sink.new) result }
+    ensures call { WalksGroup (W.drawn draw.now) (S.state slots.old) (S.state slots.new) level (model_lead lead.now) (progress met.old.left met.old.last) (progress met.new.left met.new.last) (P.took sink.old) (P.took sink.new) result }
     ensures follows { S.follows slots.old slots.new }
 {
     let mut index = 0;
     'runs: loop {
         let label = label_in_group(level, lead, index);
-        let Some(page) = look_up(slots, draw, &label, &mut met.next)? else {
+        let Some(page) = look_up(slots, draw, &label, &mut met.guess)? else {
             return Ok(may_end(lead, index));
         };
         if met.left == 0 {
@@ -141,18 +142,20 @@ fn walk_group<S: ReadSlots, W: Draw, P: TakesPairs>(
 /// Whether the pages of a table, of which there are so many, are met one and all on the way down from the start of each
 /// level, and meet the conditions on the way; hands the pairs of level 0 on, in the order of their keys.
 ///
-/// There have to be as many slots as the draw's. A fault of the slots ends the call; it writes nothing.
-pub fn walk_groups<S: ReadSlots, W: Draw, P: TakesPairs>(
+/// There have to be as many slots as the draw's. A page is looked at where it is guessed to lie, and else searched for. A
+/// fault of the slots ends the call; it writes nothing.
+pub fn walk_groups<S: ReadSlots, W: Draw, P: TakesPairs, G: Guess + Drop>(
     slots: &mut S,
     draw: &W,
     used: u32,
     sink: &mut P,
+    guess: G,
 ) -> Result<bool, Fault>
     requires { (S.state slots.old).count ≡ (W.drawn draw.now).slots }
     ensures call { WalksTable (W.drawn draw.now) (S.state slots.old) (S.state slots.new) used (P.took sink.old) (P.took sink.new) result }
     ensures follows { S.follows slots.old slots.new }
 {
-    let mut met = Met::none_of(used);
+    let mut met = Progress::none_of(used, guess);
     for level in 0..draw.height() {
         if !walk_group(slots, draw, level, &Lead::Start, &mut met, sink)? {
             return Ok(false);

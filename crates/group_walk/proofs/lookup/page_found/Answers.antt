@@ -1,4 +1,3 @@
-use Rattle.std.proofs.lemmas.Result.{err_from_is_err_and}
 use Rattle.std.proofs.Common.{subst, Ok, Option, ℕ}
 use Rattle.group_walk.specs.Lookups.{FindsSlot}
 use Rattle.group_walk.proofs.LookupLemmas.{read_found}
