@@ -12,7 +12,7 @@ use Rattle.store_base.specs.SlotsState.{SlotsState}
 use Rattle.group_walk.specs.Streams.{GoesOn, Progress}
 use Rattle.group_walk.specs.Walked.{InMap, IsPassed, ComesTo, ComesToCell}
 use Rattle.group_walk.specs.Walks.{AreCellsWalked, IsGroupWalked, WalksGroup, WalksCell}
-use Rattle.group_walk.proofs.LookupLemmas.{reads_none}
+use Rattle.label_index.proofs.Reading.{reads_none}
 use Rattle.group_walk.proofs.KeyOrder.{none_in, not_below_itself, reached_below, goes_on_one}
 use Rattle.group_walk.proofs.MetGroups.{met_pair, met_as}
 use Rattle.group_walk.proofs.CellSteps.{valid_in}

@@ -18,11 +18,11 @@ use Rattle.store_base.specs.SlotsState.{SlotsState, IsObservable}
 use Rattle.store_base.proofs.SlotsCalls.{IsObservable-later}
 use Rattle.node_pages.proofs.Joined.{take_next}
 use Rattle.layout_conditions.specs.Pages.{HasCell, HasKey}
-use Rattle.group_walk.specs.Lookups.{ReadsOnly}
+use Rattle.label_index.specs.Lookups.{ReadsOnly}
 use Rattle.group_walk.specs.Streams.{HasKeyIn, IsAbove, IsReached, GoesOn, Progress}
 use Rattle.group_walk.specs.Walked.{InMap, AreDistinct, IsLeadIn, IsPassed, LeadsOn, IsInPlace, AreMetOf, ComesToCell, ComesToCells}
 use Rattle.group_walk.specs.Walks.{HandsOn, AreCellsWalked, WalksCell, WalksCells}
-use Rattle.group_walk.proofs.LookupLemmas.{reads_none, reads_then, reads_value}
+use Rattle.label_index.proofs.Reading.{reads_none, reads_then, reads_value}
 use Rattle.group_walk.proofs.KeyOrder.{none_in, not_below_itself, reached_below, goes_nowhere, goes_on_both, rise_behind}
 use Rattle.group_walk.proofs.MetPages.{met_none, met_both, distinct_both}
 use Rattle.group_walk.proofs.KeysBelow.{stream_below}

@@ -16,11 +16,12 @@ use Rattle.store_base.specs.SlotsState.{SlotsState, IsObservable}
 use Rattle.store_base.proofs.SlotsCalls.{IsObservable-later}
 use Rattle.layout_conditions.specs.Pages.{IsLed}
 use Rattle.skip_groups.specs.Groups.{label_of}
-use Rattle.group_walk.specs.Lookups.{ReadsOnly, FindsPage}
+use Rattle.label_index.specs.Lookups.{ReadsOnly}
+use Rattle.group_walk.specs.Lookups.{FindsPage}
 use Rattle.group_walk.specs.Streams.{IsAbove, GoesOn, Progress}
 use Rattle.group_walk.specs.Walked.{InMap, IsPassed, IsStart, LeadsOn, IsNextRun, MeetWalk, AreMetOf, ComesTo, ComesToCells}
 use Rattle.group_walk.specs.Walks.{IsGroupWalked, WalksCells, WalksGroup}
-use Rattle.group_walk.proofs.LookupLemmas.{reads_then, reads_value, reads_fault}
+use Rattle.label_index.proofs.Reading.{reads_then, reads_value, reads_fault}
 use Rattle.group_walk.proofs.KeyOrder.{none_in, only_one}
 use Rattle.skip_groups.proofs.NewCellsSteps.{below_or_not}
 use Rattle.group_walk.proofs.MetPages.{distinct_both}

@@ -12,11 +12,11 @@ use Rattle.store_model.specs.PageMaps.{PageMap, page_at, HoldsPages}
 use Rattle.store_base.specs.SlotsState.{SlotsState, IsObservable}
 use Rattle.layout_conditions.specs.Pages.{KeysRise}
 use Rattle.skip_groups.specs.Groups.{label_of}
-use Rattle.group_walk.specs.Lookups.{ReadsOnly}
+use Rattle.label_index.specs.Lookups.{ReadsOnly}
 use Rattle.group_walk.specs.Streams.{GoesOn, Progress}
 use Rattle.group_walk.specs.Walked.{InMap, LeadsOn, Walked, Opened, AreMetOf, ComesTo}
 use Rattle.group_walk.specs.Walks.{HandsOn, pair_of, IsPageWalked}
-use Rattle.group_walk.proofs.LookupLemmas.{reads_none}
+use Rattle.label_index.proofs.Reading.{reads_none}
 use Rattle.group_walk.proofs.KeyOrder.{none_in, only_one, keys_below, goes_nowhere, goes_on_both, rise_behind}
 use Rattle.group_walk.proofs.MetPages.{met_none, met_both, distinct_both}
 use Rattle.group_walk.proofs.MetGroups.{opened_none, opened_more}

@@ -27,11 +27,11 @@ use Rattle.store_base.proofs.SlotsCalls.{IsObservable-later}
 use Rattle.layout_conditions.specs.Conditions.{StandsIn, IsSound}
 use Rattle.layout_conditions.specs.Pages.{HasCell, HasKey, IsLed}
 use Rattle.skip_groups.specs.Groups.{label_of}
-use Rattle.group_walk.specs.Lookups.{ReadsOnly}
+use Rattle.label_index.specs.Lookups.{ReadsOnly}
 use Rattle.group_walk.specs.Streams.{GoesOn, Progress}
 use Rattle.group_walk.specs.Walked.{InMap, IsLedBy, MeetWalk, Walked, ComesTo}
 use Rattle.group_walk.specs.Walks.{HandsOn, pair_of, IsGroupWalked, WalksGroup, HoldsList, WalksTable}
-use Rattle.group_walk.proofs.LookupLemmas.{reads_none, reads_then, reads_value}
+use Rattle.label_index.proofs.Reading.{reads_none, reads_then, reads_value}
 use Rattle.group_walk.proofs.KeyOrder.{none_in, goes_nowhere, goes_on_both, rise_behind}
 use Rattle.group_walk.proofs.MetPages.{follows_more, leads_more, cell_more, key_more, led_more, met_none, met_both}
 use Rattle.group_walk.proofs.MetGroups.{label_is, met_raised}

@@ -17,7 +17,7 @@ use Rattle.store_base.specs.SlotsState.{SlotsState, IsObservable}
 use Rattle.layout_conditions.specs.Conditions.{StandsIn, IsSound}
 use Rattle.layout_conditions.specs.Pages.{AreRunOf, HasCell}
 use Rattle.skip_groups.specs.Groups.{label_of}
-use Rattle.group_walk.specs.Lookups.{ReadsOnly}
+use Rattle.label_index.specs.Lookups.{ReadsOnly}
 use Rattle.group_walk.specs.Streams.{GoesOn, IsAbove, Progress}
 use Rattle.group_walk.specs.Walked.{InMap, LeadsOn, MeetWalk, Walked, ComesTo, ComesToCell, ComesToCells}
 

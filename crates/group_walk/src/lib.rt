@@ -1,12 +1,11 @@
 //! The walk over the groups of pages that a table holds, from the start of each level down to level 0.
 #![tactic(auto)]
 
-mod guess;
+mod guide;
 mod lookup;
 mod progress;
 mod sink;
 mod walk;
 
-pub use guess::{Guess, NextSlot};
 pub use sink::TakesPairs;
 pub use walk::walk_groups;

@@ -2,31 +2,31 @@
 
 ghost use Rattle.std.specs.Prelude.{◌≡◌, ◌<◌, ◌^◌, None};
 
-use crate::guess::Guess;
+use seeded_draw::Front;
 use store_base::Key;
 
 /// How far a walk has come.
 #[derive(Drop)]
-pub(crate) struct Progress<G: Guess + Drop> {
+pub(crate) struct Progress {
     /// How many pages it may still meet.
     pub(crate) left: u32,
     /// The last key of level 0 that it came to; `None` before the first.
     pub(crate) last: Option<Key>,
-    /// Where the next pages are guessed to lie.
-    pub(crate) guess: G,
+    /// What the levels of keys are drawn from that begin alike.
+    pub(crate) front: Front,
     ghost in_range: { left < 2 ^ 32 },
 }
 
-impl<G: Guess + Drop> Progress<G> {
+impl Progress {
     /// No page met yet, of so many.
-    pub(crate) fn none_of(pages: u32, guess: G) -> Self
+    pub(crate) fn none_of(pages: u32) -> Self
         ensures left { result.left ≡ pages }
         ensures last { result.last ≡ None }
     {
         Progress {
             left: pages,
             last: None,
-            guess,
+            front: Front::new(),
         }
     }
 }

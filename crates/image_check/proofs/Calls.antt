@@ -10,7 +10,7 @@ use Rattle.tree_pairs.specs.TreeCalls.{pairs_limit}
 use Rattle.tree_reader.specs.declared.counts.Counts.{Counts}
 use Rattle.tree_reader.specs.Fronts.{AreOfTree}
 use Rattle.table_order.specs.OrderCalls.{IsOrderedBelow, Checks}
-use Rattle.group_walk.specs.Lookups.{ReadsOnly}
+use Rattle.label_index.specs.Lookups.{ReadsOnly}
 use Rattle.group_walk.specs.Walked.{MeetWalk}
 use Rattle.group_walk.specs.Walks.{pair_of, WalksTable, HoldsList}
 use Rattle.layout_conditions.specs.Conditions.{StandsIn, MeetConditions}

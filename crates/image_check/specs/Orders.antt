@@ -4,7 +4,7 @@ use Rattle.store_model.specs.Draws.{Draw}
 use Rattle.store_base.specs.declared.store_fault.Fault.{Fault}
 use Rattle.store_base.specs.SlotsState.{SlotsState, IsObservable}
 use Rattle.table_order.specs.OrderCalls.{Checks}
-use Rattle.group_walk.specs.Lookups.{ReadsOnly}
+use Rattle.label_index.specs.Lookups.{ReadsOnly}
 
 -- how many pages the slots hold that are a table in order with pages of levels below the height, and none exactly where
 -- they are not

@@ -1,6 +1,7 @@
 //! The entries of an index.
 
 ghost use Rattle.std.specs.Prelude.{◌≡◌};
+ghost use Rattle.store_model.specs.Labels.{IsLabel};
 ghost use Rattle.label_index.specs.Indexes.{digest_of, entry_of, IsSortOf};
 
 use sha2::{Digest, Sha256};
@@ -18,7 +19,8 @@ pub struct Entry {
 /// The digest of a label, as an entry has it.
 #[tactic(auto, unfolding(crate::specs::Indexes::digest_of))]
 pub(crate) fn digest_of(label: &Label) -> u64
-    ensures { result ≡ digest_of label.now }
+    ensures value { result ≡ digest_of label.now }
+    ensures valid { IsLabel label.now }
 {
     let digest = Sha256::digest(&label.to_bytes());
     let mut front = [0; 8];

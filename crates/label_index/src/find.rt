@@ -1,8 +1,8 @@
 //! The lookup of a page by its label.
 
 ghost use Rattle.std.specs.Prelude.{◌≡◌, ◌<◌, ◌≤◌, length};
-ghost use Rattle.std.specs.List.{All};
-ghost use Rattle.label_index.specs.Indexes.{IsPast};
+ghost use Rattle.store_model.specs.Labels.{IsLabel};
+ghost use Rattle.label_index.specs.Indexes.{AreThere, IsPast};
 ghost use Rattle.label_index.specs.Lookups.{LooksUp};
 
 use crate::entry::{Entry, digest_of};
@@ -27,8 +27,9 @@ pub fn find_page<S: ReadSlots>(
     entries: &[Entry],
     label: &Label,
 ) -> Result<Option<Page>, Fault>
-    requires { All (λ entry. entry.slot < (S.state slots.old).count) entries.now }
+    requires { AreThere (S.state slots.old).count entries.now }
     ensures call { LooksUp (S.state slots.old) (S.state slots.new) entries.now label.now result }
+    ensures valid { IsLabel label.now }
     ensures follows { S.follows slots.old slots.new }
 {
     let digest = digest_of(label);

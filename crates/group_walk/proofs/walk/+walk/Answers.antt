@@ -17,7 +17,7 @@ use Rattle.group_walk.proofs.walk.+walk.Goals as goal
 
 pub walk_cell-returns-then-level-gt0-clause-call : goal.walk_cell-returns-then-level-gt0-clause-call
 walk_cell-returns-then-level-gt0-clause-call g t c =
-    let d = g.W.Draw.drawn c.args.draw.now in
+    let d = g.W.Draw.drawn c.args.guide.now.draw.now in
     let old = g.S.ReadSlots.state c.args.slots.now in
     let new = g.S.ReadSlots.state c.walk_group.new.slots in
     let key_is : c.cell.inside.key ≡ c.args.cell.now.key = ap (λ (x : Cell). x.key) c.cell.view_is in
@@ -27,7 +27,7 @@ walk_cell-returns-then-level-gt0-clause-call g t c =
 
 pub walk_cell-returns-clause-call : goal.walk_cell-returns-clause-call
 walk_cell-returns-clause-call g t c =
-    let d = g.W.Draw.drawn c.args.draw.now in
+    let d = g.W.Draw.drawn c.args.guide.now.draw.now in
     let state = g.S.ReadSlots.state c.args.slots.now in
     let after : Progress = record { left = c.args.met.now.left; last = Some c.cell.inside.key } in
     let key_is : c.cell.inside.key ≡ c.args.cell.now.key = ap (λ (x : Cell). x.key) c.cell.view_is in
@@ -38,12 +38,12 @@ walk_cell-returns-clause-call g t c =
     (subst (λ (k : List ℕ). (pairs : List Pair) → g.P.TakesPairs.took c.args.sink.now pairs → g.P.TakesPairs.took c.take.new.self (pairs ++ (k, c.in-Some.value) ∷ [])) key_is c.take.ensures))
 
 pub walk_cells-loop-i-init : goal.walk_cells-loop-i-init
-walk_cells-loop-i-init g t c = (cells_begin (g.W.Draw.drawn c.args.draw.now) _ c.args.page.now (progress c.args.met.now.left c.args.met.now.last) _, g.met.S.ReadSlots.follows_refl c.args.slots.now)
+walk_cells-loop-i-init g t c = (cells_begin (g.W.Draw.drawn c.args.guide.now.draw.now) _ c.args.page.now (progress c.args.met.now.left c.args.met.now.last) _, g.met.S.ReadSlots.follows_refl c.args.slots.now)
 
 pub walk_cells-returns-then-not-is_next-clause-call :
     goal.walk_cells-returns-then-not-is_next-clause-call
 walk_cells-returns-then-not-is_next-clause-call g t c =
-    let d = g.W.Draw.drawn c.args.draw.now in
+    let d = g.W.Draw.drawn c.args.guide.now.draw.now in
     let page = c.args.page.now in
     let cell = c.cell-cell.result in
     cells_wrong d (g.S.ReadSlots.state c.args.slots.now) (g.S.ReadSlots.state c.loop-i.slots) (g.S.ReadSlots.state c.loop-i.slots) page c.loop-i.i cell (progress c.args.met.now.left c.args.met.now.last) (progress c.loop-i.met.left c.loop-i.met.last) (progress c.loop-i.met.left c.loop-i.met.last)
@@ -55,7 +55,7 @@ walk_cells-returns-then-not-is_next-clause-call g t c =
 pub walk_cells-returns-then-not-branch-clause-call :
     goal.walk_cells-returns-then-not-branch-clause-call
 walk_cells-returns-then-not-branch-clause-call g t c =
-    let d = g.W.Draw.drawn c.args.draw.now in
+    let d = g.W.Draw.drawn c.args.guide.now.draw.now in
     let now = g.S.ReadSlots.state c.loop-i.slots in
     let new = g.S.ReadSlots.state c.walk_cell.new.slots in
     let page = c.args.page.now in
@@ -69,7 +69,7 @@ walk_cells-returns-then-not-branch-clause-call g t c =
 
 pub walk_cells-loop-i-preserved : goal.walk_cells-loop-i-preserved
 walk_cells-loop-i-preserved g t c =
-    let d = g.W.Draw.drawn c.args.draw.now in
+    let d = g.W.Draw.drawn c.args.guide.now.draw.now in
     let now = g.S.ReadSlots.state c.loop-i.slots in
     let new = g.S.ReadSlots.state c.walk_cell.new.slots in
     let page = c.args.page.now in
@@ -85,15 +85,15 @@ walk_cells-loop-i-preserved g t c =
 
 pub walk_cells-returns-clause-call : goal.walk_cells-returns-clause-call
 walk_cells-returns-clause-call g t c =
-    cells_done (g.W.Draw.drawn c.args.draw.now) _ _ c.args.page.now c.loop-i.i (progress c.args.met.now.left c.args.met.now.last) (progress c.loop-i.met.left c.loop-i.met.last) _ _ c.loop-i.invariant.0 (omega (arith, c.loop-i-test.false, c.len-i-end.ensures.value))
+    cells_done (g.W.Draw.drawn c.args.guide.now.draw.now) _ _ c.args.page.now c.loop-i.i (progress c.args.met.now.left c.args.met.now.last) (progress c.loop-i.met.left c.loop-i.met.last) _ _ c.loop-i.invariant.0 (omega (arith, c.loop-i-test.false, c.len-i-end.ensures.value))
 
 pub walk_group-runs-init : goal.walk_group-runs-init
-walk_group-runs-init g t c = (runs_begin (g.W.Draw.drawn c.args.draw.now) _ c.args.level (model_lead c.args.lead.now) (progress c.args.met.now.left c.args.met.now.last) _, g.met.S.ReadSlots.follows_refl c.args.slots.now)
+walk_group-runs-init g t c = (runs_begin (g.W.Draw.drawn c.args.guide.now.draw.now) _ c.args.level (model_lead c.args.lead.now) (progress c.args.met.now.left c.args.met.now.last) _, g.met.S.ReadSlots.follows_refl c.args.slots.now)
 
 pub walk_group-returns-in_default-clause-call :
     goal.walk_group-returns-in_default-clause-call
 walk_group-returns-in_default-clause-call g t c =
-    let d = g.W.Draw.drawn c.args.draw.now in
+    let d = g.W.Draw.drawn c.args.guide.now.draw.now in
     let now = g.S.ReadSlots.state c.runs.slots in
     let seen = g.S.ReadSlots.state c.look_up.new.slots in
     let taken : Progress = record { left = c.runs.met.left; last = c.runs.met.last } in
@@ -103,7 +103,7 @@ walk_group-returns-in_default-clause-call g t c =
 
 pub walk_group-returns-then-met-eq0-clause-call : goal.walk_group-returns-then-met-eq0-clause-call
 walk_group-returns-then-met-eq0-clause-call g t c =
-    let d = g.W.Draw.drawn c.args.draw.now in
+    let d = g.W.Draw.drawn c.args.guide.now.draw.now in
     let now = g.S.ReadSlots.state c.runs.slots in
     let seen = g.S.ReadSlots.state c.look_up.new.slots in
     let taken : Progress = record { left = c.runs.met.left; last = c.runs.met.last } in
@@ -114,7 +114,7 @@ walk_group-returns-then-met-eq0-clause-call g t c =
 pub walk_group-returns-in_err-walk_cells-clause-call :
     goal.walk_group-returns-in_err-walk_cells-clause-call
 walk_group-returns-in_err-walk_cells-clause-call g t c =
-    let d = g.W.Draw.drawn c.args.draw.now in
+    let d = g.W.Draw.drawn c.args.guide.now.draw.now in
     let now = g.S.ReadSlots.state c.runs.slots in
     let seen = g.S.ReadSlots.state c.look_up.new.slots in
     let taken : Progress = record { left = c.runs.met.left - 1; last = c.runs.met.last } in
@@ -128,7 +128,7 @@ walk_group-returns-in_err-walk_cells-clause-call g t c =
 pub walk_group-returns-then-not-branch-clause-call :
     goal.walk_group-returns-then-not-branch-clause-call
 walk_group-returns-then-not-branch-clause-call g t c =
-    let d = g.W.Draw.drawn c.args.draw.now in
+    let d = g.W.Draw.drawn c.args.guide.now.draw.now in
     let now = g.S.ReadSlots.state c.runs.slots in
     let seen = g.S.ReadSlots.state c.look_up.new.slots in
     let new = g.S.ReadSlots.state c.walk_cells.new.slots in
@@ -142,7 +142,7 @@ walk_group-returns-then-not-branch-clause-call g t c =
 
 pub walk_group-returns-then-is_last-clause-call : goal.walk_group-returns-then-is_last-clause-call
 walk_group-returns-then-is_last-clause-call g t c =
-    let d = g.W.Draw.drawn c.args.draw.now in
+    let d = g.W.Draw.drawn c.args.guide.now.draw.now in
     let now = g.S.ReadSlots.state c.runs.slots in
     let seen = g.S.ReadSlots.state c.look_up.new.slots in
     let new = g.S.ReadSlots.state c.walk_cells.new.slots in
@@ -157,7 +157,7 @@ walk_group-returns-then-is_last-clause-call g t c =
 
 pub walk_group-runs-preserved : goal.walk_group-runs-preserved
 walk_group-runs-preserved g t c =
-    let d = g.W.Draw.drawn c.args.draw.now in
+    let d = g.W.Draw.drawn c.args.guide.now.draw.now in
     let now = g.S.ReadSlots.state c.runs.slots in
     let seen = g.S.ReadSlots.state c.look_up.new.slots in
     let new = g.S.ReadSlots.state c.walk_cells.new.slots in
@@ -175,7 +175,7 @@ walk_group-runs-preserved g t c =
 
 pub walk_cell-returns-in_default-clause-call : goal.walk_cell-returns-in_default-clause-call
 walk_cell-returns-in_default-clause-call g t c =
-    let d = g.W.Draw.drawn c.args.draw.now in
+    let d = g.W.Draw.drawn c.args.guide.now.draw.now in
     let state = g.S.ReadSlots.state c.args.slots.now in
     let took = g.P.TakesPairs.took c.args.sink.now in
     let none : c.args.cell.now.value ≡ None = sym (ap (λ (x : Cell). x.value) c.cell.view_is) ∙ c.in_default.is in

@@ -15,7 +15,7 @@ returns-then-entry-digest-clause-call g c =
     let at = c.loop-at.at in
     let first = c.first_of-first.result in
     let within : at < length entries = omega (arith, c.loop-at-test.true) in
-    looks_beyond _ _ entries c.args.label.now c.digest_of-digest.result first at (slice_index_or entries at blank) c.digest_of-digest.ensures c.first_of-first.ensures.past
+    looks_beyond _ _ entries c.args.label.now c.digest_of-digest.result first at (slice_index_or entries at blank) c.digest_of-digest.ensures.value c.first_of-first.ensures.past
     (omega (arith, c.loop-at.auto.at, c.first_of-first.ensures.within)) within (λ e. get_or_default entries at e blank within) c.if-entry-digest.true c.loop-at.invariant.0
 
 pub loop-at-preserved : goal.loop-at-preserved
