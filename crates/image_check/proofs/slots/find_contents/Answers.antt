@@ -1,7 +1,8 @@
-use Rattle.std.proofs.Common.{◌≡◌, ℕ, List, [], Bool, Option, Some, None, MatchOption, Result, Ok, sym, ap, subst, ◌∙◌, refl, arith}
-use Rattle.store_model.specs.Parameters.{Parameters}
+use Rattle.std.proofs.Common.{ℕ, List, Option, IfSome, Ok, take, sym, ap, subst, ◌∙◌, refl, arith}
 use Rattle.store_model.specs.Pairs.{Pair}
 use Rattle.store_model.specs.Draws.{Draw, draw_of}
+use Rattle.label_index.specs.Indexes.{IsIndexOf}
+use Rattle.label_index.proofs.Noted.{index_later}
 use Rattle.group_walk.specs.Walks.{WalksTable}
 use Rattle.image_check.specs.declared.contents.Contents.{Contents}
 use Rattle.image_check.specs.Orders.{FindsOrder}
@@ -17,8 +18,16 @@ pub count_pages-requires-clause-most : goal.count_pages-requires-clause-most
 unfolding draw_of
 count_pages-requires-clause-most g c = omega (arith, c.height.ensures.valid.slots_in_range, ap (λ (d : Draw). d.slots) c.new-draw.ensures)
 
-pub walk_groups-requires-clause-stub : goal.walk_groups-requires-clause-stub
-walk_groups-requires-clause-stub g c = ?
+pub count_pages-requires-clause-room : goal.count_pages-requires-clause-room
+unfolding draw_of
+count_pages-requires-clause-room g c = omega (arith, c.height.ensures.valid.slots_in_range, ap (λ (d : Draw). d.slots) c.new-draw.ensures)
+
+pub walk_groups-requires-clause-index : goal.walk_groups-requires-clause-index
+walk_groups-requires-clause-index g c =
+    let old = g.S.ReadSlots.state c.args.slots.now in
+    let entries = c.count_pages.new.entries in
+    let index = subst (λ (found : Option ℕ). IfSome found (λ used. IsIndexOf old (take used entries))) c.in-Some.is c.in_ok-used.ensures.index in
+    index_later old (g.S.ReadSlots.state c.count_pages.new.slots) (Ok c.in_ok-used.field-0) (take c.in-Some.used entries) c.in_ok-used.ensures.call.reads index
 
 pub walk_groups-requires-clause-count : goal.walk_groups-requires-clause-count
 unfolding draw_of
@@ -46,7 +55,7 @@ returns-then-not-branch-clause-call g c =
     let whole = c.in_ok-walk_groups.field-0 in
     let used = c.in-Some.used in
     let Took : List Pair → Type 0 = TookPairs c.new-pairs.result in
-    let TookNow : List Pair → Type 0 = TookPairs c.walk_groups.new.pairs in
+    let TookNow : List Pair → Type 0 = TookPairs c.walk_groups.new.sink in
     let finds : FindsOrder (draw_of p) (draw_of p).height old mid (Ok found) =
     subst (λ h. FindsOrder (draw_of p) h old mid (Ok found)) c.height.ensures.value (subst (λ d. FindsOrder d c.height.result old mid (Ok found)) c.new-draw.ensures c.in_ok-used.ensures.call) in
     let walks : WalksTable (draw_of p) mid new used Took TookNow (Ok whole) = subst (λ d. WalksTable d mid new used Took TookNow (Ok whole)) c.new-draw.ensures c.in_ok-walk_groups.ensures.call in
@@ -63,7 +72,7 @@ returns-in_default-counts-clause-call g c =
     let whole = c.in_ok-walk_groups.field-0 in
     let used = c.in-Some.used in
     let Took : List Pair → Type 0 = TookPairs c.new-pairs.result in
-    let TookNow : List Pair → Type 0 = TookPairs c.walk_groups.new.pairs in
+    let TookNow : List Pair → Type 0 = TookPairs c.walk_groups.new.sink in
     let finds : FindsOrder (draw_of p) (draw_of p).height old mid (Ok found) =
     subst (λ h. FindsOrder (draw_of p) h old mid (Ok found)) c.height.ensures.value (subst (λ d. FindsOrder d c.height.result old mid (Ok found)) c.new-draw.ensures c.in_ok-used.ensures.call) in
     let walks : WalksTable (draw_of p) mid new used Took TookNow (Ok whole) = subst (λ d. WalksTable d mid new used Took TookNow (Ok whole)) c.new-draw.ensures c.in_ok-walk_groups.ensures.call in
@@ -81,7 +90,7 @@ returns-clause-call g c =
     let whole = c.in_ok-walk_groups.field-0 in
     let used = c.in-Some.used in
     let Took : List Pair → Type 0 = TookPairs c.new-pairs.result in
-    let TookNow : List Pair → Type 0 = TookPairs c.walk_groups.new.pairs in
+    let TookNow : List Pair → Type 0 = TookPairs c.walk_groups.new.sink in
     let finds : FindsOrder (draw_of p) (draw_of p).height old mid (Ok found) =
     subst (λ h. FindsOrder (draw_of p) h old mid (Ok found)) c.height.ensures.value (subst (λ d. FindsOrder d c.height.result old mid (Ok found)) c.new-draw.ensures c.in_ok-used.ensures.call) in
     let walks : WalksTable (draw_of p) mid new used Took TookNow (Ok whole) = subst (λ d. WalksTable d mid new used Took TookNow (Ok whole)) c.new-draw.ensures c.in_ok-walk_groups.ensures.call in
