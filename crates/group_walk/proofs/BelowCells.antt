@@ -1,28 +1,24 @@
 -- The walk below one cell: down to the group that it leads, or on level 0 its pair.
-use Rattle.std.proofs.Common.{◌≡◌, ℕ, suc, ◌+◌, ◌<◌, ◌≤◌, ◌⊎◌, inl, inr, Bool, true, false, List, [], ◌∷◌, ◌++◌, Option, Some, None, Result, Ok, Err, length, map, refl, sym, ap, subst, ◌∙◌, arith}
+use Rattle.std.proofs.Common.{◌≡◌, ℕ, ◌+◌, Bool, true, false, List, [], ◌∷◌, ◌++◌, Option, Some, None, Result, Ok, Err, refl, sym, subst, arith}
 use Rattle.std.specs.Prelude.{unwrap_or}
-use Rattle.std.specs.List.{Contains, AllByRecursion}
-use Rattle.store_model.specs.Labels.{Lead, Label}
-use Rattle.store_model.specs.Labels.Lead.{Start, Leader}
+use Rattle.store_model.specs.Labels.Lead.{Leader}
 use Rattle.store_model.specs.Pairs.{Pair}
 use Rattle.store_model.specs.Draws.{Draw}
-use Rattle.store_model.specs.Pages.{Cell, Page, IsCell, IsCellValue, IsPage}
-use Rattle.store_model.specs.PageMaps.{PageMap, HoldsPages}
+use Rattle.store_model.specs.Pages.{Cell, Page, IsCell, IsCellValue}
+use Rattle.store_model.specs.PageMaps.{PageMap}
 use Rattle.store_model.proofs.ListsLemmasOrder.{held_all}
 use Rattle.store_base.specs.declared.store_fault.Fault.{Fault}
-use Rattle.store_base.specs.SlotsState.{SlotsState, IsObservable}
-use Rattle.layout_conditions.specs.Pages.{HasCell, HasKey}
-use Rattle.group_walk.specs.declared.met.Met.{Met}
-use Rattle.group_walk.specs.Streams.{IsAbove, IsReached, GoesOn}
-use Rattle.group_walk.specs.Walked.{InMap, IsPassed, MeetWalk, Walked, ComesTo, ComesToCell}
-use Rattle.group_walk.specs.Walks.{HandsOn, pair_of, leader_cells, IsWalked, AreCellsWalked, IsGroupWalked, WalksGroup, WalksCell}
-use Rattle.group_walk.proofs.LookupLemmas.{reads_none}
+use Rattle.store_base.specs.SlotsState.{SlotsState}
+use Rattle.group_walk.specs.Streams.{GoesOn, Progress}
+use Rattle.group_walk.specs.Walked.{InMap, IsPassed, ComesTo, ComesToCell}
+use Rattle.group_walk.specs.Walks.{AreCellsWalked, IsGroupWalked, WalksGroup, WalksCell}
+use Rattle.label_index.proofs.Reading.{reads_none}
 use Rattle.group_walk.proofs.KeyOrder.{none_in, not_below_itself, reached_below, goes_on_one}
 use Rattle.group_walk.proofs.MetGroups.{met_pair, met_as}
 use Rattle.group_walk.proofs.CellSteps.{valid_in}
 use Rattle.group_walk.proofs.Handing.{hands_none}
 
-module _ (d : Draw) (old new : SlotsState) (low level : ℕ) (cell : Cell) (before after : Met) (Took TookNow : List Pair → Type 0) (next : level ≡ low + 1) where
+module _ (d : Draw) (old new : SlotsState) (low level : ℕ) (cell : Cell) (before after : Progress) (Took TookNow : List Pair → Type 0) (next : level ≡ low + 1) where
   -- the group that the cell leads was met
   group_met : (m : PageMap) → IsGroupWalked d m low (Leader cell.key) before after Took TookNow → AreCellsWalked d m (low + 1) (cell ∷ []) before after Took TookNow
   group_met m group =
@@ -68,7 +64,7 @@ module _ (d : Draw) (old new : SlotsState) (low level : ℕ) (cell : Cell) (befo
   }
 
 -- the pair of a cell of level 0
-pub walks_pair : (d : Draw) (state : SlotsState) (cell : Cell) (value : List ℕ) (before after : Met) (Took TookNow : List Pair → Type 0) → cell.value ≡ Some value → after.left ≡ before.left → after.last ≡ Some cell.key
+pub walks_pair : (d : Draw) (state : SlotsState) (cell : Cell) (value : List ℕ) (before after : Progress) (Took TookNow : List Pair → Type 0) → cell.value ≡ Some value → after.left ≡ before.left → after.last ≡ Some cell.key
     → ((pairs : List Pair) → Took pairs → TookNow (pairs ++ (cell.key, value) ∷ [])) → WalksCell d state state 0 cell before after Took TookNow (Ok true)
 walks_pair d state cell value before after Took TookNow is left last takes = record {
   reads = reads_none state true;
@@ -88,7 +84,7 @@ walks_pair d state cell value before after Took TookNow is left last takes = rec
 }
 
 -- on level 0 each cell has a value
-pub walks_no_pair : (d : Draw) (state : SlotsState) (cell : Cell) (met : Met) (Took : List Pair → Type 0) → cell.value ≡ None → WalksCell d state state 0 cell met met Took Took (Ok false)
+pub walks_no_pair : (d : Draw) (state : SlotsState) (cell : Cell) (met : Progress) (Took : List Pair → Type 0) → cell.value ≡ None → WalksCell d state state 0 cell met met Took Took (Ok false)
 walks_no_pair d state cell met Took is = record {
   reads = reads_none state false;
   fewer = omega arith;

@@ -1,7 +1,6 @@
 -- The walk over the cells of a page, cell by cell.
-use Rattle.std.proofs.Common.{◌≡◌, ℕ, zero, suc, ◌+◌, ◌<◌, ◌≤◌, ◌⊎◌, inl, inr, Bool, true, false, List, [], ◌∷◌, ◌++◌, Option, Some, None, Result, Ok, Err, length, take, slice_get, refl, sym, ap, subst, ◌∙◌, arith, length-append}
+use Rattle.std.proofs.Common.{◌≡◌, ℕ, ◌+◌, ◌<◌, ◌≤◌, ◌⊎◌, inl, inr, true, false, List, [], ◌∷◌, ◌++◌, Option, Some, None, Result, Ok, Err, length, take, slice_get, refl, sym, ap, subst, ◌∙◌, arith, length-append}
 use Rattle.std.specs.List.{Contains}
-use Rattle.std.specs.FinMap as maps
 use Rattle.std.specs.declared.cmp.Ordering.TheVariants.{Less}
 use Rattle.std.proofs.Math.Nat.{eq-or-lt_of_le}
 use Rattle.std.proofs.lemmas.List.{take_all}
@@ -13,18 +12,17 @@ use Rattle.store_model.specs.Labels.Lead.{Start, Leader}
 use Rattle.store_model.specs.Pairs.{Pair}
 use Rattle.store_model.specs.Draws.{Draw}
 use Rattle.store_model.specs.Pages.{Cell, Page, IsPage}
-use Rattle.store_model.specs.PageMaps.{PageMap, page_at, HoldsPages}
+use Rattle.store_model.specs.PageMaps.{PageMap, HoldsPages}
 use Rattle.store_base.specs.declared.store_fault.Fault.{Fault}
 use Rattle.store_base.specs.SlotsState.{SlotsState, IsObservable}
 use Rattle.store_base.proofs.SlotsCalls.{IsObservable-later}
 use Rattle.node_pages.proofs.Joined.{take_next}
 use Rattle.layout_conditions.specs.Pages.{HasCell, HasKey}
-use Rattle.group_walk.specs.declared.met.Met.{Met}
-use Rattle.group_walk.specs.Lookups.{ReadsOnly}
-use Rattle.group_walk.specs.Streams.{HasKeyIn, IsAbove, IsReached, GoesOn}
-use Rattle.group_walk.specs.Walked.{InMap, AreDistinct, IsLeadIn, IsPassed, LeadsOn, IsInPlace, MeetWalk, Walked, AreMetOf, ComesToCell, ComesToCells}
-use Rattle.group_walk.specs.Walks.{HandsOn, pair_of, IsWalked, AreCellsWalked, IsPageWalked, RefutesCell, RefutesCells, WalksCell, WalksCells}
-use Rattle.group_walk.proofs.LookupLemmas.{reads_none, reads_then, reads_value, reads_fault}
+use Rattle.label_index.specs.Lookups.{ReadsOnly}
+use Rattle.group_walk.specs.Streams.{HasKeyIn, IsAbove, IsReached, GoesOn, Progress}
+use Rattle.group_walk.specs.Walked.{InMap, AreDistinct, IsLeadIn, IsPassed, LeadsOn, IsInPlace, AreMetOf, ComesToCell, ComesToCells}
+use Rattle.group_walk.specs.Walks.{HandsOn, AreCellsWalked, WalksCell, WalksCells}
+use Rattle.label_index.proofs.Reading.{reads_none, reads_then, reads_value}
 use Rattle.group_walk.proofs.KeyOrder.{none_in, not_below_itself, reached_below, goes_nowhere, goes_on_both, rise_behind}
 use Rattle.group_walk.proofs.MetPages.{met_none, met_both, distinct_both}
 use Rattle.group_walk.proofs.KeysBelow.{stream_below}
@@ -33,13 +31,13 @@ use Rattle.group_walk.proofs.Handing.{hands_none, hands_both, handed_none, hande
 
 -- ---- what was walked, one part behind another
 
-pub walked_none : (d : Draw) (m : PageMap) (level : ℕ) (met : Met) (Took : List Pair → Type 0) → AreCellsWalked d m level [] met met Took Took
+pub walked_none : (d : Draw) (m : PageMap) (level : ℕ) (met : Progress) (Took : List Pair → Type 0) → AreCellsWalked d m level [] met met Took Took
 walked_none d m level met Took = record {
   below = record { pages = []; stream = []; walked = met_none d (InMap m) level; goes_on = goes_nowhere met.last; left = omega arith; handed_on = handed_none Took };
   keyed = λ page held. absurd (none_in page held);
 }
 
-pub walked_both : (d : Draw) (m : PageMap) (level : ℕ) (own1 own2 : List Cell) (before mid after : Met) (Took TookMid TookNow : List Pair → Type 0)
+pub walked_both : (d : Draw) (m : PageMap) (level : ℕ) (own1 own2 : List Cell) (before mid after : Progress) (Took TookMid TookNow : List Pair → Type 0)
     → AreCellsWalked d m level own1 before mid Took TookMid → AreCellsWalked d m level own2 mid after TookMid TookNow → AreCellsWalked d m level (own1 ++ own2) before after Took TookNow
 walked_both d m level own1 own2 before mid after Took TookMid TookNow a b = record {
   below = record {
@@ -115,18 +113,18 @@ apart_behind level stream last now first second on passed lower keyed leads p q 
 
 -- ---- the cells of a page
 
-pub record CellsMet (d : Draw) (m : PageMap) (page : Page) (i : ℕ) (before after : Met) (Took TookNow : List Pair → Type 0) : Type 0 where
+pub record CellsMet (d : Draw) (m : PageMap) (page : Page) (i : ℕ) (before after : Progress) (Took TookNow : List Pair → Type 0) : Type 0 where
   pub cells : AreCellsWalked d m page.label.level (take i page.cells) before after Took TookNow
   pub placed : (j : ℕ) (cell : Cell) → j < i → slice_get page.cells j ≡ Some cell → IsInPlace d page.label.level page.label.lead page.label.index j cell.key
 
 -- the first cells of a page were walked over, so many
-pub record CellsSoFar (d : Draw) (old now : SlotsState) (page : Page) (i : ℕ) (before after : Met) (Took TookNow : List Pair → Type 0) : Type 0 where
+pub record CellsSoFar (d : Draw) (old now : SlotsState) (page : Page) (i : ℕ) (before after : Progress) (Took TookNow : List Pair → Type 0) : Type 0 where
   pub reads : ReadsOnly {T = Unit {0}} old now (Ok tt)
   pub fewer : after.left ≤ before.left
   pub handed : HandsOn Took TookNow
   pub walked : (m : PageMap) → IsObservable old → HoldsPages d old.slots m → InMap m page → LeadsOn d page.label.level page.label.lead → CellsMet d m page i before after Took TookNow
 
-pub cells_begin : (d : Draw) (state : SlotsState) (page : Page) (met : Met) (Took : List Pair → Type 0) → CellsSoFar d state state page 0 met met Took Took
+pub cells_begin : (d : Draw) (state : SlotsState) (page : Page) (met : Progress) (Took : List Pair → Type 0) → CellsSoFar d state state page 0 met met Took Took
 cells_begin d state page met Took = record {
   reads = reads_none state tt;
   fewer = omega arith;
@@ -142,7 +140,7 @@ valid_in d slots m page holds there = (holds.pages (label_bytes page.label) page
 pub still_holds : {T : Type 0} (d : Draw) (old new : SlotsState) (m : PageMap) (result : Result T Fault) → ReadsOnly old new result → IsObservable old → HoldsPages d old.slots m → HoldsPages d new.slots m
 still_holds d old new m result reads observable holds = subst (λ (slots : List (List ℕ)). HoldsPages d slots m) (sym (reads.slots observable)) holds
 
-module _ (d : Draw) (old now new : SlotsState) (page : Page) (i : ℕ) (cell : Cell) (before mid after : Met) (Took TookMid TookNow : List Pair → Type 0)
+module _ (d : Draw) (old now new : SlotsState) (page : Page) (i : ℕ) (cell : Cell) (before mid after : Progress) (Took TookMid TookNow : List Pair → Type 0)
     (far : CellsSoFar d old now page i before mid Took TookMid) (is : slice_get page.cells i ≡ Some cell) where
   -- the cell stands on the level of the page
   cell_there : (m : PageMap) → InMap m page → HasCell (InMap m) page.label.level cell
@@ -157,7 +155,7 @@ module _ (d : Draw) (old now new : SlotsState) (page : Page) (i : ℕ) (cell : C
       walked = λ m observable holds there leads.
           let so_far = far.walked m observable holds there leads in
           let more = walks.walked m (IsObservable-later old now (Ok tt) far.reads.calls observable) (still_holds d old now m (Ok tt) far.reads observable holds) (cell_there m there)
-              (level_of_place d page.label.level page.label.lead page.label.index i cell.key leads place) above in
+          (level_of_place d page.label.level page.label.lead page.label.index i cell.key leads place) above in
           record {
             cells = subst (λ (own : List Cell). AreCellsWalked d m page.label.level own before after Took TookNow) (sym (take_next page.cells i cell is))
                 (walked_both d m page.label.level (take i page.cells) (cell ∷ []) before mid after Took TookMid TookNow so_far.cells more);
@@ -174,14 +172,16 @@ module _ (d : Draw) (old now new : SlotsState) (page : Page) (i : ℕ) (cell : C
     -- the walk comes to the cell
     comes_to_cell : (m : PageMap) (pages : List Page) → CellsMet d m page i before mid Took TookMid → (comes : ComesToCells d m page before.left before.last pages) → (all : List Page) × ComesToCell d m page.label.level cell mid.left mid.last all
     comes_to_cell m pages so_far comes =
-        let below = so_far.cells.below in
-        (pages ++ below.pages, record {
-          met = met_of_both m before.left mid.left pages below.pages comes.met below.walked.there below.walked.distinct
-              (apart_behind page.label.level below.stream before.last mid.last pages below.pages below.goes_on comes.passed below.walked.lower so_far.cells.keyed below.walked.lead_keys) below.left;
-          passed = λ other held lower. passed_by so_far comes other lower (Contains-append_cases pages below.pages other held);
-          there = cell_there m comes.there;
-          above = above;
-        })
+        let below = so_far.cells.below in (
+          pages ++ below.pages,
+          record {
+            met = met_of_both m before.left mid.left pages below.pages comes.met below.walked.there below.walked.distinct
+                (apart_behind page.label.level below.stream before.last mid.last pages below.pages below.goes_on comes.passed below.walked.lower so_far.cells.keyed below.walked.lead_keys) below.left;
+            passed = λ other held lower. passed_by so_far comes other lower (Contains-append_cases pages below.pages other held);
+            there = cell_there m comes.there;
+            above = above;
+          },
+        )
       where
         passed_by : (so_far : CellsMet d m page i before mid Took TookMid) → ComesToCells d m page before.left before.last pages → (other : Page) → other.label.level < page.label.level
             → Contains pages other ⊎ Contains so_far.cells.below.pages other → IsPassed mid.last other.label.lead
@@ -219,15 +219,17 @@ module _ (d : Draw) (old now new : SlotsState) (page : Page) (i : ℕ) (cell : C
         let so_far = far.walked m observable holds there leads in
         let below = so_far.cells.below in
         let has : HasKey (InMap m) page.label.level cell.key = record { cell = cell; key_is = refl; has = cell_there m there } in
-        not (place_of_run d page.label.level page.label.lead page.label.index page.cells i cell (meets.runs.levels page there) is,
+        not (
+          place_of_run d page.label.level page.label.lead page.label.index page.cells i cell (meets.runs.levels page there) is,
           above_by below.stream before.last mid.last cell.key below.goes_on
-          (stream_below d (InMap m) meets page.label.level (take i page.cells) below.pages below.stream below.walked cell.key has
-          (λ other held. below_in_page page i cell other (valid_in d old.slots m page holds there) is held))
-          (comes.ahead meets cell (held_at page.cells i cell is)));
+              (stream_below d (InMap m) meets page.label.level (take i page.cells) below.pages below.stream below.walked cell.key has
+              (λ other held. below_in_page page i cell other (valid_in d old.slots m page holds there) is held))
+              (comes.ahead meets cell (held_at page.cells i cell is)),
+        );
   }
 
 -- all cells were walked over
-pub cells_done : (d : Draw) (old now : SlotsState) (page : Page) (i : ℕ) (before after : Met) (Took TookNow : List Pair → Type 0) → CellsSoFar d old now page i before after Took TookNow → length page.cells ≤ i
+pub cells_done : (d : Draw) (old now : SlotsState) (page : Page) (i : ℕ) (before after : Progress) (Took TookNow : List Pair → Type 0) → CellsSoFar d old now page i before after Took TookNow → length page.cells ≤ i
     → WalksCells d old now page before after Took TookNow (Ok true)
 cells_done d old now page i before after Took TookNow far all = record {
   reads = reads_value old now tt true far.reads;

@@ -1,5 +1,5 @@
 -- How many pages with distinct labels there are among others.
-use Rattle.std.proofs.Common.{◌≡◌, ℕ, suc, ◌+◌, ◌≤◌, ◌⊎◌, inl, inr, Bool, true, false, List, [], ◌∷◌, ◌++◌, Some, length, map, refl, sym, ap, subst, ◌∙◌, arith, length-append}
+use Rattle.std.proofs.Common.{◌≡◌, ◌+◌, ◌≤◌, ◌⊎◌, inl, inr, true, false, List, [], ◌∷◌, ◌++◌, length, map, sym, ap, subst, ◌∙◌, arith}
 use Rattle.std.specs.List.{Contains, IsDistinct, AllByRecursion}
 use Rattle.std.specs.FinMap as maps
 use Rattle.std.specs.Ordering.{eq_by_cmp, is_eq}
@@ -8,8 +8,8 @@ use Rattle.std.specs.Cmp.Lexicographic.{nat_list_cmp_total}
 use Rattle.std.proofs.lemmas.List.Elements.{Contains-append_left, Contains-append_right, Contains-append_cases}
 use Rattle.store_model.specs.Labels.{Label, label_bytes, label_cmp}
 use Rattle.store_model.specs.Pages.{Page}
-use Rattle.store_model.specs.PageMaps.{PageMap, page_at, map_of_pages, pages_of_map, IsPageMap}
-use Rattle.store_model.proofs.ListsLemmasOrder.{held_cases, held_first, held_later, held_all}
+use Rattle.store_model.specs.PageMaps.{PageMap, page_at, pages_of_map, IsPageMap}
+use Rattle.store_model.proofs.ListsLemmasOrder.{held_cases, held_first, held_later}
 use Rattle.store_model.proofs.PageMapsLemmas.{map_of_pages-pages_of_map, len-pages_of_map, distinct_page_map, listed_where_found, found_where_listed}
 use Rattle.group_walk.specs.Walked.{InMap, AreDistinct}
 use Rattle.group_walk.proofs.KeyOrder.{none_in}

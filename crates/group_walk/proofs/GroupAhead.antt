@@ -1,5 +1,5 @@
 -- Where pages meet the conditions, what comes next in a group is above the last key.
-use Rattle.std.proofs.Common.{◌≡◌, ℕ, zero, suc, ◌+◌, ◌-◌, ◌<◌, ◌≤◌, ◌⊎◌, inl, inr, List, [], ◌∷◌, ◌++◌, Option, Some, None, length, map, refl, sym, ap, subst, ◌∙◌, arith}
+use Rattle.std.proofs.Common.{◌≡◌, ℕ, zero, ◌+◌, ◌-◌, ◌<◌, ◌≤◌, ◌⊎◌, inl, inr, List, [], ◌∷◌, Option, Some, None, length, refl, sym, ap, subst, ◌∙◌, arith}
 use Rattle.std.specs.List.{Contains}
 use Rattle.std.specs.declared.cmp.Ordering.TheVariants.{Less}
 use Rattle.std.proofs.Math.Nat.{eq-zero-or-pos}
@@ -8,15 +8,14 @@ use Rattle.store_model.specs.Labels.{Lead, Label}
 use Rattle.store_model.specs.Labels.Lead.{Start, Leader}
 use Rattle.store_model.specs.Pairs.{Pair}
 use Rattle.store_model.specs.Draws.{Draw}
-use Rattle.store_model.specs.Pages.{Cell, Page, IsPage}
+use Rattle.store_model.specs.Pages.{Cell, Page}
 use Rattle.store_model.specs.PageMaps.{PageMap, HoldsPages}
 use Rattle.store_model.proofs.ListsLemmas.{rising_from_map, rising_head}
 use Rattle.store_model.proofs.ListsLemmasOrder.{held_cases, held_first, held_all}
 use Rattle.std.specs.List.Sorted.{IsStrictlySortedBy}
-use Rattle.layout_conditions.specs.Pages.{AreLedBy, AreRunOf, HasKey, FollowsFull}
+use Rattle.layout_conditions.specs.Pages.{AreLedBy, AreRunOf, HasKey}
 use Rattle.skip_groups.specs.Groups.{label_of}
-use Rattle.group_walk.specs.declared.met.Met.{Met}
-use Rattle.group_walk.specs.Streams.{HasKeyIn, cell_order, IsAbove}
+use Rattle.group_walk.specs.Streams.{cell_order, IsAbove, Progress}
 use Rattle.group_walk.specs.Walked.{InMap, IsAhead, MeetWalk}
 use Rattle.group_walk.proofs.KeyOrder.{key_trans}
 use Rattle.group_walk.proofs.MetGroups.{label_is}
@@ -43,7 +42,7 @@ above_leader d level key last (first ∷ cells) led up above cell held = by_plac
     by_place (inl same) = subst (IsAbove last) (sym led.0 ∙ ap (λ (c : Cell). c.key) same) above
     by_place (inr later) = above_more last key cell.key above (subst (λ (k : List ℕ). key_cmp k cell.key ≡ Less) led.0 (held_all (λ c. cell_order first c ≡ Less) cells cell (rising_head cell_order first cells up) later))
 
-module _ (d : Draw) (slots : List (List ℕ)) (m : PageMap) (holds : HoldsPages d slots m) (level : ℕ) (lead : Lead) (past : ℕ) (before mid : Met) (Took TookMid : List Pair → Type 0)
+module _ (d : Draw) (slots : List (List ℕ)) (m : PageMap) (holds : HoldsPages d slots m) (level : ℕ) (lead : Lead) (past : ℕ) (before mid : Progress) (Took TookMid : List Pair → Type 0)
     (met : RunsMet d m level lead past before mid Took TookMid) (meets : MeetWalk d (InMap m)) (ahead : IsAhead d (InMap m) level before.last lead)
     (page : Page) (there : InMap m page) (named : page.label ≡ label_of level lead past) (cell : Cell) (held : Contains page.cells cell) where
   run : AreRunOf d level lead past page.cells

@@ -1,28 +1,27 @@
 -- How the walk over a group goes on, and how it ends.
 use Rattle.std.specs.Prelude.{IsTrue}
-use Rattle.std.proofs.Common.{◌≡◌, ◌↔◌, ℕ, zero, suc, ◌+◌, ◌-◌, ◌<◌, ◌≤◌, ◌⊎◌, inl, inr, Bool, true, false, List, [], ◌∷◌, ◌++◌, Option, Some, None, Result, Ok, Err, length, map, refl, sym, ap, subst, ◌∙◌, arith, length-append}
+use Rattle.std.proofs.Common.{◌≡◌, ◌↔◌, ℕ, zero, ◌+◌, ◌<◌, ◌≤◌, ◌⊎◌, inl, inr, Bool, true, false, List, [], ◌∷◌, ◌++◌, Option, Some, None, Result, Ok, Err, length, refl, sym, ap, subst, ◌∙◌, arith, length-append}
 use Rattle.std.specs.List.{Contains}
-use Rattle.std.specs.FinMap as maps
 use Rattle.std.proofs.Math.Nat.{eq-zero-or-pos, eq-or-lt_of_le}
-use Rattle.std.proofs.lemmas.List.Elements.{Contains-append_left, Contains-append_right, Contains-append_cases}
-use Rattle.std.proofs.lemmas.Option.{same_Some, none-some}
-use Rattle.store_model.specs.Labels.{Lead, Label, label_bytes}
+use Rattle.std.proofs.lemmas.List.Elements.{Contains-append_left, Contains-append_cases}
+use Rattle.std.proofs.lemmas.Option.{none-some}
+use Rattle.store_model.specs.Labels.{Lead, Label}
 use Rattle.store_model.specs.Labels.Lead.{Start, Leader}
 use Rattle.store_model.specs.Pairs.{Pair}
 use Rattle.store_model.specs.Draws.{Draw}
-use Rattle.store_model.specs.Pages.{Cell, Page, IsPage, page_room}
+use Rattle.store_model.specs.Pages.{Page, IsPage, page_room}
 use Rattle.store_model.specs.PageMaps.{PageMap, page_at, HoldsPages}
 use Rattle.store_base.specs.declared.store_fault.Fault.{Fault}
 use Rattle.store_base.specs.SlotsState.{SlotsState, IsObservable}
 use Rattle.store_base.proofs.SlotsCalls.{IsObservable-later}
-use Rattle.layout_conditions.specs.Pages.{LeadsGroup, HasKey, IsLed}
+use Rattle.layout_conditions.specs.Pages.{IsLed}
 use Rattle.skip_groups.specs.Groups.{label_of}
-use Rattle.group_walk.specs.declared.met.Met.{Met}
-use Rattle.group_walk.specs.Lookups.{ReadsOnly, FindsPage}
-use Rattle.group_walk.specs.Streams.{IsAbove, GoesOn}
-use Rattle.group_walk.specs.Walked.{InMap, AreDistinct, IsPassed, IsStart, LeadsOn, IsNextRun, MeetWalk, Walked, AreMetOf, ComesTo, ComesToCells}
-use Rattle.group_walk.specs.Walks.{HandsOn, pair_of, leader_cells, IsWalked, IsPageWalked, IsGroupWalked, RefutesGroup, WalksCells, WalksGroup}
-use Rattle.group_walk.proofs.LookupLemmas.{reads_none, reads_then, reads_value, reads_fault}
+use Rattle.label_index.specs.Lookups.{ReadsOnly}
+use Rattle.group_walk.specs.Lookups.{FindsPage}
+use Rattle.group_walk.specs.Streams.{IsAbove, GoesOn, Progress}
+use Rattle.group_walk.specs.Walked.{InMap, IsPassed, IsStart, LeadsOn, IsNextRun, MeetWalk, AreMetOf, ComesTo, ComesToCells}
+use Rattle.group_walk.specs.Walks.{IsGroupWalked, WalksCells, WalksGroup}
+use Rattle.label_index.proofs.Reading.{reads_then, reads_value, reads_fault}
 use Rattle.group_walk.proofs.KeyOrder.{none_in, only_one}
 use Rattle.skip_groups.proofs.NewCellsSteps.{below_or_not}
 use Rattle.group_walk.proofs.MetPages.{distinct_both}
@@ -36,7 +35,7 @@ use Rattle.group_walk.proofs.Handing.{hands_both}
 
 -- ---- a group that is met
 
-module _ (d : Draw) (m : PageMap) (level : ℕ) (lead : Lead) (past : ℕ) (before after : Met) (Took TookNow : List Pair → Type 0) (met : RunsMet d m level lead past before after Took TookNow)
+module _ (d : Draw) (m : PageMap) (level : ℕ) (lead : Lead) (past : ℕ) (before after : Progress) (Took TookNow : List Pair → Type 0) (met : RunsMet d m level lead past before after Took TookNow)
     (some : (key : List ℕ) → lead ≡ Leader key → 0 < past) (none : (page : Page) → InMap m page → page.label ≡ label_of level lead 0 → 0 < past)
     (ended : (p q : Page) → Contains met.runs p → InMap m q → IsNextRun p q → length p.cells ≡ page_room p.label.level → q.label.index < past) where
   starts_by : (page : Page) → page.label.lead ≡ Start → Contains met.runs page ⊎ Contains met.pages page → (lead ≡ Start) × (page.label.level ≡ level)
@@ -62,16 +61,16 @@ module _ (d : Draw) (m : PageMap) (level : ℕ) (lead : Lead) (past : ℕ) (befo
 -- ---- a run behind those so far
 
 -- where the walk looked for a run, and what it keeps of how far it has come
-pub record Looked (mid taken : Met) : Type 0 where
+pub record Looked (mid taken : Progress) : Type 0 where
   pub left : taken.left ≡ mid.left
   pub last : taken.last ≡ mid.last
 
 -- and how far once the run is met
-pub record Taken (mid taken : Met) : Type 0 where
+pub record Taken (mid taken : Progress) : Type 0 where
   pub left : taken.left + 1 ≡ mid.left
   pub last : taken.last ≡ mid.last
 
-module _ (d : Draw) (old now seen : SlotsState) (level : ℕ) (lead : Lead) (past : ℕ) (before mid taken : Met) (Took TookMid : List Pair → Type 0) (far : RunsSoFar d old now level lead past before mid Took TookMid)
+module _ (d : Draw) (old now seen : SlotsState) (level : ℕ) (lead : Lead) (past : ℕ) (before mid taken : Progress) (Took TookMid : List Pair → Type 0) (far : RunsSoFar d old now level lead past before mid Took TookMid)
     (l : Label) (is : l ≡ label_of level lead past) where
   pub runs_not_looked : (fault : Fault) → Looked mid taken → FindsPage d now seen l (Err fault) → WalksGroup d old seen level lead before taken Took TookMid (Err fault)
   runs_not_looked fault looked finds = record {
@@ -172,7 +171,7 @@ module _ (d : Draw) (old now seen : SlotsState) (level : ℕ) (lead : Lead) (pas
           let all = pages ++ (so_far.met.runs ++ so_far.met.pages) in
           let apart = new_page d m level lead past before mid Took TookMid so_far page there named pages comes in
           let few = few_in_map m (all ++ page ∷ []) holds.pages (distinct_both all (page ∷ []) met.distinct ((λ q held same. none_in q held), tt) apart)
-              (λ p held. there_by m all met there p (Contains-append_cases all (page ∷ []) p held)) in
+          (λ p held. there_by m all met there p (Contains-append_cases all (page ∷ []) p held)) in
           let count = met.count in
           absurd (omega (arith, few, length-append all (page ∷ []), count, none));
     }
@@ -181,7 +180,7 @@ module _ (d : Draw) (old now seen : SlotsState) (level : ℕ) (lead : Lead) (pas
         there_by m all met there p (inl held) = met.there p held
         there_by m all met there p (inr held) = subst (InMap m) (only_one page p held) there
 
-    module _ (after : Met) (new : SlotsState) (TookNow : List Pair → Type 0) (took : Taken mid taken) where
+    module _ (after : Progress) (new : SlotsState) (TookNow : List Pair → Type 0) (took : Taken mid taken) where
       page_level : page.label.level ≡ level
       page_level = ap (λ (k : Label). k.level) named
 

@@ -1,42 +1,31 @@
 -- The walk over the runs of a group, run by run.
-use Rattle.std.proofs.Common.{◌≡◌, ℕ, zero, suc, ◌+◌, ◌-◌, ◌<◌, ◌≤◌, ◌⊎◌, inl, inr, Bool, true, false, List, [], ◌∷◌, ◌++◌, Option, Some, None, Result, Ok, Err, length, map, refl, sym, ap, subst, ◌∙◌, arith, length-append}
+use Rattle.std.proofs.Common.{◌≡◌, ℕ, ◌+◌, ◌≤◌, ◌⊎◌, inl, inr, List, [], ◌∷◌, ◌++◌, Option, Ok, length, map, sym, ap, subst, ◌∙◌, arith, length-append}
 use Rattle.std.specs.List.{Contains}
-use Rattle.std.specs.FinMap as maps
-use Rattle.std.specs.declared.cmp.Ordering.TheVariants.{Less}
-use Rattle.std.proofs.Math.Nat.{eq-zero-or-pos, eq-or-lt_of_le}
-use Rattle.std.proofs.lemmas.List.Elements.{Contains-append_left, Contains-append_right, Contains-append_cases}
-use Rattle.std.proofs.lemmas.Option.{same_Some, none-some}
-use Rattle.store_model.specs.Paths.{key_cmp}
-use Rattle.store_model.specs.Labels.{Lead, Label, label_bytes}
-use Rattle.store_model.specs.Labels.Lead.{Start, Leader}
+use Rattle.std.proofs.lemmas.List.Elements.{Contains-append_cases}
+use Rattle.std.proofs.lemmas.Option.{same_Some}
+use Rattle.store_model.specs.Labels.{Lead, Label}
+use Rattle.store_model.specs.Labels.Lead.{Start}
 use Rattle.store_model.specs.Pairs.{Pair}
 use Rattle.store_model.specs.Draws.{Draw}
-use Rattle.store_model.specs.Pages.{Cell, Page, IsPage, page_room}
+use Rattle.store_model.specs.Pages.{Cell, Page, page_room}
 use Rattle.store_model.specs.PageMaps.{PageMap, page_at, HoldsPages}
-use Rattle.store_model.proofs.ListsLemmasOrder.{held_first}
-use Rattle.store_base.specs.declared.store_fault.Fault.{Fault}
 use Rattle.store_base.specs.SlotsState.{SlotsState, IsObservable}
-use Rattle.store_base.proofs.SlotsCalls.{IsObservable-later}
-use Rattle.layout_conditions.specs.Pages.{KeysRise, AreRunOf, LeadsGroup, HasCell, HasKey, FollowsFull, IsLed}
+use Rattle.layout_conditions.specs.Pages.{KeysRise}
 use Rattle.skip_groups.specs.Groups.{label_of}
-use Rattle.group_walk.specs.declared.met.Met.{Met}
-use Rattle.group_walk.specs.Lookups.{ReadsOnly, FindsPage}
-use Rattle.group_walk.specs.Streams.{HasKeyIn, IsAbove, IsReached, GoesOn}
-use Rattle.group_walk.specs.Walked.{InMap, AreDistinct, IsPassed, IsAhead, IsStart, LeadsOn, IsNextRun, MeetWalk, Walked, Opened, AreMetOf, ComesTo, ComesToCells}
-use Rattle.group_walk.specs.Walks.{HandsOn, pair_of, leader_cells, IsWalked, AreCellsWalked, IsPageWalked, IsGroupWalked, RefutesGroup, WalksCells, WalksGroup}
-use Rattle.group_walk.proofs.LookupLemmas.{reads_none, reads_then, reads_value, reads_fault}
-use Rattle.group_walk.proofs.KeyOrder.{none_in, only_one, key_trans, keys_below, goes_nowhere, goes_on_both, rise_behind, in_of}
+use Rattle.label_index.specs.Lookups.{ReadsOnly}
+use Rattle.group_walk.specs.Streams.{GoesOn, Progress}
+use Rattle.group_walk.specs.Walked.{InMap, LeadsOn, Walked, Opened, AreMetOf, ComesTo}
+use Rattle.group_walk.specs.Walks.{HandsOn, pair_of, IsPageWalked}
+use Rattle.label_index.proofs.Reading.{reads_none}
+use Rattle.group_walk.proofs.KeyOrder.{none_in, only_one, keys_below, goes_nowhere, goes_on_both, rise_behind}
 use Rattle.group_walk.proofs.MetPages.{met_none, met_both, distinct_both}
-use Rattle.group_walk.proofs.MetGroups.{label_is, first_cell, opened_none, opened_more}
-use Rattle.group_walk.proofs.MetWhole.{met_group}
-use Rattle.group_walk.proofs.KeysBelow.{stream_below}
-use Rattle.group_walk.proofs.Counts.{few_in_map}
-use Rattle.group_walk.proofs.CellSteps.{above_by, passed_on, passed_in, met_of_both, apart_behind, valid_in, still_holds}
-use Rattle.group_walk.proofs.Handing.{hands_none, hands_both, handed_none, handed_both}
+use Rattle.group_walk.proofs.MetGroups.{opened_none, opened_more}
+use Rattle.group_walk.proofs.CellSteps.{met_of_both, apart_behind}
+use Rattle.group_walk.proofs.Handing.{hands_none, handed_none, handed_both}
 
 -- ---- the runs so far
 
-pub record RunsMet (d : Draw) (m : PageMap) (level : ℕ) (lead : Lead) (past : ℕ) (before after : Met) (Took TookNow : List Pair → Type 0) : Type 0 where
+pub record RunsMet (d : Draw) (m : PageMap) (level : ℕ) (lead : Lead) (past : ℕ) (before after : Progress) (Took TookNow : List Pair → Type 0) : Type 0 where
   pub runs : List Page
   pub cells : List Cell
   pub pages : List Page
@@ -48,18 +37,18 @@ pub record RunsMet (d : Draw) (m : PageMap) (level : ℕ) (lead : Lead) (past : 
   pub left : after.left + (length runs + length pages) ≡ before.left
   pub handed_on : (pairs : List Pair) → Took pairs → TookNow (pairs ++ map pair_of stream)
 
-pub record FullRunsMet (d : Draw) (m : PageMap) (level : ℕ) (lead : Lead) (past : ℕ) (before after : Met) (Took TookNow : List Pair → Type 0) : Type 0 where
+pub record FullRunsMet (d : Draw) (m : PageMap) (level : ℕ) (lead : Lead) (past : ℕ) (before after : Progress) (Took TookNow : List Pair → Type 0) : Type 0 where
   pub met : RunsMet d m level lead past before after Took TookNow
   pub full : (page : Page) → Contains met.runs page → length page.cells ≡ page_room page.label.level
 
 -- the first runs of a group were walked over, so many, and are full
-pub record RunsSoFar (d : Draw) (old now : SlotsState) (level : ℕ) (lead : Lead) (past : ℕ) (before after : Met) (Took TookNow : List Pair → Type 0) : Type 0 where
+pub record RunsSoFar (d : Draw) (old now : SlotsState) (level : ℕ) (lead : Lead) (past : ℕ) (before after : Progress) (Took TookNow : List Pair → Type 0) : Type 0 where
   pub reads : ReadsOnly {T = Unit {0}} old now (Ok tt)
   pub fewer : after.left + past ≤ before.left
   pub handed : HandsOn Took TookNow
   pub walked : (m : PageMap) → IsObservable old → HoldsPages d old.slots m → LeadsOn d level lead → FullRunsMet d m level lead past before after Took TookNow
 
-pub runs_begin : (d : Draw) (state : SlotsState) (level : ℕ) (lead : Lead) (met : Met) (Took : List Pair → Type 0) → RunsSoFar d state state level lead 0 met met Took Took
+pub runs_begin : (d : Draw) (state : SlotsState) (level : ℕ) (lead : Lead) (met : Progress) (Took : List Pair → Type 0) → RunsSoFar d state state level lead 0 met met Took Took
 runs_begin d state level lead met Took = record {
   reads = reads_none state tt;
   fewer = omega arith;
@@ -85,7 +74,7 @@ runs_begin d state level lead met Took = record {
 pub one_in_map : (m : PageMap) (p q : Page) → InMap m p → InMap m q → p.label ≡ q.label → p ≡ q
 one_in_map m p q there other same = same_Some p q (sym there ∙ ap (page_at m) same ∙ other)
 
-module _ (d : Draw) (m : PageMap) (level : ℕ) (lead : Lead) (past : ℕ) (before mid : Met) (Took TookMid : List Pair → Type 0) (far : FullRunsMet d m level lead past before mid Took TookMid) where
+module _ (d : Draw) (m : PageMap) (level : ℕ) (lead : Lead) (past : ℕ) (before mid : Progress) (Took TookMid : List Pair → Type 0) (far : FullRunsMet d m level lead past before mid Took TookMid) where
   module _ (page : Page) (there : InMap m page) (named : page.label ≡ label_of level lead past) where
     level_is : page.label.level ≡ level
     level_is = ap (λ (l : Label). l.level) named
@@ -94,7 +83,7 @@ module _ (d : Draw) (m : PageMap) (level : ℕ) (lead : Lead) (past : ℕ) (befo
     index_is = ap (λ (l : Label). l.index) named
 
     -- one more run was walked over
-    pub runs_grown : (taken after : Met) (TookNow : List Pair → Type 0) → taken.left + 1 ≡ mid.left → taken.last ≡ mid.last → IsPageWalked d m page taken after TookMid TookNow
+    pub runs_grown : (taken after : Progress) (TookNow : List Pair → Type 0) → taken.left + 1 ≡ mid.left → taken.last ≡ mid.last → IsPageWalked d m page taken after TookMid TookNow
         → (grown : RunsMet d m level lead (past + 1) before after Took TookNow) × ((p : Page) → Contains grown.runs p → Contains far.met.runs p ⊎ Contains (page ∷ []) p)
     runs_grown taken after TookNow left last walk =
         let met = far.met in
@@ -102,19 +91,21 @@ module _ (d : Draw) (m : PageMap) (level : ℕ) (lead : Lead) (past : ℕ) (befo
         let on : GoesOn mid.last below.stream after.last = subst (λ (o : Option (List ℕ)). GoesOn o below.stream after.last) last below.goes_on in
         let rise = rise_behind before.last mid.last after.last met.stream below.stream met.goes_on on in
         let walked : Walked d (InMap m) level page.cells below.pages below.stream = subst (λ (n : ℕ). Walked d (InMap m) n page.cells below.pages below.stream) level_is below.walked in
-        let cells_rise : KeysRise met.cells page.cells = λ a b in_a in_b. keys_below met.stream below.stream a.key b.key rise (met.walked.own_keys a in_a) (walked.own_keys b in_b) in
-        (record {
-          runs = met.runs ++ page ∷ [];
-          cells = met.cells ++ page.cells;
-          pages = met.pages ++ below.pages;
-          stream = met.stream ++ below.stream;
-          opened = opened_more d (InMap m) level lead past met.runs met.cells page met.opened there named walk.run far.full cells_rise;
-          walked = met_both d (InMap m) level met.cells page.cells met.pages below.pages met.stream below.stream met.walked walked rise (λ p q in2 start in1. absurd (walk.cells.keyed p in2 start));
-          keyed = λ p held start. keyed_by below.pages p start walk.cells.keyed (Contains-append_cases met.pages below.pages p held);
-          goes_on = goes_on_both before.last mid.last after.last met.stream below.stream met.goes_on on;
-          left = let first = met.left in let then = below.left in omega (arith, length-append met.runs (page ∷ []), length-append met.pages below.pages, first, then, left);
-          handed_on = λ pairs took. handed_both TookNow pairs met.stream below.stream (below.handed_on _ (met.handed_on pairs took));
-        }, λ p held. Contains-append_cases met.runs (page ∷ []) p held)
+        let cells_rise : KeysRise met.cells page.cells = λ a b in_a in_b. keys_below met.stream below.stream a.key b.key rise (met.walked.own_keys a in_a) (walked.own_keys b in_b) in (
+          record {
+            runs = met.runs ++ page ∷ [];
+            cells = met.cells ++ page.cells;
+            pages = met.pages ++ below.pages;
+            stream = met.stream ++ below.stream;
+            opened = opened_more d (InMap m) level lead past met.runs met.cells page met.opened there named walk.run far.full cells_rise;
+            walked = met_both d (InMap m) level met.cells page.cells met.pages below.pages met.stream below.stream met.walked walked rise (λ p q in2 start in1. absurd (walk.cells.keyed p in2 start));
+            keyed = λ p held start. keyed_by below.pages p start walk.cells.keyed (Contains-append_cases met.pages below.pages p held);
+            goes_on = goes_on_both before.last mid.last after.last met.stream below.stream met.goes_on on;
+            left = let first = met.left in let then = below.left in omega (arith, length-append met.runs (page ∷ []), length-append met.pages below.pages, first, then, left);
+            handed_on = λ pairs took. handed_both TookNow pairs met.stream below.stream (below.handed_on _ (met.handed_on pairs took));
+          },
+          λ p held. Contains-append_cases met.runs (page ∷ []) p held,
+        )
       where
         keyed_by : (pages : List Page) (p : Page) → p.label.lead ≡ Start → ((q : Page) → Contains pages q → q.label.lead ≡ Start → ⊥) → Contains far.met.pages p ⊎ Contains pages p → ⊥
         keyed_by pages p start keyed (inl held) = far.met.keyed p held start

@@ -1,25 +1,23 @@
 -- Cells that were met, and the runs of a group.
-use Rattle.std.proofs.Common.{◌≡◌, ℕ, zero, suc, ◌+◌, ◌-◌, ◌<◌, ◌≤◌, ◌⊎◌, inl, inr, List, [], ◌∷◌, ◌++◌, length, refl, sym, ap, subst, ◌∙◌, arith}
+use Rattle.std.proofs.Common.{◌≡◌, ℕ, ◌+◌, ◌-◌, ◌<◌, ◌⊎◌, inl, inr, List, [], ◌∷◌, ◌++◌, length, refl, sym, ap, subst, ◌∙◌, arith}
 use Rattle.std.proofs.Math.Nat.{eq-or-lt_of_le}
 use Rattle.std.specs.Prelude.{None}
-use Rattle.std.specs.List.{Contains, AllByRecursion}
+use Rattle.std.specs.List.{Contains}
 use Rattle.std.specs.declared.cmp.Ordering.TheVariants.{Less}
 use Rattle.std.proofs.lemmas.List.Elements.{Contains-append_left, Contains-append_right, Contains-append_cases}
-use Rattle.store_model.specs.Paths.{key_cmp}
 use Rattle.store_model.specs.Labels.{Lead, Label}
 use Rattle.store_model.specs.Labels.Lead.{Start, Leader}
 use Rattle.store_model.specs.Draws.{Draw}
 use Rattle.store_model.specs.Pages.{Cell, Page, page_room}
-use Rattle.store_model.proofs.ListsLemmas.{rising_nil, rising_one}
-use Rattle.store_model.proofs.ListsLemmasOrder.{held_cases, held_first, held_later}
-use Rattle.layout_conditions.specs.Conditions.{AreRuns, AreGroups}
-use Rattle.layout_conditions.specs.Pages.{KeysRise, LeadsBefore, AreLedBy, AreRunOf, LeadsGroup, HasCell, HasKey, FollowsFull, IsLed}
+use Rattle.store_model.proofs.ListsLemmas.{rising_one}
+use Rattle.store_model.proofs.ListsLemmasOrder.{held_first}
+use Rattle.layout_conditions.specs.Pages.{KeysRise, LeadsBefore, AreLedBy, AreRunOf, LeadsGroup, HasCell, FollowsFull, IsLed}
 use Rattle.skip_groups.specs.Groups.{label_of}
 use Rattle.group_walk.specs.Streams.{HasKeyIn, cell_order}
-use Rattle.group_walk.specs.Walked.{AreDistinct, IsLeadIn, IsLedBy, IsNextRun, Walked, Opened}
+use Rattle.group_walk.specs.Walked.{IsLedBy, Walked, Opened}
 use Rattle.group_walk.specs.Walks.{leader_cells}
-use Rattle.group_walk.proofs.KeyOrder.{none_in, only_one, not_below_itself, in_more, in_of, in_one}
-use Rattle.group_walk.proofs.MetPages.{follows_more, leads_more, cell_more, key_more, led_more, distinct_both}
+use Rattle.group_walk.proofs.KeyOrder.{none_in, only_one, not_below_itself, in_of}
+use Rattle.group_walk.proofs.MetPages.{follows_more, distinct_both}
 
 -- ---- labels
 

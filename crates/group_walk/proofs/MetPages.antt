@@ -1,20 +1,17 @@
 -- Pages that were met, put behind others.
 use Rattle.std.proofs.Common.{◌≡◌, ℕ, ◌+◌, ◌<◌, ◌⊎◌, inl, inr, List, [], ◌∷◌, ◌++◌, length, refl, sym, ap, subst, ◌∙◌, arith}
 use Rattle.std.specs.List.{Contains}
-use Rattle.std.specs.declared.cmp.Ordering.TheVariants.{Less}
 use Rattle.std.proofs.lemmas.List.Elements.{Contains-append_left, Contains-append_right, Contains-append_cases}
-use Rattle.store_model.specs.Paths.{key_cmp}
 use Rattle.store_model.specs.Labels.{Lead, Label}
 use Rattle.store_model.specs.Labels.Lead.{Start, Leader}
 use Rattle.store_model.specs.Draws.{Draw}
 use Rattle.store_model.specs.Pages.{Cell, Page, page_room}
 use Rattle.store_model.proofs.ListsLemmas.{rising_nil}
-use Rattle.store_model.proofs.ListsLemmasOrder.{held_cases, held_first, held_later}
-use Rattle.layout_conditions.specs.Conditions.{AreRuns, AreGroups}
+use Rattle.store_model.proofs.ListsLemmasOrder.{held_first, held_later}
 use Rattle.layout_conditions.specs.Pages.{KeysRise, LeadsBefore, AreRunOf, LeadsGroup, HasCell, HasKey, FollowsFull, IsLed}
 use Rattle.group_walk.specs.Streams.{HasKeyIn, cell_order}
 use Rattle.group_walk.specs.Walked.{AreDistinct, IsLeadIn, IsLedBy, IsNextRun, Walked}
-use Rattle.group_walk.proofs.KeyOrder.{none_in, only_one, not_both, not_below_itself, in_more, in_left, in_right, in_of, lead_more, keys_below, rising_both}
+use Rattle.group_walk.proofs.KeyOrder.{none_in, not_both, not_below_itself, in_more, in_left, in_right, lead_more, keys_below, rising_both}
 
 -- ---- more pages
 

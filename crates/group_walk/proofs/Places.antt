@@ -1,5 +1,5 @@
 -- Which keys may stand in a run, cell by cell.
-use Rattle.std.proofs.Common.{◌≡◌, ℕ, zero, suc, ◌+◌, ◌<◌, ◌≤◌, ◌⊎◌, inl, inr, List, [], ◌∷◌, ◌++◌, Some, length, map, take, drop, slice_get, refl, sym, ap, subst, ◌∙◌, arith}
+use Rattle.std.proofs.Common.{◌≡◌, ℕ, zero, suc, ◌<◌, ◌≤◌, ◌⊎◌, inl, inr, List, [], ◌∷◌, ◌++◌, Some, length, take, drop, slice_get, refl, sym, ap, subst, ◌∙◌, arith}
 use Rattle.std.specs.List.{Contains, AllByRecursion}
 use Rattle.std.specs.List.Sorted.{IsStrictlySortedBy}
 use Rattle.std.specs.declared.cmp.Ordering.TheVariants.{Less}
@@ -13,7 +13,7 @@ use Rattle.store_model.specs.Draws.{Draw}
 use Rattle.store_model.specs.Pages.{Cell, Page, IsPage}
 use Rattle.store_model.proofs.ListsLemmas.{rising_from_map, rising_head, rising_tail}
 use Rattle.store_model.proofs.ListsLemmasOrder.{held_cases, held_first, held_all}
-use Rattle.layout_conditions.specs.Pages.{EndsOn, AreLedBy, AreRunOf}
+use Rattle.layout_conditions.specs.Pages.{EndsOn, AreRunOf}
 use Rattle.group_walk.specs.Streams.{cell_order}
 use Rattle.group_walk.specs.Walked.{LeadsOn, IsInPlace}
 use Rattle.group_walk.proofs.KeyOrder.{none_in}

@@ -1,14 +1,12 @@
 -- The walk over the groups that the start leads, level by level, and what it tells of the table.
 use Rattle.std.specs.Prelude.{IsTrue}
-use Rattle.std.proofs.Common.{◌≡◌, ◌↔◌, ℕ, zero, suc, ◌+◌, ◌-◌, ◌<◌, ◌≤◌, ◌⊎◌, inl, inr, Bool, true, false, List, [], ◌∷◌, ◌++◌, Option, Some, None, Result, Ok, Err, length, map, refl, sym, ap, subst, ◌∙◌, arith, length-append}
+use Rattle.std.proofs.Common.{◌≡◌, ◌↔◌, ℕ, zero, suc, ◌+◌, ◌-◌, ◌<◌, ◌⊎◌, inl, inr, Bool, true, false, List, [], ◌++◌, Option, None, Ok, Err, length, map, refl, sym, ap, subst, ◌∙◌, arith, length-append}
 use Rattle.std.specs.Bool.{MatchBool}
 use Rattle.std.specs.List.{Contains}
 use Rattle.std.specs.FinMap as maps
-use Rattle.std.specs.declared.cmp.Ordering.TheVariants.{Less}
 use Rattle.std.proofs.Math.Nat.{eq-or-lt_of_le}
-use Rattle.std.proofs.lemmas.List.Elements.{Contains-append_left, Contains-append_right, Contains-append_cases}
+use Rattle.std.proofs.lemmas.List.Elements.{Contains-append_left, Contains-append_right}
 use Rattle.std.proofs.lemmas.List.Sorted.{length_permutation}
-use Rattle.std.proofs.lemmas.Option.{none-some}
 use Rattle.store_model.specs.Lists.{in_order}
 use Rattle.store_model.specs.Paths.{key_cmp}
 use Rattle.store_model.specs.Labels.{Lead, Label}
@@ -16,9 +14,9 @@ use Rattle.store_model.specs.Labels.Lead.{Start, Leader}
 use Rattle.store_model.specs.Pairs.{Pair}
 use Rattle.store_model.specs.Draws.{Draw, IsLawful}
 use Rattle.store_model.specs.Pages.{Cell, Page, page_room}
-use Rattle.store_model.specs.Placement.{Table, pages_in, page_cmp, IsOrderedTable}
+use Rattle.store_model.specs.Placement.{Table, pages_in, page_cmp}
 use Rattle.store_model.specs.Images.{slots_of}
-use Rattle.store_model.specs.PageMaps.{PageMap, page_at, map_of_pages, pages_of_map, HoldsPages, IsTableOf}
+use Rattle.store_model.specs.PageMaps.{PageMap, map_of_pages, HoldsPages, IsTableOf}
 use Rattle.store_model.proofs.ListsLemmas.{rising_to_map}
 use Rattle.store_model.proofs.ListsLemmasOrder.{IsPermutation-in_order}
 use Rattle.store_model.proofs.PlacementLemmasTables.{distinct_labels_of_table}
@@ -26,15 +24,14 @@ use Rattle.store_model.proofs.PageMapsLemmas.{pages_of_map-map_of_pages, len-pag
 use Rattle.store_base.specs.declared.store_fault.Fault.{Fault}
 use Rattle.store_base.specs.SlotsState.{SlotsState, IsObservable}
 use Rattle.store_base.proofs.SlotsCalls.{IsObservable-later}
-use Rattle.layout_conditions.specs.Conditions.{StandsIn, IsSound, AreRuns, AreGroups, AreMet}
-use Rattle.layout_conditions.specs.Pages.{LeadsGroup, HasCell, HasKey, FollowsFull, IsLed}
+use Rattle.layout_conditions.specs.Conditions.{StandsIn, IsSound}
+use Rattle.layout_conditions.specs.Pages.{HasCell, HasKey, IsLed}
 use Rattle.skip_groups.specs.Groups.{label_of}
-use Rattle.group_walk.specs.declared.met.Met.{Met}
-use Rattle.group_walk.specs.Lookups.{ReadsOnly}
-use Rattle.group_walk.specs.Streams.{HasKeyIn, IsAbove, GoesOn}
-use Rattle.group_walk.specs.Walked.{InMap, AreDistinct, IsPassed, IsLedBy, IsNextRun, MeetWalk, Walked, AreMetOf, ComesTo}
-use Rattle.group_walk.specs.Walks.{HandsOn, pair_of, leader_cells, IsGroupWalked, WalksGroup, HoldsList, WalksTable}
-use Rattle.group_walk.proofs.LookupLemmas.{reads_none, reads_then, reads_value, reads_fault}
+use Rattle.label_index.specs.Lookups.{ReadsOnly}
+use Rattle.group_walk.specs.Streams.{GoesOn, Progress}
+use Rattle.group_walk.specs.Walked.{InMap, IsLedBy, MeetWalk, Walked, ComesTo}
+use Rattle.group_walk.specs.Walks.{HandsOn, pair_of, IsGroupWalked, WalksGroup, HoldsList, WalksTable}
+use Rattle.label_index.proofs.Reading.{reads_none, reads_then, reads_value}
 use Rattle.group_walk.proofs.KeyOrder.{none_in, goes_nowhere, goes_on_both, rise_behind}
 use Rattle.group_walk.proofs.MetPages.{follows_more, leads_more, cell_more, key_more, led_more, met_none, met_both}
 use Rattle.group_walk.proofs.MetGroups.{label_is, met_raised}
@@ -46,7 +43,7 @@ use Rattle.group_walk.proofs.Handing.{hands_none, hands_both, handed_none, hande
 
 -- ---- the levels so far
 
-pub record LevelsMet (d : Draw) (m : PageMap) (level used : ℕ) (met : Met) (Took TookNow : List Pair → Type 0) : Type 0 where
+pub record LevelsMet (d : Draw) (m : PageMap) (level used : ℕ) (met : Progress) (Took TookNow : List Pair → Type 0) : Type 0 where
   pub pages : List Page
   pub stream : List Cell
   pub walked : Walked d (InMap m) level [] pages stream
@@ -56,12 +53,12 @@ pub record LevelsMet (d : Draw) (m : PageMap) (level used : ℕ) (met : Met) (To
   pub starts : (page : Page) → InMap m page → page.label.lead ≡ Start → page.label.index ≡ 0 → page.label.level < level → Contains pages page
 
 -- the groups of the start on the first so many levels were walked over, and all below them
-pub record LevelsSoFar (d : Draw) (old now : SlotsState) (level used : ℕ) (met : Met) (Took TookNow : List Pair → Type 0) : Type 0 where
+pub record LevelsSoFar (d : Draw) (old now : SlotsState) (level used : ℕ) (met : Progress) (Took TookNow : List Pair → Type 0) : Type 0 where
   pub reads : ReadsOnly {T = Unit {0}} old now (Ok tt)
   pub handed : HandsOn Took TookNow
   pub walked : (m : PageMap) → IsObservable old → HoldsPages d old.slots m → LevelsMet d m level used met Took TookNow
 
-pub levels_begin : (d : Draw) (state : SlotsState) (used : ℕ) (met : Met) (Took : List Pair → Type 0) → met.left ≡ used → met.last ≡ None → LevelsSoFar d state state 0 used met Took Took
+pub levels_begin : (d : Draw) (state : SlotsState) (used : ℕ) (met : Progress) (Took : List Pair → Type 0) → met.left ≡ used → met.last ≡ None → LevelsSoFar d state state 0 used met Took Took
 levels_begin d state used met Took left last = record {
   reads = reads_none state tt;
   handed = hands_none Took;
@@ -125,7 +122,7 @@ module _ (d : Draw) (m : PageMap) (meets : MeetWalk d (InMap m)) (height : ℕ) 
 
 -- ---- one more level
 
-module _ (d : Draw) (old now new : SlotsState) (level used : ℕ) (mid after : Met) (Took TookMid TookNow : List Pair → Type 0) (far : LevelsSoFar d old now level used mid Took TookMid) where
+module _ (d : Draw) (old now new : SlotsState) (level used : ℕ) (mid after : Progress) (Took TookMid TookNow : List Pair → Type 0) (far : LevelsSoFar d old now level used mid Took TookMid) where
   later : IsObservable old → IsObservable now
   later = IsObservable-later old now (Ok tt) far.reads.calls
 
@@ -199,7 +196,7 @@ module _ (d : Draw) (law : IsLawful d) (old : SlotsState) (table : Table) (slots
   found page (slot, held) = standing_found d old.slots the_map table slot page law is_table held
 
   -- what the walk met is a whole table's list
-  pub holds_list : (used : ℕ) (met : Met) (Took TookNow : List Pair → Type 0) → LevelsMet d the_map d.height used met Took TookNow → used ≡ length (pages_in table) → met.left ≡ 0 → HoldsList d table Took TookNow
+  pub holds_list : (used : ℕ) (met : Progress) (Took TookNow : List Pair → Type 0) → LevelsMet d the_map d.height used met Took TookNow → used ≡ length (pages_in table) → met.left ≡ 0 → HoldsList d table Took TookNow
   holds_list used met Took TookNow so_far count none = record {
     meets = meets_as d (Contains so_far.pages) (StandsIn table) (λ page held. stands page (w.there page held)) (λ page stand. all page (found page stand))
         (record { runs = w.runs; groups = w.groups; met = λ page held. led_by page (w.led page held) });
@@ -227,16 +224,16 @@ module _ (d : Draw) (law : IsLawful d) (old : SlotsState) (table : Table) (slots
       from_by cell (inr held) = absurd (none_in cell held.1)
 
   -- a page that was not met refutes the conditions
-  pub not_all : (used : ℕ) (met : Met) (Took TookNow : List Pair → Type 0) → LevelsMet d the_map d.height used met Took TookNow → used ≡ length (pages_in table) → (met.left ≡ 0 → ⊥) → MeetWalk d (StandsIn table) → ⊥
+  pub not_all : (used : ℕ) (met : Progress) (Took TookNow : List Pair → Type 0) → LevelsMet d the_map d.height used met Took TookNow → used ≡ length (pages_in table) → (met.left ≡ 0 → ⊥) → MeetWalk d (StandsIn table) → ⊥
   not_all used met Took TookNow so_far count some meets =
       let all = all_met d the_map (meets_as d (StandsIn table) (InMap the_map) found stands meets) d.height so_far.pages so_far.stream so_far.walked (λ page there. sound.levels page (stands page there)) so_far.starts in
       let many = many_in_map the_map so_far.pages (holds_table).pages all in
       let left = so_far.left in
       some (omega (arith, left, many, count, table_count))
 
-module _ (d : Draw) (law : IsLawful d) (old now : SlotsState) (level used : ℕ) (mid : Met) (Took TookMid : List Pair → Type 0) (far : LevelsSoFar d old now level used mid Took TookMid) where
+module _ (d : Draw) (law : IsLawful d) (old now : SlotsState) (level used : ℕ) (mid : Progress) (Took TookMid : List Pair → Type 0) (far : LevelsSoFar d old now level used mid Took TookMid) where
   -- what is below the start's group refutes the conditions
-  pub levels_refuted : (new : SlotsState) (after : Met) (TookNow : List Pair → Type 0) → WalksGroup d now new level Start mid after TookMid TookNow (Ok false) → WalksTable d old new used Took TookNow (Ok false)
+  pub levels_refuted : (new : SlotsState) (after : Progress) (TookNow : List Pair → Type 0) → WalksGroup d now new level Start mid after TookMid TookNow (Ok false) → WalksTable d old new used Took TookNow (Ok false)
   levels_refuted new after TookNow walks = record {
     reads = reads_then old now new tt (Ok false) far.reads walks.reads;
     handed = hands_both Took TookMid TookNow far.handed walks.handed;

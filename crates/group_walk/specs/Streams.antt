@@ -32,3 +32,11 @@ pub record GoesOn (last : Option (List ℕ)) (stream : List Cell) (now : Option 
   pub reached : (cell : Cell) → Contains stream cell → IsReached now cell.key
   pub kept : (key : List ℕ) → IsReached last key → IsReached now key
   pub from : (key : List ℕ) → now ≡ Some key → HasKeyIn stream key ⊎ (last ≡ Some key)
+
+-- how far a walk has come: how many pages it may still meet, and the last key of level 0
+pub record Progress : Type 0 where
+  pub left : ℕ
+  pub last : Option (List ℕ)
+
+abbrev pub progress : ℕ → Option (List ℕ) → Progress
+progress left last = record { left = left; last = last }

@@ -1,5 +1,5 @@
 -- What the calls of a walk do.
-use Rattle.std.specs.Prelude.{◌≡◌, ◌↔◌, ℕ, ◌+◌, ◌≤◌, List, [], ◌∷◌, ◌++◌, map, length, Bool, Option, None, Result, IfOk, unwrap_or, true, false}
+use Rattle.std.specs.Prelude.{◌≡◌, ◌↔◌, ℕ, ◌+◌, ◌≤◌, List, [], ◌∷◌, ◌++◌, map, length, Bool, None, Result, IfOk, unwrap_or}
 use Rattle.std.specs.Bool.{MatchBool}
 use Rattle.std.specs.List.{Contains}
 use Rattle.std.specs.List.Sorted.{IsStrictlySortedBy}
@@ -17,9 +17,8 @@ use Rattle.store_base.specs.SlotsState.{SlotsState, IsObservable}
 use Rattle.layout_conditions.specs.Conditions.{StandsIn, IsSound}
 use Rattle.layout_conditions.specs.Pages.{AreRunOf, HasCell}
 use Rattle.skip_groups.specs.Groups.{label_of}
-use Rattle.group_walk.specs.declared.met.Met.{Met}
-use Rattle.group_walk.specs.Lookups.{ReadsOnly}
-use Rattle.group_walk.specs.Streams.{GoesOn, IsAbove}
+use Rattle.label_index.specs.Lookups.{ReadsOnly}
+use Rattle.group_walk.specs.Streams.{GoesOn, IsAbove, Progress}
 use Rattle.group_walk.specs.Walked.{InMap, LeadsOn, MeetWalk, Walked, ComesTo, ComesToCell, ComesToCells}
 
 -- the pair of a cell of level 0
@@ -36,7 +35,7 @@ leader_cells Start = []
 leader_cells (Leader key) = record { key = key; value = None } ∷ []
 
 -- below these cells of a level all was met: what was taken are the pairs of level 0
-pub record IsWalked (d : Draw) (m : PageMap) (level : ℕ) (own : List Cell) (before after : Met) (Took TookNow : List Pair → Type 0) : Type 0 where
+pub record IsWalked (d : Draw) (m : PageMap) (level : ℕ) (own : List Cell) (before after : Progress) (Took TookNow : List Pair → Type 0) : Type 0 where
   pub pages : List Page
   pub stream : List Cell
   pub walked : Walked d (InMap m) level own pages stream
@@ -45,33 +44,33 @@ pub record IsWalked (d : Draw) (m : PageMap) (level : ℕ) (own : List Cell) (be
   pub handed_on : (pairs : List Pair) → Took pairs → TookNow (pairs ++ map pair_of stream)
 
 -- below the cells of a level all was met; the start leads none of it
-pub record AreCellsWalked (d : Draw) (m : PageMap) (level : ℕ) (own : List Cell) (before after : Met) (Took TookNow : List Pair → Type 0) : Type 0 where
+pub record AreCellsWalked (d : Draw) (m : PageMap) (level : ℕ) (own : List Cell) (before after : Progress) (Took TookNow : List Pair → Type 0) : Type 0 where
   pub below : IsWalked d m level own before after Took TookNow
   pub keyed : (page : Page) → Contains below.pages page → page.label.lead ≡ Start → ⊥
 
 -- the cells of a page were met, and all below them
-pub record IsPageWalked (d : Draw) (m : PageMap) (page : Page) (before after : Met) (Took TookNow : List Pair → Type 0) : Type 0 where
+pub record IsPageWalked (d : Draw) (m : PageMap) (page : Page) (before after : Progress) (Took TookNow : List Pair → Type 0) : Type 0 where
   pub cells : AreCellsWalked d m page.label.level page.cells before after Took TookNow
   pub run : AreRunOf d page.label.level page.label.lead page.label.index page.cells
 
 -- a group was met, and all below it
-pub record IsGroupWalked (d : Draw) (m : PageMap) (level : ℕ) (lead : Lead) (before after : Met) (Took TookNow : List Pair → Type 0) : Type 0 where
+pub record IsGroupWalked (d : Draw) (m : PageMap) (level : ℕ) (lead : Lead) (before after : Progress) (Took TookNow : List Pair → Type 0) : Type 0 where
   pub below : IsWalked d m (level + 1) (leader_cells lead) before after Took TookNow
   pub first : (page : Page) → InMap m page → page.label ≡ label_of level lead 0 → Contains below.pages page
   pub starts : (page : Page) → Contains below.pages page → page.label.lead ≡ Start → (lead ≡ Start) × (page.label.level ≡ level)
 
 -- wherever the walk comes to the group, the pages don't meet the conditions
-abbrev pub RefutesGroup : Draw → PageMap → ℕ → Lead → Met → Type 0
+abbrev pub RefutesGroup : Draw → PageMap → ℕ → Lead → Progress → Type 0
 RefutesGroup d m level lead before = (pages : List Page) → ComesTo d m level lead before.left before.last pages → MeetWalk d (InMap m) → ⊥
 
-abbrev pub RefutesCell : Draw → PageMap → ℕ → Cell → Met → Type 0
+abbrev pub RefutesCell : Draw → PageMap → ℕ → Cell → Progress → Type 0
 RefutesCell d m level cell before = (pages : List Page) → ComesToCell d m level cell before.left before.last pages → MeetWalk d (InMap m) → ⊥
 
-abbrev pub RefutesCells : Draw → PageMap → Page → Met → Type 0
+abbrev pub RefutesCells : Draw → PageMap → Page → Progress → Type 0
 RefutesCells d m page before = (pages : List Page) → ComesToCells d m page before.left before.last pages → MeetWalk d (InMap m) → ⊥
 
 -- a walk over the group that the lead leads on the level, and over all below it
-pub record WalksGroup (d : Draw) (old new : SlotsState) (level : ℕ) (lead : Lead) (before after : Met) (Took TookNow : List Pair → Type 0) (result : Result Bool Fault) : Type 0 where
+pub record WalksGroup (d : Draw) (old new : SlotsState) (level : ℕ) (lead : Lead) (before after : Progress) (Took TookNow : List Pair → Type 0) (result : Result Bool Fault) : Type 0 where
   pub reads : ReadsOnly old new result
   pub fewer : after.left ≤ before.left
   pub handed : HandsOn Took TookNow
@@ -79,7 +78,7 @@ pub record WalksGroup (d : Draw) (old new : SlotsState) (level : ℕ) (lead : Le
       → IfOk result (λ whole. MatchBool whole (IsGroupWalked d m level lead before after Took TookNow) (RefutesGroup d m level lead before))
 
 -- a walk over what is below a cell of a level, which the map has
-pub record WalksCell (d : Draw) (old new : SlotsState) (level : ℕ) (cell : Cell) (before after : Met) (Took TookNow : List Pair → Type 0) (result : Result Bool Fault) : Type 0 where
+pub record WalksCell (d : Draw) (old new : SlotsState) (level : ℕ) (cell : Cell) (before after : Progress) (Took TookNow : List Pair → Type 0) (result : Result Bool Fault) : Type 0 where
   pub reads : ReadsOnly old new result
   pub fewer : after.left ≤ before.left
   pub handed : HandsOn Took TookNow
@@ -87,7 +86,7 @@ pub record WalksCell (d : Draw) (old new : SlotsState) (level : ℕ) (cell : Cel
       → IfOk result (λ whole. MatchBool whole (AreCellsWalked d m level (cell ∷ []) before after Took TookNow) (RefutesCell d m level cell before))
 
 -- a walk over the cells of a page, and over all below them
-pub record WalksCells (d : Draw) (old new : SlotsState) (page : Page) (before after : Met) (Took TookNow : List Pair → Type 0) (result : Result Bool Fault) : Type 0 where
+pub record WalksCells (d : Draw) (old new : SlotsState) (page : Page) (before after : Progress) (Took TookNow : List Pair → Type 0) (result : Result Bool Fault) : Type 0 where
   pub reads : ReadsOnly old new result
   pub fewer : after.left ≤ before.left
   pub handed : HandsOn Took TookNow

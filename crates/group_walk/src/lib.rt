@@ -1,8 +1,9 @@
 //! The walk over the groups of pages that a table holds, from the start of each level down to level 0.
 #![tactic(auto)]
 
+mod guide;
 mod lookup;
-mod met;
+mod progress;
 mod sink;
 mod walk;
 

@@ -2,26 +2,29 @@
 
 ghost use Rattle.std.specs.Prelude.{◌≡◌, ◌↔◌, ◌⊎◌, ◌<◌, IsTrue};
 ghost use Rattle.store_base.specs.Leads.{model_lead};
+ghost use Rattle.label_index.specs.Indexes.{IsIndexOf};
 ghost use Rattle.group_walk.specs.Walked.{IsInPlace, IsStart};
-ghost use Rattle.group_walk.specs.Streams.{IsAbove};
+ghost use Rattle.group_walk.specs.Streams.{IsAbove, progress};
 ghost use Rattle.group_walk.specs.Walks.{WalksGroup, WalksCells, WalksCell, WalksTable};
 
+use crate::guide::Guide;
 use crate::lookup::look_up;
-use crate::met::Met;
+use crate::progress::Progress;
 use crate::sink::TakesPairs;
+use label_index::Entry;
 use node_pages::{Cell, Page};
-use seeded_draw::Draw;
+use seeded_draw::{Draw, Front};
 use skip_groups::{is_last, label_in_group};
 use store_base::{Fault, Key, Label, Lead, ReadSlots};
 
 /// Whether the key of cell `i` of a page belongs there: the first cell of a group that a key leads is the leader's, and
 /// every other key ends on the level of the page.
-fn is_in_place<W: Draw>(draw: &W, label: &Label, i: u32, key: &Key) -> bool
+fn is_in_place<W: Draw>(draw: &W, label: &Label, i: u32, key: &Key, front: &mut Front) -> bool
     ensures { IsTrue result ↔ IsInPlace (W.drawn draw.now) label.now.level label.now.lead label.now.index i key.now }
 {
     match label.lead {
         Lead::Key(leader) if label.index == 0 && i == 0 => leader == *key,
-        _ => draw.level(key) == label.level,
+        _ => draw.level_from(front, key) == label.level,
     }
 }
 
@@ -36,10 +39,17 @@ fn is_above(last: &Option<Key>, key: &Key) -> bool
 }
 
 /// Whether cell `i` of a page belongs there, behind the last key.
-fn is_next<W: Draw>(draw: &W, label: &Label, i: u32, cell: &Cell, last: &Option<Key>) -> bool
+fn is_next<W: Draw>(
+    draw: &W,
+    label: &Label,
+    i: u32,
+    cell: &Cell,
+    last: &Option<Key>,
+    front: &mut Front,
+) -> bool
     ensures { IsTrue result ↔ (IsInPlace (W.drawn draw.now) label.now.level label.now.lead label.now.index i cell.now.key × IsAbove last.now cell.now.key) }
 {
-    is_in_place(draw, label, i, &cell.key) && is_above(last, &cell.key)
+    is_in_place(draw, label, i, &cell.key, front) && is_above(last, &cell.key)
 }
 
 /// Whether a group may have so many runs: one that a key leads has some.
@@ -56,18 +66,19 @@ fn may_end(lead: &Lead, runs: u32) -> bool
 #[cycle(walk)]
 fn walk_cell<S: ReadSlots, W: Draw, P: TakesPairs>(
     slots: &mut S,
-    draw: &W,
+    guide: &Guide<'_, W>,
     level: u8,
     cell: &Cell,
-    met: &mut Met,
+    met: &mut Progress,
     sink: &mut P,
 ) -> Result<bool, Fault>
-    requires { (S.state slots.old).count ≡ (W.drawn draw.now).slots }
-    ensures call { WalksCell (W.drawn draw.now) (S.state slots.old) (S.state slots.new) level cell.now met.old met.new (P.took sink.old) (P.took sink.new) result }
+    requires count { (S.state slots.old).count ≡ (W.drawn guide.now.draw.now).slots }
+    requires index { IsIndexOf (S.state slots.old) guide.now.entries.now }
+    ensures call { WalksCell (W.drawn guide.now.draw.now) (S.state slots.old) (S.state slots.new) level cell.now (progress met.old.left met.old.last) (progress met.new.left met.new.last) (P.took sink.old) (P.took sink.new) result }
     ensures follows { S.follows slots.old slots.new }
 {
     if level > 0 {
-        return walk_group(slots, draw, level - 1, &Lead::Key(cell.key), met, sink);
+        return walk_group(slots, guide, level - 1, &Lead::Key(cell.key), met, sink);
     }
     let Some(value) = &cell.value else {
         return Ok(false);
@@ -81,22 +92,23 @@ fn walk_cell<S: ReadSlots, W: Draw, P: TakesPairs>(
 #[cycle(walk)]
 fn walk_cells<S: ReadSlots, W: Draw, P: TakesPairs>(
     slots: &mut S,
-    draw: &W,
+    guide: &Guide<'_, W>,
     page: &Page,
-    met: &mut Met,
+    met: &mut Progress,
     sink: &mut P,
 ) -> Result<bool, Fault>
-    requires { (S.state slots.old).count ≡ (W.drawn draw.now).slots }
-    ensures call { WalksCells (W.drawn draw.now) (S.state slots.old) (S.state slots.new) page.now met.old met.new (P.took sink.old) (P.took sink.new) result }
+    requires count { (S.state slots.old).count ≡ (W.drawn guide.now.draw.now).slots }
+    requires index { IsIndexOf (S.state slots.old) guide.now.entries.now }
+    ensures call { WalksCells (W.drawn guide.now.draw.now) (S.state slots.old) (S.state slots.new) page.now (progress met.old.left met.old.last) (progress met.new.left met.new.last) (P.took sink.old) (P.took sink.new) result }
     ensures follows { S.follows slots.old slots.new }
 {
     let label = page.label();
     for i in 0..page.len() {
         let cell = page.cell(i);
-        if !is_next(draw, &label, i, &cell, &met.last) {
+        if !is_next(guide.draw, &label, i, &cell, &met.last, &mut met.front) {
             return Ok(false);
         }
-        if !walk_cell(slots, draw, page.level(), &cell, met, sink)? {
+        if !walk_cell(slots, guide, page.level(), &cell, met, sink)? {
             return Ok(false);
         }
     }
@@ -108,27 +120,28 @@ fn walk_cells<S: ReadSlots, W: Draw, P: TakesPairs>(
 #[cycle(walk)]
 fn walk_group<S: ReadSlots, W: Draw, P: TakesPairs>(
     slots: &mut S,
-    draw: &W,
+    guide: &Guide<'_, W>,
     level: u8,
     lead: &Lead,
-    met: &mut Met,
+    met: &mut Progress,
     sink: &mut P,
 ) -> Result<bool, Fault>
-    requires { (S.state slots.old).count ≡ (W.drawn draw.now).slots }
-    ensures call { WalksGroup (W.drawn draw.now) (S.state slots.old) (S.state slots.new) level (model_lead lead.now) met.old met.new (P.took sink.old) (P.took sink.new) result }
+    requires count { (S.state slots.old).count ≡ (W.drawn guide.now.draw.now).slots }
+    requires index { IsIndexOf (S.state slots.old) guide.now.entries.now }
+    ensures call { WalksGroup (W.drawn guide.now.draw.now) (S.state slots.old) (S.state slots.new) level (model_lead lead.now) (progress met.old.left met.old.last) (progress met.new.left met.new.last) (P.took sink.old) (P.took sink.new) result }
     ensures follows { S.follows slots.old slots.new }
 {
     let mut index = 0;
     'runs: loop {
         let label = label_in_group(level, lead, index);
-        let Some(page) = look_up(slots, draw, &label, &mut met.next)? else {
+        let Some(page) = look_up(slots, guide, &label)? else {
             return Ok(may_end(lead, index));
         };
         if met.left == 0 {
             return Ok(false);
         }
         met.left -= 1;
-        if !walk_cells(slots, draw, &page, met, sink)? {
+        if !walk_cells(slots, guide, &page, met, sink)? {
             return Ok(false);
         }
         if is_last(level, &page) {
@@ -141,20 +154,24 @@ fn walk_group<S: ReadSlots, W: Draw, P: TakesPairs>(
 /// Whether the pages of a table, of which there are so many, are met one and all on the way down from the start of each
 /// level, and meet the conditions on the way; hands the pairs of level 0 on, in the order of their keys.
 ///
-/// There have to be as many slots as the draw's. A fault of the slots ends the call; it writes nothing.
+/// There have to be as many slots as the draw's, and the entries have to be an index of the pages in them. A fault of the
+/// slots ends the call; it writes nothing.
 pub fn walk_groups<S: ReadSlots, W: Draw, P: TakesPairs>(
     slots: &mut S,
     draw: &W,
+    entries: &[Entry],
     used: u32,
     sink: &mut P,
 ) -> Result<bool, Fault>
-    requires { (S.state slots.old).count ≡ (W.drawn draw.now).slots }
+    requires count { (S.state slots.old).count ≡ (W.drawn draw.now).slots }
+    requires index { IsIndexOf (S.state slots.old) entries.now }
     ensures call { WalksTable (W.drawn draw.now) (S.state slots.old) (S.state slots.new) used (P.took sink.old) (P.took sink.new) result }
     ensures follows { S.follows slots.old slots.new }
 {
-    let mut met = Met::none_of(used);
+    let mut met = Progress::none_of(used);
+    let guide = Guide { draw, entries };
     for level in 0..draw.height() {
-        if !walk_group(slots, draw, level, &Lead::Start, &mut met, sink)? {
+        if !walk_group(slots, &guide, level, &Lead::Start, &mut met, sink)? {
             return Ok(false);
         }
     }

@@ -1,5 +1,5 @@
 -- What a search for the contents of slots answers, by the calls that it makes.
-use Rattle.std.proofs.Common.{◌≡◌, ℕ, ◌*◌, ◌≤◌, List, [], map, length, Bool, true, false, Option, Some, None, MatchOption, Result, Ok, Err, IfOk, refl, sym, ap, subst, ◌∙◌, arith}
+use Rattle.std.proofs.Common.{◌≡◌, ℕ, ◌≤◌, List, [], map, length, Bool, true, false, Option, Some, None, MatchOption, Ok, sym, subst, ◌∙◌, arith}
 use Rattle.std.specs.Bool.{MatchBool}
 use Rattle.store_model.specs.Parameters.{Parameters, IsParameters}
 use Rattle.store_model.specs.Pairs.{Pair}
@@ -11,14 +11,14 @@ use Rattle.tree_reader.specs.declared.counts.Counts.{Counts}
 use Rattle.tree_reader.specs.Fronts.{AreOfTree}
 use Rattle.tree_reader.specs.ReaderCalls.{AreCounted}
 use Rattle.table_order.specs.OrderCalls.{IsOrderedBelow, Checks}
-use Rattle.group_walk.specs.Lookups.{ReadsOnly}
+use Rattle.label_index.specs.Lookups.{ReadsOnly}
 use Rattle.group_walk.specs.Walked.{MeetWalk}
 use Rattle.group_walk.specs.Walks.{pair_of, WalksTable, HoldsList}
 use Rattle.layout_conditions.specs.Conditions.{StandsIn, MeetConditions}
 use Rattle.layout_conditions.proofs.LawLemmas.{conditions_tell}
 use Rattle.image_check.specs.declared.contents.Contents.{Contents}
 use Rattle.image_check.specs.Orders.{FindsOrder}
-use Rattle.image_check.specs.SlotCalls.{FindsContents, IsFoundIn}
+use Rattle.image_check.specs.SlotCalls.{FindsContents}
 use Rattle.image_check.proofs.Found.{sound_of, order_of, met_walks, met_taken, meets as met, found_count, few_taken}
 use Rattle.image_check.proofs.Searches.{reads_answered, reads_then}
 

@@ -1,5 +1,5 @@
 -- What is found in slots by their order, by a walk over their groups, and by the pairs that it comes to.
-use Rattle.std.proofs.Common.{◌≡◌, ℕ, ◌*◌, ◌<◌, ◌≤◌, List, [], ◌∷◌, ◌++◌, map, length, Option, Some, None, unwrap_or, refl, sym, ap, subst, ◌∙◌, arith, cond, true, false, ◌==◌, nat_eq}
+use Rattle.std.proofs.Common.{◌≡◌, ℕ, ◌*◌, ◌≤◌, List, [], ◌∷◌, map, length, Option, Some, None, unwrap_or, refl, sym, ap, subst, ◌∙◌, arith, cond, true, false, ◌==◌}
 use Rattle.std.specs.Cmp.Lexicographic.{nat_list_cmp_total}
 use Rattle.std.specs.declared.cmp.Ordering.TheVariants.{Less}
 use Rattle.std.proofs.lemmas.Cmp.{on_total}
@@ -10,15 +10,15 @@ use Rattle.std.proofs.lemmas.List.Concat.{length-flat_map}
 use Rattle.std.proofs.lemmas.List.Elements.{All-from_recursion, All-contains}
 use Rattle.std.proofs.lemmas.List.Sorted.{length_permutation}
 use Rattle.std.proofs.lemmas.List.Sums.{sum_by-le}
-use Rattle.store_model.specs.Parameters.{Parameters, IsParameters, slots_limit}
+use Rattle.store_model.specs.Parameters.{Parameters, IsParameters}
 use Rattle.store_model.specs.Paths.{key_cmp}
 use Rattle.store_model.specs.Trees.{Tree, IsTree}
 use Rattle.store_model.specs.Pairs.{Pair, pairs}
 use Rattle.store_model.specs.Draws.{draw_of}
-use Rattle.store_model.specs.Pages.{Cell, Page, IsCell, IsCellValue, IsPage, cell_on, page_room, pages, page_count, Fits}
-use Rattle.store_model.specs.Placement.{Table, pages_in, place, IsOrderedTable}
+use Rattle.store_model.specs.Pages.{Cell, Page, IsCell, IsCellValue, IsPage, cell_on, page_room, pages, page_count}
+use Rattle.store_model.specs.Placement.{Table, pages_in}
 use Rattle.store_model.specs.Images.{slots_of}
-use Rattle.store_model.proofs.ListsLemmas.{all_weaker, rising_map}
+use Rattle.store_model.proofs.ListsLemmas.{all_weaker}
 use Rattle.store_model.proofs.ListsLemmasOrder.{same_rising}
 use Rattle.store_model.proofs.PairsLemmas.{pair_cmp, rising_pairs}
 use Rattle.store_model.proofs.PagesLemmasOrder.{cell_cmp}

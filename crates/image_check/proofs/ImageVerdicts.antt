@@ -20,7 +20,7 @@ use Rattle.layout_conditions.specs.Conditions.{MeetConditions}
 use Rattle.layout_conditions.proofs.LawLemmas.{layout_meets, conditions_tell}
 use Rattle.image_check.specs.Contents.{AreContents}
 use Rattle.image_check.specs.Verdicts.{clean_of, IsImageWith, HasParameters, IsDamaged, IsVerdict}
-use Rattle.image_check.specs.SlotCalls.{AreFound, FindsContents, clean_on, contents_in, verdict_in}
+use Rattle.image_check.specs.SlotCalls.{AreFound, FindsContents, contents_in, verdict_in}
 use Rattle.image_check.specs.ImageCalls.{HasImage, IsFoundOn, FindsImage, ChecksImage}
 use Rattle.image_check.proofs.Images.{slots_in, represents_tree, represented_layout}
 use Rattle.image_check.proofs.Layouts.{verdict_on}

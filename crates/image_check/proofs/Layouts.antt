@@ -1,5 +1,5 @@
 -- Layouts that are found in slots: the verdict on them is that on their tree.
-use Rattle.std.proofs.Common.{◌≡◌, ℕ, List, refl, ap, ◌∙◌}
+use Rattle.std.proofs.Common.{◌≡◌, ℕ, List, ap, ◌∙◌}
 use Rattle.store_model.specs.Parameters.{Parameters, IsParameters}
 use Rattle.store_model.specs.Trees.{Tree}
 use Rattle.layout_conditions.specs.Conditions.{MeetConditions}

@@ -1,11 +1,11 @@
 -- Searches for what slots hold, and the checks that stand on them.
-use Rattle.std.proofs.Common.{◌≡◌, ℕ, Option, Some, None, Result, Ok, Err, IfErr, refl, sym, ap, ◌∙◌}
+use Rattle.std.proofs.Common.{◌≡◌, Option, Some, None, Result, Ok, Err, IfErr, refl, ap, ◌∙◌}
 use Rattle.store_model.specs.Parameters.{Parameters}
 use Rattle.store_base.specs.declared.store_fault.Fault.{Fault}
 use Rattle.store_base.specs.declared.store_fault.Fault.TheVariants as causes
 use Rattle.store_base.specs.Faults.{disk_faults_after}
-use Rattle.store_base.specs.SlotsState.{SlotsState, IsObservable, HasCause, AreSlotCalls}
-use Rattle.group_walk.specs.Lookups.{ReadsOnly}
+use Rattle.store_base.specs.SlotsState.{SlotsState, HasCause}
+use Rattle.label_index.specs.Lookups.{ReadsOnly}
 use Rattle.image_check.specs.declared.contents.Contents.{Contents}
 use Rattle.image_check.specs.declared.verdict.Verdict.TheVariants as verdicts
 use Rattle.image_check.specs.SlotCalls.{FindsContents, ChecksSlots, clean_on, contents_in, verdict_in}

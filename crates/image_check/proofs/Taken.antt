@@ -1,8 +1,8 @@
 -- Pairs that are taken one after another by a reader that may refuse one.
-use Rattle.std.proofs.Common.{◌≡◌, ℕ, ◌+◌, ◌<◌, ◌≤◌, List, [], ◌∷◌, ◌++◌, length, Bool, true, false, not, IsTrue, refl, sym, ap, subst, ◌∙◌, arith, append_assoc, append-nil, length-append}
-use Rattle.std.specs.Bool.{MatchBool, OnTrue, OnFalse}
+use Rattle.std.proofs.Common.{◌≡◌, ◌≤◌, List, [], ◌∷◌, ◌++◌, length, Bool, true, false, not, refl, sym, ap, subst, ◌∙◌, arith, append_assoc, append-nil, length-append}
+use Rattle.std.specs.Bool.{MatchBool, OnFalse}
 use Rattle.store_model.specs.Parameters.{Parameters}
-use Rattle.store_model.specs.Pairs.{Pair, pairs}
+use Rattle.store_model.specs.Pairs.{Pair}
 use Rattle.tree_pairs.specs.TreeCalls.{pairs_limit}
 use Rattle.tree_reader.specs.declared.counts.Counts.{Counts}
 use Rattle.tree_reader.specs.declared.reader.TreeReader.{TreeReader}

@@ -1,5 +1,5 @@
 -- Which pairs were taken, by a reader that may have refused one of them.
-use Rattle.std.specs.Prelude.{◌≡◌, ℕ, ◌≤◌, List, ◌++◌, length, Option, Some, None, MatchOption}
+use Rattle.std.specs.Prelude.{◌≡◌, ◌≤◌, List, ◌++◌, length, Option, MatchOption}
 use Rattle.std.specs.Bool.{MatchBool}
 use Rattle.store_model.specs.Parameters.{Parameters}
 use Rattle.store_model.specs.Pairs.{Pair}

@@ -19,5 +19,5 @@ pub use fault::{ApplyFault, AttachFault};
 pub use header::read_params;
 pub use image::{check, find_image};
 pub use slots::{check_slots, find_contents};
-pub use verdict::Verdict;
 pub use tree_reader::Counts;
+pub use verdict::Verdict;

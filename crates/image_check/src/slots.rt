@@ -1,7 +1,8 @@
 //! The check of slots.
 
-ghost use Rattle.std.specs.Prelude.{◌≡◌, ◌≤◌, ◌<◌, ℕ, Some, None};
+ghost use Rattle.std.specs.Prelude.{◌≡◌, ◌≤◌, ◌<◌, ℕ, Some, None, length, take, IfOk, IfSome};
 ghost use Rattle.seeded_draw.specs.AnyDrawn.{any_draw};
+ghost use Rattle.label_index.specs.Indexes.{IsIndexOf};
 ghost use Rattle.image_check.specs.SlotCalls.{FindsContents, ChecksSlots};
 ghost use Rattle.image_check.specs.Orders.{FindsOrder};
 
@@ -9,6 +10,7 @@ use crate::contents::Contents;
 use crate::pairs::TreePairs;
 use crate::verdict::{Verdict, contents_of, verdict_of};
 use group_walk::walk_groups;
+use label_index::Entry;
 use ordered_table::Steps;
 use seeded_draw::AnyDraw;
 use std::marker::Brand;
@@ -21,6 +23,7 @@ fn count_by<S: ReadSlots, L: Ledger>(
     slots: &mut S,
     draw: &AnyDraw,
     height: u8,
+    entries: &mut [Entry],
     blank: Blank,
 ) -> Result<Option<u32>, Fault>
     requires name { blank.name ≡ L.name }
@@ -28,25 +31,32 @@ fn count_by<S: ReadSlots, L: Ledger>(
     requires some { 0 < L.parts }
     requires count { (S.state slots.old).count ≡ (any_draw draw.now).slots }
     requires most { (any_draw draw.now).slots ≤ MAX_SLOTS }
+    requires room { (any_draw draw.now).slots ≤ length entries.old }
     ensures call { FindsOrder (any_draw draw.now) height (S.state slots.old) (S.state slots.new) result }
+    ensures index { IfOk result (λ found. IfSome found (λ used. IsIndexOf (S.state slots.old) (take used entries.new))) }
     ensures follows { S.follows slots.old slots.new }
 {
-    check_order(slots, draw, height, &mut Steps::<L>::new(blank))
+    check_order(slots, draw, height, entries, &mut Steps::<L>::new(blank))
 }
 
 /// How many pages slots hold that are a table in order, with pages of levels below the height; `None` exactly where they
-/// are not. A fault of the slots is handed on.
+/// are not. Where it counts pages it leaves an index of them in the first entries, one for each page.
+///
+/// There has to be an entry for each slot at least. A fault of the slots is handed on.
 fn count_pages<S: ReadSlots>(
     slots: &mut S,
     draw: &AnyDraw,
     height: u8,
+    entries: &mut [Entry],
 ) -> Result<Option<u32>, Fault>
     requires count { (S.state slots.old).count ≡ (any_draw draw.now).slots }
     requires most { (any_draw draw.now).slots ≤ MAX_SLOTS }
+    requires room { (any_draw draw.now).slots ≤ length entries.old }
     ensures call { FindsOrder (any_draw draw.now) height (S.state slots.old) (S.state slots.new) result }
+    ensures index { IfOk result (λ found. IfSome found (λ used. IsIndexOf (S.state slots.old) (take used entries.new))) }
     ensures follows { S.follows slots.old slots.new }
 {
-    count_by::<S, Brand>(slots, draw, height, Blank::new(1))
+    count_by::<S, Brand>(slots, draw, height, entries, Blank::new(1))
 }
 
 /// What slots hold: `None` exactly where they are the layout of no tree. There have to be as many slots as the
@@ -60,11 +70,12 @@ pub fn find_contents<S: ReadSlots>(
     ensures follows { S.follows slots.old slots.new }
 {
     let draw = AnyDraw::new(params);
-    let Some(used) = count_pages(slots, &draw, params.height())? else {
+    let mut entries = [Entry::BLANK; MAX_SLOTS as usize];
+    let Some(used) = count_pages(slots, &draw, params.height(), &mut entries)? else {
         return Ok(None);
     };
     let mut pairs = TreePairs::new();
-    if !walk_groups(slots, &draw, used, &mut pairs)? {
+    if !walk_groups(slots, &draw, &entries[..used as usize], used, &mut pairs)? {
         return Ok(None);
     }
     let Some(counts) = pairs.counts() else {

@@ -9,6 +9,7 @@ mod journals;
 mod layouts;
 mod listed_pages;
 mod moves;
+mod orders;
 mod page_slots;
 mod paths;
 mod scripts;

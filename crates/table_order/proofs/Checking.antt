@@ -112,7 +112,7 @@ visited_seen d height round old mid new before steps reach place run used at byt
     read_table round.count old.slots table (slot_at round place) bytes is (omega (arith, at_is, below)) (visited_bytes d height round old mid new before steps reach place run used at bytes v observable)
 
 -- what is told of the slots before a place, and of the one there, is told of one more
-one_more : (P : ℕ → Type 0) (place : ℕ) → ((at : ℕ) → at < place → P at) → P place → (at : ℕ) → at < place + 1 → P at
+pub one_more : (P : ℕ → Type 0) (place : ℕ) → ((at : ℕ) → at < place → P at) → P place → (at : ℕ) → at < place + 1 → P at
 one_more P place before here at below = by_place (cases_lt at place)
   where
     by_place : (at < place) ⊎ (place ≤ at) → P at

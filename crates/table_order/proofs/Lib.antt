@@ -3,4 +3,5 @@ pub mod Barring
 pub mod Passing
 pub mod Turning
 pub mod Checking
+pub mod Noting
 pub mod Ending

@@ -34,8 +34,8 @@ fn holds_less(slot: &Slot, wanted: &[u8; 130]) -> bool
     matches!(order_of(slot, wanted), Some(Ordering::Less))
 }
 
-/// Whether each slot on the way of a page holds a smaller label: from what place on they are known to, and `None` where
-/// one does not.
+/// Whether each slot on the way of a page holds a smaller label: from what place on they are known to, and `None`
+/// where one does not.
 ///
 /// `reach` tells of each place before the page's from where on the labels up to it are known to be smaller than the one
 /// there; these are jumped over. Each slot that is read counts as a step.

@@ -1,5 +1,6 @@
 use Rattle.std.proofs.Common.{◌+◌, ◌*◌}
 use Rattle.store_base.specs.Leads.{model_lead}
+use Rattle.group_walk.specs.Streams.{progress}
 use Rattle.group_walk.proofs.CellSteps.{CellsSoFar}
 use Rattle.group_walk.proofs.GroupSteps.{RunsSoFar}
 use Rattle.group_walk.proofs.walk.+walk.Given as goal
@@ -16,12 +17,12 @@ decreases-walk_group g l = 3 * l.level + 2
 
 abbrev pub invariant-walk_cells-loop-i : goal.invariant-walk_cells-loop-i
 invariant-walk_cells-loop-i g l =
-    CellsSoFar (g.W.Draw.drawn l.fn.draw) (g.S.ReadSlots.state l.fn.slots) (g.S.ReadSlots.state l.slots) l.fn.page l.i l.fn.met l.met (g.P.TakesPairs.took l.fn.sink) (g.P.TakesPairs.took l.sink)
+    CellsSoFar (g.W.Draw.drawn l.fn.guide.draw.now) (g.S.ReadSlots.state l.fn.slots) (g.S.ReadSlots.state l.slots) l.fn.page l.i (progress l.fn.met.left l.fn.met.last) (progress l.met.left l.met.last) (g.P.TakesPairs.took l.fn.sink) (g.P.TakesPairs.took l.sink)
     × g.S.ReadSlots.follows l.fn.slots l.slots
 
 abbrev pub invariant-walk_group-runs : goal.invariant-walk_group-runs
 invariant-walk_group-runs g l =
-    RunsSoFar (g.W.Draw.drawn l.fn.draw) (g.S.ReadSlots.state l.fn.slots) (g.S.ReadSlots.state l.slots) l.fn.level (model_lead l.fn.lead) l.index l.fn.met l.met (g.P.TakesPairs.took l.fn.sink) (g.P.TakesPairs.took l.sink)
+    RunsSoFar (g.W.Draw.drawn l.fn.guide.draw.now) (g.S.ReadSlots.state l.fn.slots) (g.S.ReadSlots.state l.slots) l.fn.level (model_lead l.fn.lead) l.index (progress l.fn.met.left l.fn.met.last) (progress l.met.left l.met.last) (g.P.TakesPairs.took l.fn.sink) (g.P.TakesPairs.took l.sink)
     × g.S.ReadSlots.follows l.fn.slots l.slots
 
 -- each run is one page less that is left

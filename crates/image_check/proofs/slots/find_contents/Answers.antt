@@ -1,7 +1,8 @@
-use Rattle.std.proofs.Common.{◌≡◌, ℕ, List, [], Bool, Option, Some, None, MatchOption, Result, Ok, sym, ap, subst, ◌∙◌, refl, arith}
-use Rattle.store_model.specs.Parameters.{Parameters}
+use Rattle.std.proofs.Common.{ℕ, List, Option, IfSome, Ok, take, sym, ap, subst, ◌∙◌, refl, arith}
 use Rattle.store_model.specs.Pairs.{Pair}
 use Rattle.store_model.specs.Draws.{Draw, draw_of}
+use Rattle.label_index.specs.Indexes.{IsIndexOf}
+use Rattle.label_index.proofs.Noted.{index_later}
 use Rattle.group_walk.specs.Walks.{WalksTable}
 use Rattle.image_check.specs.declared.contents.Contents.{Contents}
 use Rattle.image_check.specs.Orders.{FindsOrder}
@@ -17,9 +18,20 @@ pub count_pages-requires-clause-most : goal.count_pages-requires-clause-most
 unfolding draw_of
 count_pages-requires-clause-most g c = omega (arith, c.height.ensures.valid.slots_in_range, ap (λ (d : Draw). d.slots) c.new-draw.ensures)
 
-pub walk_groups-requires : goal.walk_groups-requires
+pub count_pages-requires-clause-room : goal.count_pages-requires-clause-room
 unfolding draw_of
-walk_groups-requires g c = c.in_ok-used.ensures.call.reads.calls.count ∙ c.requires ∙ sym (ap (λ (d : Draw). d.slots) c.new-draw.ensures)
+count_pages-requires-clause-room g c = omega (arith, c.height.ensures.valid.slots_in_range, ap (λ (d : Draw). d.slots) c.new-draw.ensures)
+
+pub walk_groups-requires-clause-index : goal.walk_groups-requires-clause-index
+walk_groups-requires-clause-index g c =
+    let old = g.S.ReadSlots.state c.args.slots.now in
+    let entries = c.count_pages.new.entries in
+    let index = subst (λ (found : Option ℕ). IfSome found (λ used. IsIndexOf old (take used entries))) c.in-Some.is c.in_ok-used.ensures.index in
+    index_later old (g.S.ReadSlots.state c.count_pages.new.slots) (Ok c.in_ok-used.field-0) (take c.in-Some.used entries) c.in_ok-used.ensures.call.reads index
+
+pub walk_groups-requires-clause-count : goal.walk_groups-requires-clause-count
+unfolding draw_of
+walk_groups-requires-clause-count g c = c.in_ok-used.ensures.call.reads.calls.count ∙ c.requires ∙ sym (ap (λ (d : Draw). d.slots) c.new-draw.ensures)
 
 pub returns-in_default-clause-call : goal.returns-in_default-clause-call
 unfolding draw_of

@@ -1,17 +1,19 @@
-use Rattle.std.proofs.Common.{◌≡◌, ◌+◌, ◌<◌, length, refl, arith}
+use Rattle.std.proofs.Common.{◌≡◌, ◌+◌, ◌<◌, length, refl, sym, ◌∙◌, arith}
 use Rattle.std.proofs.lemmas.Result.{err_from_is_err_and}
 use Rattle.table_order.specs.declared.way.Standing.{Standing}
 use Rattle.table_order.proofs.Checking.{Stands, visits_at, checking_starts, checking_free, checking_page}
 use Rattle.table_order.proofs.Ending.{checks_other, checks_far, checks_greater, checks_fails, checks_all}
+use Rattle.table_order.proofs.Noting.{noting_starts, noting_free, noting_page, noting_ends}
 use Rattle.table_order.proofs.check.check_round.Goals as goal
 
 pub loop-place-init : goal.loop-place-init
-loop-place-init g c = (checking_starts (g.W.Draw.drawn c.args.draw.now) c.args.height c.args.round.now _ c.args.steps.now 16384, g.met.S.ReadSlots.follows_refl c.args.slots.now)
+loop-place-init g c = (checking_starts (g.W.Draw.drawn c.args.draw.now) c.args.height c.args.round.now _ c.args.steps.now 16384, g.met.S.ReadSlots.follows_refl c.args.slots.now, noting_starts c.args.round.now (g.S.ReadSlots.state c.args.slots.now) c.args.entries.now)
 
 pub loop-place-preserved-in-Free : goal.loop-place-preserved-in-Free
 loop-place-preserved-in-Free g c = (
   checking_free _ _ _ _ _ _ _ _ _ _ _ _ _ _ _ (visits_at _ _ c.args.round.now _ _ _ _ _ _ _ _ _ _ c.get.new.into (g.met.W.Draw.lawful c.args.draw.now) c.requires.round c.requires.count c.loop-place.invariant.0 c.loop-place-test.true c.slot-at.ensures.value c.slot-at.ensures.below c.in_ok-get.ensures.call) c.in-Free.ensures c.tick.ensures,
   g.met.S.ReadSlots.follows_trans c.args.slots.now c.loop-place.slots c.get.new.self c.loop-place.invariant.1 c.in_ok-get.ensures.follows,
+  noting_free _ _ _ _ _ _ _ _ _ _ _ _ _ _ (visits_at _ _ c.args.round.now _ _ _ _ _ _ _ _ _ _ c.get.new.into (g.met.W.Draw.lawful c.args.draw.now) c.requires.round c.requires.count c.loop-place.invariant.0 c.loop-place-test.true c.slot-at.ensures.value c.slot-at.ensures.below c.in_ok-get.ensures.call) c.loop-place.entries c.loop-place.invariant.2 c.in-Free.ensures,
 )
 
 pub returns-in-Other-clause-call : goal.returns-in-Other-clause-call
@@ -48,9 +50,15 @@ loop-place-preserved g c =
       checking_page _ _ _ _ _ _ _ _ _ _ _ _ _ _ _ _ _ c.in-Some.from c.get.new.into page (visits_at _ _ c.args.round.now _ _ _ _ _ _ _ _ _ _ c.get.new.into (g.met.W.Draw.lawful c.args.draw.now) c.requires.round c.requires.count c.loop-place.invariant.0 c.loop-place-test.true c.slot-at.ensures.value c.slot-at.ensures.below c.in_ok-get.ensures.call) stands refl c.if-place-run.false room counts (rw c.in-Some.is at c.in_ok-from.ensures.call),
       g.met.S.ReadSlots.follows_trans c.args.slots.now c.get.new.self c.passed_from.new.slots
           (g.met.S.ReadSlots.follows_trans c.args.slots.now c.loop-place.slots c.get.new.self c.loop-place.invariant.1 c.in_ok-get.ensures.follows) c.in_ok-from.ensures.follows,
+      noting_page _ _ _ _ _ _ _ _ _ _ _ _ _ _ (visits_at _ _ c.args.round.now _ _ _ _ _ _ _ _ _ _ c.get.new.into (g.met.W.Draw.lawful c.args.draw.now) c.requires.round c.requires.count c.loop-place.invariant.0 c.loop-place-test.true c.slot-at.ensures.value c.slot-at.ensures.below c.in_ok-get.ensures.call) c.loop-place.entries c.loop-place.invariant.2 c.in-Held.label c.new.result c.in-Held.ensures c.new.ensures (omega (arith, c.loop-place.invariant.0.used_within, c.loop-place-test.true, c.requires.round, c.requires.room, c.loop-place.auto.entries)),
     )
 
 pub returns-clause-call : goal.returns-clause-call
 returns-clause-call g c =
     checks_all (g.W.Draw.drawn c.args.draw.now) c.args.height c.args.round.now _ _ _ _ c.loop-place.reach c.loop-place.place _ c.loop-place.used (g.met.W.Draw.lawful c.args.draw.now) c.requires.round c.requires.count c.args.round.now.first_in_range
     (omega (arith, c.loop-place-test.false, c.loop-place.auto.place-end)) (g.met.S.ReadSlots.counted c.args.slots.now) c.loop-place.invariant.0
+
+pub returns-clause-noted : goal.returns-clause-noted
+returns-clause-noted g c =
+    noting_ends c.args.round.now (g.S.ReadSlots.state c.args.slots.now) c.loop-place.entries c.loop-place.place c.loop-place.used c.args.round.now.first_in_range (c.requires.round ∙ sym c.requires.count)
+    (omega (arith, c.loop-place-test.false, c.loop-place.auto.place-end)) (omega (arith, c.loop-place.invariant.0.used_within, c.loop-place.auto.place-end, c.requires.round, c.requires.room)) (g.met.S.ReadSlots.counted c.args.slots.now) c.loop-place.invariant.2

@@ -1,7 +1,9 @@
 use Rattle.table_order.proofs.Checking.{Checking}
+use Rattle.table_order.proofs.Noting.{Noting}
 use Rattle.table_order.proofs.check.check_round.Given as goal
 
 abbrev pub invariant-loop-place : goal.invariant-loop-place
 invariant-loop-place g l =
     Checking (g.W.Draw.drawn l.draw) l.height l.round (g.S.ReadSlots.state l.fn.slots) (g.S.ReadSlots.state l.slots) l.fn.steps l.steps l.reach l.place l.run l.used
     × g.S.ReadSlots.follows l.fn.slots l.slots
+    × Noting l.round (g.S.ReadSlots.state l.fn.slots) l.entries l.place l.used

@@ -1,4 +1,4 @@
-use Rattle.std.proofs.Common.{List, Bool, sym, subst, true, false, ◌∙◌}
+use Rattle.std.proofs.Common.{sym, subst, ◌∙◌}
 use Rattle.std.proofs.lemmas.Bool.{false≢true}
 use Rattle.std.specs.Bool.{MatchBool}
 use Rattle.tree_reader.specs.Seen.{HasSeen}

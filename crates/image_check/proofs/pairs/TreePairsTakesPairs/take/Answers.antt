@@ -1,7 +1,5 @@
-use Rattle.std.proofs.Common.{List, ◌∷◌, ◌++◌, [], Bool, sym, subst, true, false}
+use Rattle.std.proofs.Common.{◌∷◌, ◌++◌, [], sym, subst}
 use Rattle.std.specs.Bool.{MatchBool}
-use Rattle.store_model.specs.Parameters.{Parameters}
-use Rattle.store_model.specs.Pairs.{Pair}
 use Rattle.tree_reader.specs.Seen.{HasSeen}
 use Rattle.image_check.specs.TreePairs.{BeginNoTree}
 use Rattle.image_check.proofs.Taken.{begin_none, took_more}

@@ -1,6 +1,6 @@
-use Rattle.group_walk.proofs.LookupLemmas.{label_decoded, page_decoded, only_decoded}
+use Rattle.label_index.proofs.Reading.{label_decoded, page_decoded, only_decoded}
 use Rattle.std.proofs.Common.{refl}
-use Rattle.group_walk.proofs.lookup.page_of_label.Goals as goal
+use Rattle.label_index.proofs.read.page_of_label.Goals as goal
 
 pub returns-in-Some-clause-label : goal.returns-in-Some-clause-label
 returns-in-Some-clause-label c = label_decoded c.args.slot.now c.args.label.now _ c.label_in.result c.decode_page.result c.in-Some.is (c.if-eq.ensures.same.0 refl) c.label_in.ensures.page c.decode_page.ensures.found

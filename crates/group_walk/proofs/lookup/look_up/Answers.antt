@@ -1,0 +1,8 @@
+use Rattle.group_walk.proofs.LookupLemmas.{found_by_index}
+use Rattle.group_walk.proofs.lookup.look_up.Goals as goal
+
+pub find_page-requires : goal.find_page-requires
+find_page-requires g c = c.requires.index.there
+
+pub returns-clause-call : goal.returns-clause-call
+returns-clause-call g c = found_by_index _ _ _ c.args.guide.now.entries.now c.args.label.now c.find_page.result (g.met.W.Draw.lawful c.args.guide.now.draw.now) c.find_page.ensures.valid c.requires.index c.find_page.ensures.call

@@ -1,0 +1,33 @@
+use Rattle.std.proofs.Common.{◌<◌, Option, Ok, length, slice_index_or, subst, arith}
+use Rattle.std.proofs.lemmas.List.{get_or_default}
+use Rattle.store_model.specs.Pages.{Page}
+use Rattle.label_index.specs.declared.entry.Entry.{Entry}
+use Rattle.label_index.specs.Lookups.{ReadsPage}
+use Rattle.label_index.proofs.Looking.{looks_next, looks_beyond}
+use Rattle.label_index.proofs.find.find_page.Goals as goal
+
+abbrev blank : Entry
+blank = record { digest = 0; slot = 0 }
+
+pub returns-then-entry-digest-clause-call : goal.returns-then-entry-digest-clause-call
+returns-then-entry-digest-clause-call g c =
+    let entries = c.args.entries.now in
+    let at = c.loop-at.at in
+    let first = c.first_of-first.result in
+    let within : at < length entries = omega (arith, c.loop-at-test.true) in
+    looks_beyond _ _ entries c.args.label.now c.digest_of-digest.result first at (slice_index_or entries at blank) c.digest_of-digest.ensures.value c.first_of-first.ensures.past
+    (omega (arith, c.loop-at.auto.at, c.first_of-first.ensures.within)) within (λ e. get_or_default entries at e blank within) c.if-entry-digest.true c.loop-at.invariant.0
+
+pub loop-at-preserved : goal.loop-at-preserved
+loop-at-preserved g c =
+    let entries = c.args.entries.now in
+    let at = c.loop-at.at in
+    let old = g.S.ReadSlots.state c.args.slots.now in
+    let mid = g.S.ReadSlots.state c.loop-at.slots in
+    let new = g.S.ReadSlots.state c.page_in.new.slots in
+    let entry = slice_index_or entries at blank in
+    let within : at < length entries = omega (arith, c.loop-at-test.true) in
+    let read = subst (λ (found : Option Page). ReadsPage mid new entry.slot c.args.label.now (Ok found)) c.in_default.is c.in_ok-page.ensures.call in (
+      looks_next old mid new entries c.args.label.now at entry (λ e. get_or_default entries at e blank within) c.loop-at.invariant.0 read,
+      g.met.S.ReadSlots.follows_trans c.args.slots.now c.loop-at.slots c.page_in.new.slots c.loop-at.invariant.1 c.in_ok-page.ensures.follows,
+    )
