@@ -8,6 +8,7 @@ mod files;
 mod journals;
 mod layouts;
 mod listed_pages;
+mod many_pages;
 mod moves;
 mod orders;
 mod page_slots;

@@ -45,7 +45,7 @@ impl Table {
 }
 
 /// The header of an image and an empty journal: what stands before its table.
-fn front_of(rt: &impl Abort, alloc: Global, params: &Params) -> Vec<u8> {
+pub(crate) fn front_of(rt: &impl Abort, alloc: Global, params: &Params) -> Vec<u8> {
     let mut header = [0; BLOCK];
     write_header(params, &mut header);
     let mut front = Vec::from_slice(alloc, &header).expect(rt, "memory");

@@ -6,7 +6,7 @@ ghost use Rattle.ordered_table.specs.MemSlots.{mem_state};
 
 use super::journals::is_zero;
 use node_pages::{Cell, Page};
-use ordered_table::{MemSlots, Steps, find, insert, overwrite};
+use ordered_table::{MemSlots, Steps, find, find_from, holds, insert, overwrite};
 use seeded_draw::{Draw, RulerDraw};
 use shift_remove::remove;
 use std::alloc::Global;
@@ -46,7 +46,7 @@ fn is_slot_of(slot: &Slot, name: Option<[u8; 2]>) -> bool {
 }
 
 /// Looks whether the slots hold the pages of these names, with the value 1.
-fn holds(rt: &impl Abort, slots: &MemSlots, wanted: &[Option<[u8; 2]>]) {
+fn hold_pages(rt: &impl Abort, slots: &MemSlots, wanted: &[Option<[u8; 2]>]) {
     assert!(rt; slots.slots().len() == wanted.len());
     for (slot, name) in slots.slots().iter().zip(wanted) {
         assert!(rt; is_slot_of(slot, *name));
@@ -70,6 +70,24 @@ fn look_for<L: Ledger>(
     find(slots, draw, &label(name), &mut steps)
 }
 
+/// As `look_for`, by a search that is told where to begin.
+fn look_from<L: Ledger>(
+    slots: &mut MemSlots,
+    draw: &RulerDraw,
+    name: [u8; 2],
+    blank: Blank,
+) -> Result<Option<u32>, Fault>
+    requires name { blank.name ≡ L.name }
+    requires parts { blank.parts ≡ L.parts }
+    requires some { 0 < L.parts }
+    requires count { (mem_state slots.old).count ≡ draw.now.slots }
+    ensures { (mem_state slots.new).count ≡ (mem_state slots.old).count }
+{
+    let label = label(name);
+    let mut steps = Steps::<L>::new(blank);
+    find_from(slots, draw, draw.start(&label), &label, &mut steps)
+}
+
 /// A call on slots.
 enum Call {
     /// Puts the page of this name in, with this value.
@@ -78,15 +96,17 @@ enum Call {
     Overwrite(u32, [u8; 2]),
     /// Takes the page in the slot out.
     Remove(u32),
-    /// Searches for the page of this name, which is in the slot that is told, if one is.
+    /// Searches for the page of this name, by either search; it is in the slot that is told, if one is.
     Find([u8; 2], Option<u32>),
+    /// Asks whether the slot holds the page of this name, which it does or not, as is told.
+    Holds(u32, [u8; 2], bool),
 }
 
 /// A call on slots, how many reads and writes were made in all when it ends, and the pages that the slots then hold, with
 /// the value 1; where none are told, the slots are not looked at.
 type Step = (Call, u64, &'static [Option<[u8; 2]>]);
 
-/// Searches for the page of this name; to find it elsewhere is a fault.
+/// Searches for the page of this name, by either search; to find it elsewhere is a fault.
 fn find_at(
     slots: &mut MemSlots,
     draw: &RulerDraw,
@@ -97,7 +117,27 @@ fn find_at(
     ensures { (mem_state slots.new).count ≡ draw.now.slots }
 {
     let found = look_for::<Brand>(slots, draw, name, Blank::new(1))?;
-    if found == wanted {
+    let again = look_from::<Brand>(slots, draw, name, Blank::new(1))?;
+    if found == wanted && again == wanted {
+        Ok(())
+    } else {
+        Err(Fault::Disk)
+    }
+}
+
+/// Asks whether the slot holds the page of this name; another answer is a fault.
+fn hold_so(
+    slots: &mut MemSlots,
+    draw: &RulerDraw,
+    at: u32,
+    name: [u8; 2],
+    wanted: bool,
+) -> Result<(), Fault>
+    requires count { (mem_state slots.old).count ≡ draw.now.slots }
+    requires below { at < draw.now.slots }
+    ensures { (mem_state slots.new).count ≡ draw.now.slots }
+{
+    if holds(slots, draw, at, &label(name))? == wanted {
         Ok(())
     } else {
         Err(Fault::Disk)
@@ -116,6 +156,9 @@ fn make(slots: &mut MemSlots, draw: &RulerDraw, call: &Call) -> Result<(), Fault
         }
         Call::Remove(at) if *at < draw.slots() => remove(slots, draw, *at),
         Call::Find(name, wanted) => find_at(slots, draw, *name, *wanted),
+        Call::Holds(at, name, wanted) if *at < draw.slots() => {
+            hold_so(slots, draw, *at, *name, *wanted)
+        }
         _ => Err(Fault::Disk),
     }
 }
@@ -132,7 +175,7 @@ fn lead_so(rt: &impl Abort, alloc: Global, slots: u32, steps: &[Step]) {
         let made = make(&mut slots, &draw, call);
         assert!(rt; made.is_ok() && slots.calls() == *calls);
         if !wanted.is_empty() {
-            holds(rt, &slots, *wanted);
+            hold_pages(rt, &slots, *wanted);
         }
     }
 }
@@ -158,13 +201,15 @@ fn insertion_and_overwriting(rt: HostRuntime) {
     lead_so(&rt, rt.alloc(), 4, &INSERTIONS);
 }
 
-/// Two pages that start in one slot, the second of which goes round the end. A search reads the slots up to the page, or one
-/// free slot.
-static SEARCHES: [Step; 4] = [
+/// Two pages that start in one slot, the second of which goes round the end. Each of the two searches reads the slots up
+/// to the page once, or one free slot, and a look reads its slot once.
+static SEARCHES: [Step; 6] = [
     (Call::Insert(*b"UU", 1), 2, &[]),
     (Call::Insert(*b"Ua", 1), 5, &[]),
-    (Call::Find(*b"Ua", Some(0)), 7, &[]),
-    (Call::Find(TOP, None), 8, &[]),
+    (Call::Find(*b"Ua", Some(0)), 9, &[]),
+    (Call::Find(TOP, None), 11, &[]),
+    (Call::Holds(0, *b"Ua", true), 12, &[]),
+    (Call::Holds(1, *b"Ua", false), 13, &[]),
 ];
 
 #[test]

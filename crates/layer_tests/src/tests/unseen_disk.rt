@@ -11,7 +11,7 @@ use std::process::Abort;
 use store_base::{DiskFault, NoMemory, Params, image_len};
 
 /// The room of its record, in bytes.
-const ROOM: usize = 400_000;
+const ROOM: usize = 4_194_304;
 
 /// A disk in memory of whose bytes contracts know nothing, so that pages are staged on it without a proof of what they are.
 #[derive(Drop)]
