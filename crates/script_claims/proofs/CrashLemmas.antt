@@ -195,9 +195,10 @@ pub loses_nothing : (t : Tree) (p : Parameters) (failing next_disk : Disk) (sour
     → IsRun meaning source_state sink_state (outside_of failing source sink) crash.run
     → MayLeaveOnly (meaning failing) (λ image. Represents image t p)
     → next_source.left ≡ []
+    → (meaning next_disk).faults ≡ 0 → next_source.faults ≡ 0 → next_sink.faults ≡ 0
     → ((u : Tree) → Represents left u p → AnswersScript u p next_disk next_source next_sink crash.next)
     → LosesNothing t p failing.disk source sink left crash
-loses_nothing t p failing next_disk source next_source sink next_sink left crash is_run only none answers =
+loses_nothing t p failing next_disk source next_source sink next_sink left crash is_run only none disk_faults source_faults sink_faults answers =
     let next_image : (u : Tree) → Represents left u p → crash.next.status ≡ statuses.Done → HasImage crash.next.disk u p =
         λ u is e. subst (λ (v : Tree). HasImage crash.next.disk v p) (after_none u p next_source.left none) ((answers u is).image e) in
     record {
@@ -208,6 +209,13 @@ loses_nothing t p failing next_disk source next_source sink next_sink left crash
             replied = behind.replied;
             image = ⊎_elim (λ is. inl (next_image _ is e)) (λ is. inr (next_image _ is e)) behind.image;
           };
+      recovers = λ leaves never.
+          let behind = on_the_way t p failing source sink crash.run is_run only left leaves in
+          (answers _ behind.image).complete (omega (arith, ap length none)) (record {
+            disk_spared = λ rose. let after = never.disk_faults in absurd (omega (arith, disk_faults, rose));
+            source_spared = λ rose. let after = never.source_faults in absurd (omega (arith, source_faults, rose));
+            sink_spared = λ rose. let after = never.sink_faults in absurd (omega (arith, sink_faults, rose));
+          });
       any_moment = λ leaves e.
           let behind = on_the_way t p failing source sink crash.run is_run only left leaves in
           record { count = behind.count; in_limit = behind.in_limit; image = next_image _ behind.image e };

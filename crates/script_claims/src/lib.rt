@@ -17,6 +17,8 @@ mod machines;
 mod nothing;
 mod refused;
 mod removed;
+#[cfg(test)]
+mod tests;
 
 pub use acknowledged::what_was_acknowledged_stays;
 pub use answered::a_script_is_answered;

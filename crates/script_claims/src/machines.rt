@@ -1,8 +1,11 @@
 //! The disks, sources and sinks of the sentences, all of them in memory, and the word `run`.
 
-ghost use Rattle.std.specs.Prelude.{◌≡◌, [], IfOk, Some};
+ghost use Rattle.std.specs.Prelude.{◌≡◌, [], IfOk, Some, None};
 ghost use Rattle.store_model.specs.Words.{request_of};
 ghost use Rattle.store_model.specs.Words.Request.{Run};
+ghost use Rattle.store_base.specs.Counts.{raised_by};
+ghost use Rattle.disk_model.specs.FailingDisk.{first_of_all, listed};
+ghost use Rattle.script_claims.specs.Machines.{meaning};
 
 use disk_model::{FailingDisk, MemDisk};
 use script_lines::{MemSink, MemSource};
@@ -29,14 +32,18 @@ pub struct Machine {
 
 /// The disk, with no call that is to fail.
 pub(crate) fn calm(alloc: Global, disk: MemDisk) -> Disk
-    ensures { result.disk ≡ disk }
+    ensures below { result.disk ≡ disk }
+    ensures calls { listed result ≡ [] }
+    ensures from { first_of_all result ≡ None }
+    ensures faults { (meaning result).faults ≡ raised_by disk.faults 0 }
 {
     FailingDisk::new(disk, Vec::new(alloc), None)
 }
 
 /// A source that has no byte.
 pub(crate) fn no_script(alloc: Global) -> MemSource
-    ensures { result.left ≡ [] }
+    ensures left { result.left ≡ [] }
+    ensures faults { result.faults ≡ 0 }
 {
     MemSource::new(Vec::new(alloc), Vec::new(alloc), Vec::new(alloc))
 }
