@@ -1,0 +1,9 @@
+pub mod Checking
+pub mod Costing
+pub mod CutShort
+pub mod EndingLemmas
+pub mod FaultLemmas
+pub mod Imaging
+pub mod MachineLemmas
+pub mod RequestLemmas
+pub mod WordLemmas

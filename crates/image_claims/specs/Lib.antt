@@ -1,0 +1,7 @@
+pub mod Checks
+pub mod Costs
+pub mod Crashes
+pub mod Endings
+pub mod Faults
+pub mod Images
+pub mod Machines
