@@ -2,3 +2,4 @@ pub mod PagesLemmasGroups
 pub mod PagesLemmasKeys
 pub mod PathsLemmasTexts
 pub mod PlacementLemmasTrees
+pub mod WithinLemmas

@@ -2,21 +2,22 @@
 //! apart.
 #![tactic(auto)]
 
-ghost use Rattle.std.specs.Prelude.{◌≡◌, ℕ, ◌≤◌, List, map, length, Bool, true, false, is_some, IsTrue, Ok};
+ghost use Rattle.std.specs.Prelude.{◌≡◌, ℕ, ◌≤◌, List, [], ◌∷◌, ◌++◌, map, length, Bool, true, false, is_some, IsTrue, Ok};
 ghost use Rattle.std.specs.FinMap.{find, is_sorted};
-ghost use Rattle.std.specs.List.{filter};
+ghost use Rattle.std.specs.List.{filter, AllByRecursion};
 ghost use Rattle.store_model.specs.Parameters.{Parameters, IsParameters};
-ghost use Rattle.store_model.specs.Paths.{Path, is_root, is_path, key_cmp, parent};
-ghost use Rattle.store_model.specs.Trees.{Tree, empty_tree, IsTree, is_directory, exists};
+ghost use Rattle.store_model.specs.Paths.{Path, is_root, is_path, is_at_or_inside, key_cmp, parent};
+ghost use Rattle.store_model.specs.Trees.{Tree, empty_tree, IsTree, node_at, is_directory, exists};
 ghost use Rattle.store_model.specs.Pairs.{Pair};
 ghost use Rattle.store_model.specs.Draws.{Draw};
 ghost use Rattle.store_model.specs.Pages.{Fits, pages_of_pairs};
 ghost use Rattle.store_model.specs.Images.{layout, Represents};
 ghost use Rattle.store_model.specs.Commands.{Command, IsCommand};
-ghost use Rattle.store_model.specs.Commands.Command.{Make};
+ghost use Rattle.store_model.specs.Commands.Command.{Make, Prune};
 ghost use Rattle.store_model.specs.Steps.{next_tree, step};
 ghost use Rattle.store_model.specs.Grammar.{parse};
-ghost use Rattle.store_model.specs.Scripts.{answer, tree_after};
+ghost use Rattle.store_model.specs.Scripts.{answer, tree_after, line_limit};
+ghost use Rattle.model_laws.specs.Within.{works_within, stays_within};
 
 /// The empty tree is a tree, and fits any table.
 pub fn empty_tree_is_a_tree()
@@ -78,4 +79,21 @@ pub fn layouts_tell_trees_apart()
         Fits t p → Fits u q → layout t p ≡ layout u q → (t ≡ u) × (p ≡ q) }
     ensures image { (image : List ℕ) (t u : Tree) (p q : Parameters) → Represents image t p → Represents image u q →
         (t ≡ u) × (p ≡ q) }
+{}
+
+/// A command that works at or below a path changes nothing elsewhere, and neither do lines that ask for such commands, or
+/// are refused.
+pub fn commands_change_nothing_elsewhere()
+    ensures command { (t : Tree) (c : Command) (p : Parameters) (at other : Path) → works_within at c ≡ true →
+        is_at_or_inside other at ≡ false → node_at (step t c p).tree other ≡ node_at t other }
+    ensures lines { (t : Tree) (texts : List (List ℕ)) (p : Parameters) (at other : Path) →
+        AllByRecursion (λ text. stays_within at text ≡ true) texts → is_at_or_inside other at ≡ false →
+        node_at (tree_after t texts p) other ≡ node_at t other }
+{}
+
+/// Where nothing stands at a path, lines that work at or below it, and then a `prune` of it, leave the tree as it was.
+pub fn pruned_trees_are_as_before()
+    ensures { (t : Tree) (texts : List (List ℕ)) (text : List ℕ) (p : Parameters) (at : Path) → IsTree t →
+        exists t at ≡ false → AllByRecursion (λ text. stays_within at text ≡ true) texts → length text ≤ line_limit →
+        parse text ≡ Ok (Prune at) → tree_after t (texts ++ text ∷ []) p ≡ t }
 {}
