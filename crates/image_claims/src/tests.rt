@@ -180,14 +180,14 @@ fn a_check_and_a_run_agree(rt: HostRuntime) {
     let this = machine(&rt, alloc, &image, NEVER, "list /\n");
     let judged = check_then_run(alloc, &checking, &running, this, sink(&rt, alloc));
     assert!(rt; (judged.check == Status::Done) & (judged.run.status == Status::Done));
-    assert!(rt; judged.line.written() == b"clean 1 1 0 0\n");
-    assert!(rt; judged.run.sink.written() == b"d a\nend\n");
+    assert!(rt; judged.line.written() == "clean 1 1 0 0\n".as_bytes());
+    assert!(rt; judged.run.sink.written() == "d a\nend\n".as_bytes());
     assert!(rt; judged.run.disk.into_disk().bytes() == image.as_slice());
 
     let this = machine(&rt, alloc, &unclean(&rt, alloc), NEVER, "list /\n");
     let judged = check_then_run(alloc, &checking, &running, this, sink(&rt, alloc));
     assert!(rt; (judged.check == Status::Damaged) & (judged.run.status == Status::Damaged));
-    assert!(rt; judged.run.sink.written() == b"");
+    assert!(rt; judged.run.sink.written() == "".as_bytes());
 }
 
 #[test]
@@ -196,7 +196,7 @@ fn an_image_is_scrubbed(rt: HostRuntime) {
     let (scrubbing, bytes) = (words(&rt, alloc, "scrub"), unclean(&rt, alloc));
     let scrubbed = scrub(alloc, &scrubbing, machine(&rt, alloc, &bytes, NEVER, ""));
     assert!(rt; scrubbed.status == Status::Done);
-    assert!(rt; scrubbed.sink.written() == b"clean 0 0 0 0\n");
+    assert!(rt; scrubbed.sink.written() == "clean 0 0 0 0\n".as_bytes());
     assert!(rt; scrubbed.disk.into_disk().bytes() == empty(&rt, alloc).as_slice());
 
     let disk = scrub_at_cost(alloc, &scrubbing, machine(&rt, alloc, &bytes, NEVER, "")).disk;
