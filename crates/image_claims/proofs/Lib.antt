@@ -6,4 +6,6 @@ pub mod FaultLemmas
 pub mod Imaging
 pub mod MachineLemmas
 pub mod RequestLemmas
+pub mod RequestedParameters
+pub mod RunsLemmas
 pub mod WordLemmas

@@ -11,6 +11,7 @@ mod crashes;
 mod faults;
 mod images;
 mod machine;
+mod runs;
 mod table;
 mod words;
 
@@ -20,6 +21,7 @@ pub use crashes::{Scrubs, format_cut_short, scrub_cut_short, wipe_cut_short};
 pub use faults::call_anything;
 pub use images::{Remade, format, scrub, wipe, wipe_then_format};
 pub use machine::{Ended, Machine};
+pub use runs::check_behind_runs;
 pub use table::{call_counted, number_of, table_is_spelled_out};
 pub use words::call_unserved;
 

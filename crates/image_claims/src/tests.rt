@@ -6,7 +6,7 @@
 //! at 258 that it is a directory.
 
 use crate::{Machine, call_anything, call_counted, call_unserved, check, check_at_cost};
-use crate::{check_then_run, format, format_at_cost, format_cut_short, number_of, scrub, scrub_at_cost};
+use crate::{check_behind_runs, check_then_run, format, format_at_cost, format_cut_short, number_of, scrub, scrub_at_cost};
 use crate::{scrub_cut_short, wipe, wipe_at_cost, wipe_cut_short, wipe_then_format};
 use disk_model::{FailingDisk, MemDisk, StopChoice};
 use script_lines::{MemSink, MemSource};
@@ -81,7 +81,7 @@ fn sink(rt: &impl Abort, alloc: Global) -> MemSink {
 
 /// A machine whose disk has these bytes, and fails from this call on, with this script.
 fn machine(rt: &impl Abort, alloc: Global, bytes: &[u8], from: u64, script: &str) -> Machine {
-    let disk = MemDisk::new(alloc, bytes, 131_072).expect(rt, "memory");
+    let disk = MemDisk::new(alloc, bytes, 262_144).expect(rt, "memory");
     let from = (from != NEVER).then_some(from);
     let script = script.as_bytes().to_vec(alloc).expect(rt, "memory");
     Machine {
@@ -225,4 +225,25 @@ fn statuses_are_told(rt: HostRuntime) {
     let counted = call_counted(alloc, &words(&rt, alloc, "scrub"), machine(&rt, alloc, &image, NEVER, ""));
     assert!(rt; (number_of(counted.status) == 0) & (counted.done == 1));
     assert!(rt; (number_of(Status::Usage) == 2) & (number_of(Status::WrongLength) == 11));
+}
+
+#[test]
+fn an_image_is_checked_behind_runs(rt: HostRuntime) {
+    let alloc = rt.alloc();
+    let (least, running) = (words(&rt, alloc, LEAST), words(&rt, alloc, "run"));
+    let mut scripts = Vec::new(alloc);
+    for script in ["make /a\nmake /b\n", "remove /b\nmake /a\n"] {
+        let bytes = script.as_bytes().to_vec(alloc).expect(&rt, "memory");
+        let source = MemSource::new(bytes, Vec::new(alloc), Vec::new(alloc));
+        scripts.push((source, sink(&rt, alloc))).expect(&rt, "memory");
+    }
+    let blank = machine(&rt, alloc, &zeros(&rt, alloc, LEN), NEVER, "");
+    let checking = words(&rt, alloc, "check");
+    match check_behind_runs(alloc, &least, &running, &checking, blank, scripts) {
+        Some(checked) => {
+            assert!(rt; checked.sink.written() == "clean 1 1 0 0\n".as_bytes());
+            assert!(rt; checked.disk.into_disk().bytes() == one_directory(&rt, alloc).as_slice());
+        }
+        None => assert!(rt; false, "a run ended before"),
+    }
 }
