@@ -1,1 +1,12 @@
+pub mod Acknowledged
+pub mod Answered
+pub mod BigRuns
+pub mod Commands
+pub mod Crashes
+pub mod Machines
+pub mod Makings
+pub mod Nothing
+pub mod Refusals
+pub mod Removals
+pub mod RunCosts
 pub mod Serving

@@ -2,9 +2,32 @@
 //! program, and whose contracts a keeper of ballots understands. They speak of bytes, scripts, replies, statuses and
 //! trees, and of the image of a tree.
 //!
-//! `serve` alone calls `top`; every other function comes to it over one kind of disk.
+//! `serve` alone calls `top`; every other function comes to it over one kind of disk. What leads from the program's
+//! records to a sentence stands in lemmas over these records alone, in proofs/, a file a sentence.
 #![tactic(auto)]
 
+mod acknowledged;
+mod answered;
+mod big;
 mod call;
+mod costs;
+mod crash;
+mod equal;
+mod machines;
+mod nothing;
+mod refused;
+mod removed;
+#[cfg(test)]
+mod tests;
 
+pub use acknowledged::what_was_acknowledged_stays;
+pub use answered::a_script_is_answered;
+pub use big::{TwoRuns, big_is_a_run, commands_of_big_stay};
 pub use call::serve;
+pub use costs::{a_run_costs_its_changes, big_costs_its_changes};
+pub use crash::{Crash, a_crash_loses_nothing};
+pub use equal::{Images, Making, equal_contents_have_equal_bytes, make_image};
+pub use machines::{Disk, Ended, Machine};
+pub use nothing::{a_run_on_no_tree_does_nothing, big_on_no_tree_does_nothing};
+pub use refused::{full_is_exact, refused_lines_change_nothing};
+pub use removed::{Removal, what_was_removed_is_gone};

@@ -1,0 +1,51 @@
+-- What was acknowledged stays: from what a run promises.
+use Rattle.std.proofs.Common.{◌≡◌, ◌⊎◌, inl, inr, ℕ, ◌+◌, ◌≤◌, ◌<◌, List, ◌++◌, length, take, refl, sym, ap, ◌∙◌, subst, ⊎_elim, arith, length-append}
+use Rattle.store_model.specs.Parameters.{Parameters}
+use Rattle.store_model.specs.Trees.{Tree}
+use Rattle.store_model.specs.Images.{Represents}
+use Rattle.store_model.specs.Scripts.{lines, replies, replies_text, tree_after, script_limit}
+use Rattle.disk_model.specs.DiskState.{MayLeaveOnly}
+use Rattle.script_lines.specs.Lines.{ended_lines}
+use Rattle.script_lines.specs.Memory.{SourceMemory, SinkMemory, source_state, sink_state}
+use Rattle.image_subcommands.specs.declared.status.Status.TheVariants as statuses
+use Rattle.image_subcommands.specs.Outside.{outside_of}
+use Rattle.store_top.specs.RunCall.{IsRun}
+use Rattle.store_top.proofs.RunLemmas.{length-replies}
+use Rattle.script_claims.specs.Acknowledged.{EndsWhole, EndsEarly, KeepsAcknowledged}
+use Rattle.script_claims.specs.Machines.{Disk, Ended, HasImage, bytes_of, meaning}
+use Rattle.script_claims.proofs.RunWays.{between, cut_short, way, image_of, read_is}
+use Rattle.script_claims.proofs.CrashLemmas.{wrote_in_part}
+
+pub keeps_acknowledged : (t : Tree) (p : Parameters) (disk : Disk) (source : SourceMemory) (sink : SinkMemory) (after : Ended)
+    → IsRun meaning source_state sink_state (outside_of disk source sink) after → MayLeaveOnly (meaning disk) (λ image. Represents image t p) → KeepsAcknowledged t p source sink after
+keeps_acknowledged t p disk source sink after run only =
+    let on_disk = run.observed refl in
+    let represents = read_is disk (λ image. Represents image t p) only in
+    let from = on_disk.runs refl t p represents in
+    let told = from.replies in
+    let wrote = told.written refl in
+    let limit = run.limit refl in
+    record {
+      ends = way t p disk source sink after run represents;
+      image = λ whole.
+          let stands = from.image.between (between after.status whole) in
+          record { bytes = stands.layout_is; durable = λ image leaves. (on_disk.crashes refl t p only).between (between after.status whole) image leaves ∙ stands.layout_is };
+      disk_fault = from.image.fault;
+      no_memory = λ e.
+          ⊎_elim
+          (λ stands. inl (image_of after.disk (tree_after t (take after.done (lines source.left)) p) p stands))
+          (λ none. inr (none.0, subst (λ (image : List ℕ). Represents image t p) (sym (none.1).bytes) represents))
+          (from.image.no_memory e);
+      source_fault = λ e. record { taken = told.taken; taken_is = told.taken_is; done_is = told.counted.ended e };
+      too_long = λ e.
+          let many = limit.too_long e in
+          (omega (arith, many.count_is, ap length many.taken_is, length-append many.taken after.source.left),
+          told.counted.ended_in_limit e ∙ ap (λ (bytes : List ℕ). length (ended_lines (take script_limit bytes))) (sym told.taken_is));
+      in_limit = λ other.
+          let few = limit.within other in
+          omega (arith, few.1, (few.2).count_is, ap length (few.2).taken_is, length-append (few.2).taken after.source.left);
+      some_line = told.counted.some_line;
+      counted = omega (arith, told.counted.counted, length-replies t (lines source.left) p);
+      replied = λ early. wrote.written_is ∙ ap (λ (text : List ℕ). sink.written ++ text) (wrote.promised.answered (cut_short after.status early));
+      in_part = wrote_in_part after.status after.done (replies t (lines source.left) p) sink.written after.sink.written wrote.written wrote.written_is wrote.promised;
+    }

@@ -1,0 +1,11 @@
+pub mod AcknowledgedLemmas
+pub mod AnsweredLemmas
+pub mod BigLemmas
+pub mod CommandLemmas
+pub mod CrashLemmas
+pub mod MakingLemmas
+pub mod NothingLemmas
+pub mod RefusalLemmas
+pub mod RemovalLemmas
+pub mod RunCostLemmas
+pub mod RunWays

@@ -1,0 +1,164 @@
+-- A refused line changes nothing, and `full` is exact.
+use Rattle.std.proofs.Common.{◌≡◌, ◌↔◌, ◌⊎◌, inl, inr, ℕ, zero, suc, ◌≤◌, ◌<◌, Bool, true, false, ◌&&◌, nat_lt, if◌then◌else◌, List, [], ◌∷◌, ◌++◌, length, take, Option, Some, None, Ok, refl, sym, ap, ◌∙◌, subst, ⊎_elim, arith}
+use Rattle.std.specs.List.{AllByRecursion}
+use Rattle.std.proofs.lemmas.Bool.{and_parts, and_from, ltb-true, lt-ltb, le-ltb, cond-false, true_from_ne_false}
+use Rattle.std.proofs.lemmas.List.{append-nil}
+use Rattle.store_model.specs.declared.refusal.Refusal.{Refusal}
+use Rattle.store_model.specs.declared.refusal.Refusal.TheVariants as refusals
+use Rattle.store_model.specs.Parameters.{Parameters}
+use Rattle.store_model.specs.Trees.{Tree}
+use Rattle.store_model.specs.Pages.{page_count, Fits}
+use Rattle.store_model.specs.Trees.{IsTree}
+use Rattle.store_model.specs.Images.{layout, Represents}
+use Rattle.store_model.specs.Commands.{Command, Reply, reply_text}
+use Rattle.store_model.specs.Commands.Command.{Make, Write, Cut, Rename, Remove, Prune, ListChildren, Read, Space, Digest}
+use Rattle.store_model.specs.Commands.Reply.{Refused}
+use Rattle.store_model.specs.Steps.{Step, Condition, step, step_by, conditions, first_refusal, refusal_of, reply_of, next_tree, may_fill}
+use Rattle.store_model.specs.Grammar.{parse}
+use Rattle.store_model.specs.Scripts.{lines, line_limit, answer, answer_by, answers_by, state_by, replies_by, tree_by, replies, tree_after, replies_text}
+use Rattle.store_model.proofs.ScriptsLemmas.{refused_answer_keeps}
+use Rattle.store_model.proofs.TreesLemmasFits.{needs_no_more}
+use Rattle.gate_journal.specs.Phases.{HasEmptyJournal}
+use Rattle.gate_journal.proofs.Layouts.{layout-has-empty-journal}
+use Rattle.script_lines.specs.Memory.{SourceMemory, SinkMemory, source_state, sink_state}
+use Rattle.image_subcommands.specs.declared.status.Status.TheVariants as statuses
+use Rattle.image_subcommands.specs.Outside.{outside_of}
+use Rattle.store_top.specs.RunCall.{IsRun}
+use Rattle.script_claims.specs.Answered.{AnswersScript}
+use Rattle.script_claims.specs.Machines.{Disk, Ended, bytes_of, meaning}
+use Rattle.script_claims.specs.Refusals.{IsRefusal, IsAtRest, IsUntouched, IsOneLine, NeedsMoreSlots, AnswersFull}
+
+-- ---- lines that are refused
+
+-- they leave the tree
+refused_keep : (t : Tree) (texts : List (List ℕ)) (p : Parameters) → AllByRecursion IsRefusal (replies t texts p) → (k : ℕ) → tree_after t (take k texts) p ≡ t
+unfolding replies replies_by answers_by tree_after tree_by state_by
+refused_keep t [] p all zero = refl
+refused_keep t [] p all (suc k) = refl
+refused_keep t (text ∷ texts) p all zero = refl
+refused_keep t (text ∷ texts) p all (suc k) =
+    let same : (answer t text p).tree ≡ t = refused_answer_keeps t text p (all.0).0 (all.0).1 in
+    refused_keep (answer t text p).tree texts p all.1 k ∙ same
+
+pub untouched : (t : Tree) (p : Parameters) (disk : Disk) (source : SourceMemory) (sink : SinkMemory) (after : Ended)
+    → IsRun meaning source_state sink_state (outside_of disk source sink) after → IsAtRest (bytes_of disk) t p → AllByRecursion IsRefusal (replies t (lines source.left) p)
+    → (after.status ≡ statuses.DiskFault → ⊥) → IsUntouched disk after.disk
+untouched t p disk source sink after run rest all other =
+    let is = rest.represents in
+    let empty = subst (HasEmptyJournal p.slots) (sym rest.layout_is) (layout-has-empty-journal t p is.names.in_range is.tree is.fits) in
+    let kept = refused_keep t (lines source.left) p all in
+    let unwritten = ((run.observed refl).runs refl t p is).quiet empty other (λ k few. kept k ∙ sym (kept 0)) in
+    record { bytes = unwritten.bytes; writes = unwritten.writes }
+
+-- ---- full
+
+-- a refusal other than `full`
+abbrev IsOther : Refusal → Type 0
+IsOther (refusals.Full need slots) = ⊥
+IsOther refusal = Unit {0}
+
+other_first : (all : List Condition) (refusal : Refusal) → AllByRecursion (λ condition. IsOther condition.1) all → first_refusal all ≡ Some refusal → IsOther refusal
+unfolding first_refusal
+other_first [] refusal others e = absurd (cc)
+other_first (condition ∷ all) refusal others e =
+    (elim condition.0 as (λ b. (if b then Some condition.1 else first_refusal all) ≡ Some refusal → IsOther refusal) [
+      | true ↦ λ is. let same : condition.1 ≡ refusal = cc in subst IsOther same others.0
+      | false ↦ λ is. other_first all refusal others.1 is
+    ]) e
+
+others : (t : Tree) (c : Command) → AllByRecursion (λ condition. IsOther condition.1) (conditions t c)
+unfolding conditions
+others t (Make p) = (tt, (tt, (tt, tt)))
+others t (Write p at bytes) = (tt, (tt, (tt, (tt, tt))))
+others t (Cut p len) = (tt, (tt, (tt, tt)))
+others t (Rename p q) = (tt, (tt, (tt, (tt, (tt, (tt, tt))))))
+others t (Remove p) = (tt, (tt, (tt, tt)))
+others t (Prune p) = (tt, (tt, tt))
+others t (ListChildren p) = (tt, (tt, tt))
+others t (Read p at len) = (tt, (tt, (tt, (tt, tt))))
+others t Space = tt
+others t Digest = tt
+
+-- what is not refused is not answered by a refusal
+not_refused : (t : Tree) (c : Command) (p : Parameters) (r : Refusal) → reply_of t c p ≡ Refused r → ⊥
+unfolding reply_of
+not_refused t (Make path) p r e = cc
+not_refused t (Write path at bytes) p r e = cc
+not_refused t (Cut path len) p r e = cc
+not_refused t (Rename from to) p r e = cc
+not_refused t (Remove path) p r e = cc
+not_refused t (Prune path) p r e = cc
+not_refused t (ListChildren path) p r e = cc
+not_refused t (Read path at len) p r e = cc
+not_refused t Space p r e = cc
+not_refused t Digest p r e = cc
+
+abbrev full_reply : Tree → Command → Parameters → Reply
+full_reply t c p = Refused (refusals.Full (page_count (next_tree t c) p) p.slots)
+
+-- where the step refuses by `full`, nothing else refuses, the pages exceed the slots, and the numbers are these
+pub record IsFullStep (t : Tree) (c : Command) (p : Parameters) (need slots : ℕ) : Type 0 where
+  pub needs : NeedsMoreSlots c t p
+  pub need_is : need ≡ page_count (next_tree t c) p
+  pub slots_are : slots ≡ p.slots
+
+-- the reply of one of two steps, by a test
+picked : (b : Bool) (x y : Step) (r : Reply) → (if b then x else y).reply ≡ r → ((b ≡ true) × (x.reply ≡ r)) ⊎ ((b ≡ false) × (y.reply ≡ r))
+picked true x y r e = inl (refl, e)
+picked false x y r e = inr (refl, e)
+
+picked_first : (b : Bool) (x y : Step) → b ≡ true → (if b then x else y).reply ≡ x.reply
+picked_first true x y e = refl
+picked_first false x y e = absurd (cc)
+
+full_by : (t : Tree) (c : Command) (p : Parameters) (need slots : ℕ) (o : Option Refusal) → refusal_of t c ≡ o → (step_by t c p o).reply ≡ Refused (refusals.Full need slots) → IsFullStep t c p need slots
+full_by t c p need slots (Some refusal) o e =
+    let same : refusal ≡ refusals.Full need slots = cc in
+    absurd (subst IsOther same (other_first (conditions t c) refusal (others t c) o))
+full_by t c p need slots None o e =
+    ⊎_elim
+    (λ full.
+    let said = full.1 in
+    let need_is : need ≡ page_count (next_tree t c) p = cc in
+    let slots_are : slots ≡ p.slots = cc in
+    record {
+      needs = record { not_refused = o; exceeds = ltb-true p.slots (page_count (next_tree t c) p) (and_parts _ _ full.0).1 };
+      need_is = need_is;
+      slots_are = slots_are;
+    })
+    (λ room. absurd (not_refused t c p (refusals.Full need slots) room.1))
+    (picked (may_fill c && nat_lt p.slots (page_count (next_tree t c) p)) _ _ (Refused (refusals.Full need slots)) e)
+
+full_step : (t : Tree) (c : Command) (p : Parameters) (need slots : ℕ) → (step t c p).reply ≡ Refused (refusals.Full need slots) → IsFullStep t c p need slots
+unfolding step
+full_step t c p need slots e = full_by t c p need slots (refusal_of t c) refl e
+
+-- and where they exceed the slots the step refuses so
+step_full : (t : Tree) (c : Command) (p : Parameters) → IsTree t → Fits t p → NeedsMoreSlots c t p → (step t c p).reply ≡ full_reply t c p
+unfolding step
+step_full t c p tree fits needs =
+    let fills : may_fill c ≡ true = true_from_ne_false (may_fill c) (λ e. let fewer = needs_no_more t c p tree e needs.not_refused in let more = needs.exceeds in absurd (omega arith)) in
+    let full : (may_fill c && nat_lt p.slots (page_count (next_tree t c) p)) ≡ true = and_from _ _ fills (lt-ltb p.slots (page_count (next_tree t c) p) needs.exceeds) in
+    ap (λ (o : Option Refusal). (step_by t c p o).reply) needs.not_refused
+    ∙ picked_first (may_fill c && nat_lt p.slots (page_count (next_tree t c) p)) _ _ full
+
+-- the reply to a script of one line
+answer_of_parsed : (t : Tree) (text : List ℕ) (c : Command) (p : Parameters) → length text ≤ line_limit → parse text ≡ Ok c → answer t text p ≡ step t c p
+unfolding answer
+answer_of_parsed t text c p fits e = cond-false (nat_lt line_limit (length text)) _ _ (le-ltb line_limit (length text) fits) ∙ ap (λ asked. answer_by t asked p) e
+
+one_reply : (t : Tree) (text : List ℕ) (p : Parameters) → replies_text (replies t (text ∷ []) p) ≡ reply_text (answer t text p).reply
+unfolding replies replies_by answers_by replies_text
+one_reply t text p = append-nil (reply_text (answer t text p).reply)
+
+pub answers_full : (command : Command) (t : Tree) (p : Parameters) (disk : Disk) (source : SourceMemory) (sink : SinkMemory) (after : Ended) → Represents (bytes_of disk) t p → IsOneLine source.left command
+    → AnswersScript t p disk source sink after → after.status ≡ statuses.Done → AnswersFull command t p sink after
+answers_full command t p disk source sink after is one answers e =
+    record {
+      reply = (step t command p).reply;
+      written_is = answers.replied e
+          ∙ ap (λ (text : List ℕ). sink.written ++ text)
+          (ap (λ (texts : List (List ℕ)). replies_text (replies t texts p)) one.lines_are ∙ one_reply t one.text p ∙ ap (λ (s : Step). reply_text s.reply) (answer_of_parsed t one.text command p one.fits one.parsed));
+      exact = ((λ full. (full_step t command p (page_count (next_tree t command) p) p.slots full).needs), step_full t command p is.tree is.fits);
+      numbers = λ need slots full. let so = full_step t command p need slots full in (so.need_is, so.slots_are);
+    }

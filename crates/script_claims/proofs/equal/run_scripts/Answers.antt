@@ -1,0 +1,25 @@
+use Rattle.std.proofs.Common.{List, ap, sym, ◌∙◌, subst, arith}
+use Rattle.std.specs.List.{flat_map}
+use Rattle.std.proofs.lemmas.Iterator.Consumers.{YieldsList-end}
+use Rattle.std.proofs.lemmas.List.{map-id}
+use Rattle.std.proofs.lemmas.Iterator.Adapters.{YieldsList-from_vec}
+use Rattle.store_model.specs.Trees.{Tree}
+use Rattle.store_model.specs.Scripts.{lines, tree_after}
+use Rattle.script_lines.specs.Memory.{SourceMemory}
+use Rattle.script_claims.specs.Machines.{HasImage}
+use Rattle.script_claims.proofs.MakingLemmas.{no_more, one_more, after_fits}
+use Rattle.script_claims.proofs.equal.run_scripts.Goals as goal
+
+pub loop-source-init : goal.loop-source-init
+loop-source-init c t p is image = subst (λ (u : Tree). HasImage c.args.disk u p) (sym (no_more t p)) image
+
+pub loop-source-preserved : goal.loop-source-preserved
+loop-source-preserved c t p is image =
+    subst (λ (u : Tree). HasImage c.in_ok-after.after.disk u p) (one_more t p c.loop-source.yielded c.in-Some.source)
+    (c.in_ok-after.ensures.image _ p (after_fits t p (flat_map (λ (source : SourceMemory). lines source.left) c.loop-source.yielded) is) (c.loop-source.invariant t p is image))
+
+pub returns-clause-image : goal.returns-clause-image
+returns-clause-image c t p is image =
+    let gives = c.into_iter-source-iterator.ensures.into_iter_gives in
+    let end = YieldsList-end (YieldsList-from_vec c.args.scripts.items gives.0 (omega (arith, gives.1, c.args.scripts.ok.0))) c.loop-source.yielded c.loop-source.source-iterator c.loop-source.yielded_by c.next.result c.next.new.self c.in-None.is c.next.ensures.steps in
+    subst (λ (scripts : List SourceMemory). HasImage c.loop-source.disk (tree_after t (flat_map (λ (source : SourceMemory). lines source.left) scripts) p) p) (sym (map-id c.loop-source.yielded) ∙ end.0) (c.loop-source.invariant t p is image)

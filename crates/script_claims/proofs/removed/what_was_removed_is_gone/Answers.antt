@@ -1,0 +1,10 @@
+use Rattle.std.proofs.Common.{sym, ap, ◌∙◌}
+use Rattle.disk_model.specs.Memory.{Memory}
+use Rattle.script_claims.proofs.RemovalLemmas.{gone}
+use Rattle.script_claims.proofs.removed.what_was_removed_is_gone.Goals as goal
+
+pub returns : goal.returns
+returns c at t p is removes e d =
+    gone at t p c.args.disk c.calm.result c.args.first c.args.second c.args.sink c.in_ok-before.before.sink c.in_ok-before.before c.in_ok-second.second is removes (c.in_ok-before.ensures t p is) (c.calm.ensures.below ∙ c.into_disk-memory.ensures)
+    (λ u here. c.in_ok-second.ensures u p here) e d
+    ∙ sym (c.in_ok-image.ensures.items ∙ c.bytes.ensures ∙ ap (λ (memory : Memory). memory.bytes) c.into_disk-memory.ensures)

@@ -1,0 +1,62 @@
+//! `big` is a run of its commands.
+
+ghost use Rattle.std.specs.Prelude.{◌≡◌, ℕ, IfOk, Some};
+ghost use Rattle.store_model.specs.Parameters.{Parameters};
+ghost use Rattle.store_model.specs.Trees.{Tree};
+ghost use Rattle.store_model.specs.Images.{Represents};
+ghost use Rattle.store_model.specs.Scripts.{lines};
+ghost use Rattle.store_model.specs.Words.{request_of};
+ghost use Rattle.store_model.specs.Words.Request.{Big};
+ghost use Rattle.disk_model.specs.DiskState.{MayLeaveOnly};
+ghost use Rattle.store_top.specs.Generations.{first_commands};
+ghost use Rattle.script_claims.specs.BigRuns.{AskFor, IsRunOfCommands};
+ghost use Rattle.script_claims.specs.Commands.{KeepsCommands};
+ghost use Rattle.script_claims.specs.Machines.{bytes_of, meaning};
+
+use crate::answered::a_script_is_answered;
+use crate::call::serve;
+use crate::machines::{Ended, Machine};
+use std::alloc::Global;
+use store_base::NoMemory;
+use store_top::Words;
+
+/// `big`, and a run of the commands that it carries out.
+#[derive(Drop)]
+pub struct TwoRuns {
+    /// How `big` ended.
+    pub big: Ended,
+    /// How the run ended.
+    pub run: Ended,
+}
+
+/// Carries out these words, `big NUMBER COUNT`, on one machine, and the script of another, which asks for just the commands
+/// that the number gives. Where both end with 0 they leave the same image, and `big` prints how many replies of the run
+/// do not refuse, how many do, and what `space` and `digest` say of its image.
+///
+/// `NoMemory`: there was none for the word `run`.
+pub fn big_is_a_run(
+    alloc: Global,
+    words: &Words,
+    first: Machine,
+    second: Machine,
+) -> Result<TwoRuns, NoMemory>
+    ensures { (number count : ℕ) (t : Tree) (p : Parameters) → request_of words.now ≡ Some (Big number count)
+        → Represents (bytes_of first.disk) t p → Represents (bytes_of second.disk) t p → AskFor (lines second.source.left) (first_commands number count)
+        → IfOk result (IsRunOfCommands t p second.source first.sink) }
+{
+    let Machine { disk, source, sink } = first;
+    let big = serve(alloc, words, disk, source, sink);
+    let Machine { disk, source, sink } = second;
+    let run = a_script_is_answered(alloc, disk, source, sink)?;
+    Ok(TwoRuns { big, run })
+}
+
+/// Carries out these words, `big NUMBER COUNT`, on an image. However it ends, the image is that of the tree after the
+/// commands that were carried out, as with a run of them; only the summary is printed, and nothing is taken.
+pub fn commands_of_big_stay(alloc: Global, words: &Words, machine: Machine) -> Ended
+    ensures { (number count : ℕ) (t : Tree) (p : Parameters) → request_of words.now ≡ Some (Big number count)
+        → MayLeaveOnly (meaning machine.disk) (λ image. Represents image t p) → KeepsCommands number count t p machine.disk machine.source machine.sink result }
+{
+    let Machine { disk, source, sink } = machine;
+    serve(alloc, words, disk, source, sink)
+}

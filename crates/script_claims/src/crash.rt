@@ -1,0 +1,54 @@
+//! A crash loses nothing of what was acknowledged, and tells nothing.
+
+ghost use Rattle.std.specs.Prelude.{IfOk};
+ghost use Rattle.store_model.specs.Parameters.{Parameters};
+ghost use Rattle.store_model.specs.Trees.{Tree};
+ghost use Rattle.store_model.specs.Images.{Represents};
+ghost use Rattle.disk_model.specs.DiskState.{MayLeaveOnly};
+ghost use Rattle.disk_model.specs.Memory.{memory_state};
+ghost use Rattle.script_claims.specs.Crashes.{LosesNothing};
+
+use crate::answered::a_script_is_answered;
+use crate::call::serve;
+use crate::machines::{Ended, calm, no_script, run_word};
+use disk_model::{FailingDisk, MemDisk};
+use script_lines::{MemSink, MemSource};
+use std::alloc::Global;
+use store_base::NoMemory;
+
+/// The room of the record of the disk that the second run is on, in bytes: a write takes 16 and those that it writes.
+const ROOM: usize = 4_194_304;
+
+/// A run that a crash cut short, and the run behind it.
+#[derive(Drop)]
+pub struct Crash {
+    /// The run on the disk that fails.
+    pub run: Ended,
+    /// The run of no line on the image that the crash left.
+    pub next: Ended,
+}
+
+/// Runs a script on a disk that fails from its call `from` on, and then no line on an image that a crash may have left,
+/// whichever of these it is. Where the second run ends with 0 the image is, byte for byte, the one that is left without
+/// a crash by just the lines whose replies were written, or by one line more. Where the crash came at some moment before,
+/// it is the one that some of the lines leave. The second run ends with 0 unless a call of it fails or memory is short.
+///
+/// `NoMemory`: there was none for the second run's disk and sink, or for the word `run`.
+pub fn a_crash_loses_nothing(
+    alloc: Global,
+    disk: MemDisk,
+    from: u64,
+    source: MemSource,
+    sink: MemSink,
+    left: &[u8],
+) -> Result<Crash, NoMemory>
+    ensures { (t : Tree) (p : Parameters) → MayLeaveOnly (memory_state disk) (λ image. Represents image t p) → IfOk result (LosesNothing t p disk source sink left.now) }
+{
+    let words = run_word(alloc)?;
+    let failing = FailingDisk::new(disk, Vec::new(alloc), Some(from));
+    let run = serve(alloc, &words, failing, source, sink);
+    let disk = calm(alloc, MemDisk::new(alloc, left, ROOM)?);
+    let sink = MemSink::new(alloc, 0, Vec::new(alloc))?;
+    let next = a_script_is_answered(alloc, disk, no_script(alloc), sink)?;
+    Ok(Crash { run, next })
+}

@@ -1,0 +1,329 @@
+//! Each sentence once, with ample memory, against statuses, replies, costs and images that were worked out by hand from
+//! the script language and the format.
+//!
+//! The images have one slot, one level, the draw `ruler` and a seed of zeros. An image is written as its bytes other
+//! than zero, each with its place, behind the text that it begins with.
+
+use crate::{
+    Disk, Ended, Machine, Making, a_crash_loses_nothing, a_run_costs_its_changes,
+    a_run_on_no_tree_does_nothing, a_script_is_answered, big_costs_its_changes, big_is_a_run,
+    big_on_no_tree_does_nothing, commands_of_big_stay, equal_contents_have_equal_bytes,
+    full_is_exact, refused_lines_change_nothing, serve, what_was_acknowledged_stays,
+    what_was_removed_is_gone,
+};
+use disk_model::{FailingDisk, MemDisk};
+use script_lines::{MemSink, MemSource};
+use std::alloc::Global;
+use std::process::Abort;
+use store_top::Words;
+
+/// The image of the empty tree.
+static EMPTY: &str = "11:1 12:1 14:1";
+
+/// The image with the directory `/a`, with `/a` and `/b`, and with `/d1`.
+static A: &str = "11:1 12:1 14:1 16384:1 16515:1 16516:97 16641:1 16642:1";
+static A_AND_B: &str =
+    "11:1 12:1 14:1 16384:1 16515:2 16516:97 16641:1 16642:1 16898:98 17023:1 17024:1";
+static D1: &str = "11:1 12:1 14:1 16384:1 16515:1 16516:100 16517:49 16641:1 16642:1";
+
+/// An image of that length whose slot counts no cell.
+static BROKEN: &str = "11:1 12:1 14:1 16384:1 16516:97 16641:1 16642:1";
+
+/// The commands of number 0, as lines, and what `big 0 3` prints of them on the image of the empty tree.
+static COMMANDS: &str = "write /d7/f7 0 0a02bdbf\nrename /d0/f1 /d5/f1\nmake /d1\n";
+static SUMMARY: &str =
+    "ok 1\nno 2\nspace 1 1\ndigest a24e919299174bac9d4607c8d26f5bad2a266c95aebe5f85bffa4f61010f4ced\n";
+
+/// The words of a format with one slot.
+static FORMAT: &str =
+    "format 1 1 ruler 0000000000000000000000000000000000000000000000000000000000000000";
+
+/// The room of a disk's record and of a sink.
+const ROOM: usize = 1_048_576;
+
+/// More calls of the disk than a run of one command makes.
+const MOST_CALLS: u64 = 60;
+
+/// How a call is to end: its status, the lines carried out, what is written, the image, and the writes and syncs.
+#[derive(Clone, Copy)]
+struct Wanted<'a> {
+    status: u8,
+    done: u64,
+    written: &'a str,
+    image: &'a str,
+    calls: [u64; 2],
+}
+
+/// The number that a text spells.
+fn number(rt: &impl Abort, text: &str) -> usize {
+    text.parse::<usize>().expect(rt, "a number")
+}
+
+/// So many zeros with these bytes in their places.
+fn bytes_of(rt: &impl Abort, alloc: Global, places: &str) -> Vec<u8> {
+    let mut bytes = vec![in alloc; 0; 20_480].expect(rt, "memory");
+    for place in places.split_whitespace() {
+        let (at, byte) = place.split_once(':').expect(rt, "a place and a byte");
+        if let Some(found) = bytes.get_mut(number(rt, at)) {
+            *found = number(rt, byte) as u8;
+        }
+    }
+    bytes
+}
+
+/// The image that is written so.
+fn image_of(rt: &impl Abort, alloc: Global, places: &str) -> Vec<u8> {
+    let mut bytes = bytes_of(rt, alloc, places);
+    for (found, byte) in bytes.iter_mut().zip(b"HSTORE01") {
+        *found = *byte;
+    }
+    bytes
+}
+
+/// The words of a text.
+fn words_of(rt: &impl Abort, alloc: Global, text: &str) -> Words {
+    let mut words = Words::new(alloc);
+    for word in text.split_whitespace() {
+        words.push(word).expect(rt, "memory");
+    }
+    words
+}
+
+/// A disk with these bytes, on which nothing fails.
+fn disk_with(rt: &impl Abort, alloc: Global, bytes: &[u8]) -> Disk {
+    let disk = MemDisk::new(alloc, bytes, ROOM).expect(rt, "memory");
+    FailingDisk::new(disk, Vec::new(alloc), None)
+}
+
+/// A disk with this image.
+fn disk_of(rt: &impl Abort, alloc: Global, places: &str) -> Disk {
+    disk_with(rt, alloc, &image_of(rt, alloc, places))
+}
+
+/// A source that gives the script, first in a piece of 8 bytes and then in one of 3.
+fn source_of(rt: &impl Abort, alloc: Global, script: &str) -> MemSource {
+    let mut pieces = Vec::new(alloc);
+    pieces.push(8).expect(rt, "memory");
+    pieces.push(3).expect(rt, "memory");
+    let bytes = script.as_bytes().to_vec(alloc).expect(rt, "memory");
+    MemSource::new(bytes, pieces, Vec::new(alloc))
+}
+
+/// A sink whose puts do not fail.
+fn sink_of(rt: &impl Abort, alloc: Global) -> MemSink {
+    MemSink::new(alloc, ROOM, Vec::new(alloc)).expect(rt, "memory")
+}
+
+/// What a call is given: this image and this script.
+fn machine_of(rt: &impl Abort, alloc: Global, places: &str, script: &str) -> Machine {
+    Machine {
+        disk: disk_of(rt, alloc, places),
+        source: source_of(rt, alloc, script),
+        sink: sink_of(rt, alloc),
+    }
+}
+
+/// Looks whether a call ended so.
+fn expect_end(rt: &impl Abort, alloc: Global, ended: Ended, wanted: &Wanted<'_>) {
+    let disk = ended.disk.into_disk();
+    let is_ended = (ended.status.code() == wanted.status) & (ended.done == wanted.done);
+    let is_written = ended.sink.written() == wanted.written.as_bytes();
+    let is_image = disk.bytes() == image_of(rt, alloc, wanted.image).as_slice();
+    let is_cost = (disk.write_count() == wanted.calls[0]) & (disk.sync_count() == wanted.calls[1]);
+    assert!(rt; is_ended & is_written, "the end of {}", wanted.written);
+    assert!(rt; is_image & is_cost, "the disk behind {}", wanted.written);
+}
+
+/// The end of a run that made one directory, on the image of the empty tree.
+const MADE_A: Wanted<'static> = Wanted {
+    status: 0,
+    done: 1,
+    written: "ok\n",
+    image: A,
+    calls: [7, 7],
+};
+
+#[test]
+fn a_script_is_answered_at_its_costs(rt: HostRuntime) {
+    let alloc = rt.alloc();
+    let Machine { disk, source, sink } = machine_of(&rt, alloc, EMPTY, "make /a");
+    let words = words_of(&rt, alloc, "run");
+    expect_end(&rt, alloc, serve(alloc, &words, disk, source, sink), &MADE_A);
+    let Machine { disk, source, sink } = machine_of(&rt, alloc, EMPTY, "make /a\n");
+    let ended = a_script_is_answered(alloc, disk, source, sink).expect(&rt, "memory");
+    expect_end(&rt, alloc, ended, &MADE_A);
+    let Machine { disk, source, sink } = machine_of(&rt, alloc, EMPTY, "\n\nmake /a\n");
+    let ended = a_run_costs_its_changes(alloc, disk, source, sink).expect(&rt, "memory");
+    expect_end(&rt, alloc, ended, &MADE_A);
+}
+
+#[test]
+fn a_fault_of_the_sink_or_the_source_keeps_what_was_acknowledged(rt: HostRuntime) {
+    let alloc = rt.alloc();
+    let Machine { disk, source, .. } = machine_of(&rt, alloc, EMPTY, "make /a\nmake /b\n");
+    let mut failing = Vec::new(alloc);
+    failing.push(0).expect(&rt, "memory");
+    let sink = MemSink::new(alloc, ROOM, failing).expect(&rt, "memory");
+    let ended = what_was_acknowledged_stays(alloc, disk, source, sink).expect(&rt, "memory");
+    expect_end(&rt, alloc, ended, &Wanted { status: 4, written: "", ..MADE_A });
+    let Machine { disk, sink, .. } = machine_of(&rt, alloc, EMPTY, "");
+    let mut failing = Vec::new(alloc);
+    failing.push(1).expect(&rt, "memory");
+    let mut pieces = Vec::new(alloc);
+    pieces.push(8).expect(&rt, "memory");
+    let script = b"make /a\nmake /b\n".to_vec(alloc).expect(&rt, "memory");
+    let source = MemSource::new(script, pieces, failing);
+    let ended = what_was_acknowledged_stays(alloc, disk, source, sink).expect(&rt, "memory");
+    expect_end(&rt, alloc, ended, &Wanted { status: 3, ..MADE_A });
+}
+
+#[test]
+fn refused_lines_write_nothing(rt: HostRuntime) {
+    let alloc = rt.alloc();
+    let refused = Wanted {
+        status: 0,
+        done: 3,
+        written: "no root\nno parent\nno syntax\n",
+        image: A,
+        calls: [0, 2],
+    };
+    let Machine { disk, source, sink } = machine_of(&rt, alloc, A, "make /\nmake /b/c\nfoo\n");
+    let ended = refused_lines_change_nothing(alloc, disk, source, sink).expect(&rt, "memory");
+    expect_end(&rt, alloc, ended, &refused);
+}
+
+#[test]
+fn full_tells_the_pages_and_the_slots(rt: HostRuntime) {
+    let alloc = rt.alloc();
+    let script = "make /a\nmake /b\nmake /c\nmake /d\nmake /e\nmake /f\nmake /g\nmake /h\nmake /i\nmake /j\n";
+    let Machine { disk, source, sink } = machine_of(&rt, alloc, EMPTY, script);
+    let ten = a_script_is_answered(alloc, disk, source, sink).expect(&rt, "memory");
+    let Machine { source, sink, .. } = machine_of(&rt, alloc, EMPTY, "make /k\n");
+    let ended = full_is_exact(alloc, ten.disk, source, sink).expect(&rt, "memory");
+    let is_full = ended.sink.written() == b"no full 2 1\n".as_slice();
+    assert!(&rt; is_full & (ended.status.code() == 0) & (ended.done == 1), "full");
+}
+
+/// An image that is to be made by these scripts, parted by `#`.
+fn making_of(rt: &impl Abort, alloc: Global, scripts: &str) -> Making {
+    let mut sources = Vec::new(alloc);
+    for script in scripts.split('#') {
+        sources.push(source_of(rt, alloc, script)).expect(rt, "memory");
+    }
+    let zeros = bytes_of(rt, alloc, "");
+    Making {
+        disk: disk_with(rt, alloc, &zeros),
+        scripts: sources,
+        sink: sink_of(rt, alloc),
+    }
+}
+
+/// Looks whether the scripts of the two make these images.
+fn expect_images(rt: &impl Abort, alloc: Global, scripts: [&str; 2], images: [&str; 2]) {
+    let words = words_of(rt, alloc, FORMAT);
+    let first = making_of(rt, alloc, scripts[0]);
+    let second = making_of(rt, alloc, scripts[1]);
+    let Ok(made) = equal_contents_have_equal_bytes(alloc, &words, first, second) else {
+        assert!(rt; false, "two images");
+        return;
+    };
+    let (first, second) = (made.first.into_disk(), made.second.into_disk());
+    let is_first = first.bytes() == image_of(rt, alloc, images[0]).as_slice();
+    let is_second = second.bytes() == image_of(rt, alloc, images[1]).as_slice();
+    assert!(rt; is_first & is_second, "the images of {} and {}", scripts[0], scripts[1]);
+}
+
+#[test]
+fn two_ways_lead_to_equal_bytes(rt: HostRuntime) {
+    let alloc = rt.alloc();
+    let ways = ["make /a\n", "make /x\nmake /y/z\n##rename /x /b\nmake /c\n#remove /c\nrename /b /a"];
+    expect_images(&rt, alloc, ways, [A, A]);
+    expect_images(&rt, alloc, ["make /a\n", "make /b\nmake /a\n"], [A, A_AND_B]);
+}
+
+#[test]
+fn a_pruned_directory_leaves_the_image_as_it_was(rt: HostRuntime) {
+    let alloc = rt.alloc();
+    let Machine { disk, source, sink } = machine_of(&rt, alloc, EMPTY, "make /a\n");
+    let second = source_of(&rt, alloc, "make /b\nwrite /b/f 0 41\nrename /b/f /b/g\nprune /b\n");
+    let runs = what_was_removed_is_gone(alloc, disk, source, second, sink).expect(&rt, "memory");
+    let is_kept = runs.image.as_slice() == image_of(&rt, alloc, A).as_slice();
+    assert!(&rt; is_kept & (runs.first.code() == 0), "the first script");
+    let left = runs.second.disk.into_disk();
+    let is_gone = left.bytes() == image_of(&rt, alloc, A).as_slice();
+    let is_written = runs.second.sink.written() == b"ok\nok\nok\nok\nok\n".as_slice();
+    assert!(&rt; is_gone & is_written & (runs.second.status.code() == 0), "the second script");
+}
+
+/// Looks whether a run of `make /b` that fails from this call on, and a run on this image that it leaves, come to what was
+/// acknowledged. Tells what the disk reads behind the first run, and whether it ended with 0.
+fn crash_at(rt: &impl Abort, alloc: Global, from: u64, left: &[u8]) -> (Vec<u8>, bool) {
+    let disk = MemDisk::new(alloc, &image_of(rt, alloc, A), ROOM).expect(rt, "memory");
+    let source = source_of(rt, alloc, "make /b\n");
+    let sink = sink_of(rt, alloc);
+    let crash = a_crash_loses_nothing(alloc, disk, from, source, sink, left).expect(rt, "memory");
+    let is_acknowledged = crash.run.sink.written() == b"ok\n".as_slice();
+    let found = crash.next.disk.into_disk();
+    let is_old = found.bytes() == image_of(rt, alloc, A).as_slice();
+    let is_new = found.bytes() == image_of(rt, alloc, A_AND_B).as_slice();
+    assert!(rt; (is_old & !is_acknowledged) | is_new, "a crash at call {from}");
+    assert!(rt; crash.next.status.code() == 0, "the run behind call {from}");
+    let is_done = crash.run.status.code() == 0;
+    let read = crash.run.disk.into_disk();
+    (read.bytes().to_vec(alloc).expect(rt, "memory"), is_done)
+}
+
+#[test]
+fn a_crash_at_each_call_keeps_what_was_acknowledged(rt: HostRuntime) {
+    let alloc = rt.alloc();
+    let new = image_of(&rt, alloc, A_AND_B);
+    for from in 0..MOST_CALLS {
+        let (left, is_done) = crash_at(&rt, alloc, from, &new);
+        let (same, is_done_again) = crash_at(&rt, alloc, from, &left);
+        assert!(&rt; (same == left) & (is_done_again == is_done), "the same run");
+        if is_done {
+            return;
+        }
+    }
+    assert!(&rt; false, "the end");
+}
+
+#[test]
+fn commands_of_a_number_are_those_of_a_script(rt: HostRuntime) {
+    let alloc = rt.alloc();
+    let words = words_of(&rt, alloc, "big 0 3");
+    let first = machine_of(&rt, alloc, EMPTY, "");
+    let second = machine_of(&rt, alloc, EMPTY, COMMANDS);
+    let both = big_is_a_run(alloc, &words, first, second).expect(&rt, "memory");
+    let summed = Wanted {
+        status: 0,
+        done: 3,
+        written: SUMMARY,
+        image: D1,
+        calls: [7, 7],
+    };
+    expect_end(&rt, alloc, both.big, &summed);
+    expect_end(&rt, alloc, both.run, &Wanted { written: "no parent\nno missing\nok\n", ..summed });
+    let machine = machine_of(&rt, alloc, EMPTY, "");
+    expect_end(&rt, alloc, commands_of_big_stay(alloc, &words, machine), &summed);
+    let machine = machine_of(&rt, alloc, EMPTY, "");
+    expect_end(&rt, alloc, big_costs_its_changes(alloc, &words, machine), &summed);
+}
+
+#[test]
+fn nothing_is_done_without_a_tree(rt: HostRuntime) {
+    let alloc = rt.alloc();
+    let nothing = Wanted {
+        status: 8,
+        done: 0,
+        written: "",
+        image: BROKEN,
+        calls: [0, 1],
+    };
+    let Machine { disk, source, sink } = machine_of(&rt, alloc, BROKEN, "make /b\n");
+    let ended = a_run_on_no_tree_does_nothing(alloc, disk, source, sink).expect(&rt, "memory");
+    expect_end(&rt, alloc, ended, &nothing);
+    let words = words_of(&rt, alloc, "big 0 3");
+    let machine = machine_of(&rt, alloc, BROKEN, "");
+    expect_end(&rt, alloc, big_on_no_tree_does_nothing(alloc, &words, machine), &nothing);
+}
