@@ -111,12 +111,12 @@ module _ (t : Tree) (p : Parameters) (image : List ℕ) (to : ScrubsTo image t p
 pub scrub_costs : {D R W : Type 0} (disk_of : D → DiskState) (sink_of : W → SinkState) (before : Outside D R W) (after : Outcome D R W) → IsScrub disk_of sink_of before after → IsObservable (disk_of before.disk)
     → CostsOfScrub after.status (disk_of before.disk) (disk_of after.disk)
 scrub_costs disk_of sink_of before after is told = record {
-    scrub = costs;
-    clean = λ t p to same.
-        subst (λ (writes : ℕ). Costs writes 2 (Done ∷ SinkFault ∷ []) after.status (disk_of before.disk) (disk_of after.disk)) (no_writes t p (disk_of before.disk).bytes to same)
-        (subst (λ (syncs : ℕ). Costs (opening_writes p.slots (disk_of before.disk).bytes + scrub_writes (recovered_slot p.slots (disk_of before.disk).bytes) p.slots) syncs (Done ∷ SinkFault ∷ []) after.status (disk_of before.disk) (disk_of after.disk))
-        (two_syncs t p (disk_of before.disk).bytes to same) (costs t p to));
-  }
+  scrub = costs;
+  clean = λ t p to same.
+      subst (λ (writes : ℕ). Costs writes 2 (Done ∷ SinkFault ∷ []) after.status (disk_of before.disk) (disk_of after.disk)) (no_writes t p (disk_of before.disk).bytes to same)
+      (subst (λ (syncs : ℕ). Costs (opening_writes p.slots (disk_of before.disk).bytes + scrub_writes (recovered_slot p.slots (disk_of before.disk).bytes) p.slots) syncs (Done ∷ SinkFault ∷ []) after.status (disk_of before.disk) (disk_of after.disk))
+      (two_syncs t p (disk_of before.disk).bytes to same) (costs t p to));
+}
   where
     costs : (t : Tree) (p : Parameters) → ScrubsTo (disk_of before.disk).bytes t p
         → Costs (opening_writes p.slots (disk_of before.disk).bytes + scrub_writes (recovered_slot p.slots (disk_of before.disk).bytes) p.slots) (opening_syncs p.slots (disk_of before.disk).bytes) (Done ∷ SinkFault ∷ []) after.status (disk_of before.disk) (disk_of after.disk)

@@ -39,11 +39,11 @@ format_cut_short disk_of p before after is told size other =
 -- bytes that begin as an image does, with another first byte, are no image
 gone_or_whole : (old image : List ℕ) → slice_index old 0 ≡ first_byte → IsWiping old image → IsGoneOrWhole old image
 gone_or_whole old image first (inl torn) = elim (cases_eq (slice_index image 0) first_byte) [
-    | inl same ↦
-        let all : (i : ℕ) → slice_index image i ≡ slice_index old i = alike same in
-        inr (SameOutside-empty 0 old image (record { same_length = torn.same_length; below = λ i low. all i; above = λ i low. all i }))
-    | inr other ↦ inl (no_image image other)
-  ]
+  | inl same ↦
+      let all : (i : ℕ) → slice_index image i ≡ slice_index old i = alike same in
+      inr (SameOutside-empty 0 old image (record { same_length = torn.same_length; below = λ i low. all i; above = λ i low. all i }))
+  | inr other ↦ inl (no_image image other)
+]
   where
     alike : slice_index image 0 ≡ first_byte → (i : ℕ) → slice_index image i ≡ slice_index old i
     alike same zero = same ∙ sym first
@@ -93,8 +93,8 @@ module _ {D R W : Type 0} (disk_of : D → DiskState) (sink_of : W → SinkState
       let to : ScrubsTo (disk_of cut.disk).bytes t p = subst (λ (bytes : List ℕ). ScrubsTo bytes t p) same some.scrubs in
       let scrubs = (first.observed told_first).scrubs t p to in
       let here : ScrubsTo (disk_of again.disk).bytes t p =
-          ⊎_elim (λ before. subst (λ (bytes : List ℕ). ScrubsTo bytes t p) (sym (durable (disk_of again.disk).bytes before)) to) (λ alike. scrubs_alike (disk_of cut.disk).bytes (disk_of again.disk).bytes t p to alike)
-          (scrubs.crash.each (disk_of again.disk).bytes left) in
+      ⊎_elim (λ before. subst (λ (bytes : List ℕ). ScrubsTo bytes t p) (sym (durable (disk_of again.disk).bytes before)) to) (λ alike. scrubs_alike (disk_of cut.disk).bytes (disk_of again.disk).bytes t p to alike)
+      (scrubs.crash.each (disk_of again.disk).bytes left) in
       let next = (second.observed told_second).scrubs t p here in
       let last = (third.observed told_third).scrubs t p some.scrubs in
       record {

@@ -59,6 +59,7 @@ sink_counts Damaged old new is = record { raised_so = λ e. absurd (cc); same = 
 sink_counts NoMemory old new is = record { raised_so = λ e. absurd (cc); same = λ other. is }
 sink_counts AlreadyImage old new is = record { raised_so = λ e. absurd (cc); same = λ other. is }
 sink_counts WrongLength old new is = record { raised_so = λ e. absurd (cc); same = λ other. is }
+
 pub fails_by_status : (status : Status) (disk disk_new : DiskState) (source source_new : SourceState) (sink sink_new : SinkState) → KeepsOutside status disk disk_new source source_new sink sink_new → FailsByStatus status disk disk_new source source_new sink sink_new
 fails_by_status status disk disk_new source source_new sink sink_new is = record {
   disk_faults = disk_counts status disk.faults disk_new.faults is.disk_faults;

@@ -5,7 +5,7 @@ pub mod EndingLemmas
 pub mod FaultLemmas
 pub mod Imaging
 pub mod MachineLemmas
+pub mod MadeTrees
 pub mod RequestLemmas
 pub mod RequestedParameters
-pub mod RunsLemmas
 pub mod WordLemmas

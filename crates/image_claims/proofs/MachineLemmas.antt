@@ -5,7 +5,7 @@ use Rattle.disk_model.specs.FailingDisk.{inner, faults_here, writes_here, syncs_
 use Rattle.disk_model.specs.Memory.{Memory, memory_state}
 use Rattle.disk_model.specs.MemoryLaws.{memory_is_sound}
 use Rattle.disk_model.specs.declared.failing.FailingDisk.{FailingDisk}
-use Rattle.image_claims.specs.Machines.{seen}
+use Rattle.script_claims.specs.Machines.{meaning}
 
-pub seen_sound : (disk : FailingDisk Memory) → IsObservable (seen disk) → IsSound (seen disk)
-seen_sound disk told = counted_is_sound (memory_state (inner disk)) (faults_here disk) (writes_here disk) (syncs_here disk) (memory_is_sound (inner disk))
+pub meaning_sound : (disk : FailingDisk Memory) → IsObservable (meaning disk) → IsSound (meaning disk)
+meaning_sound disk told = counted_is_sound (memory_state (inner disk)) (faults_here disk) (writes_here disk) (syncs_here disk) (memory_is_sound (inner disk))

@@ -1,17 +1,19 @@
 -- What holds of a call with any well-formed words: how it ends, what it counts, and when it is done.
-use Rattle.std.proofs.Common.{◌≡◌, ℕ, List, Some}
+use Rattle.std.proofs.Common.{◌≡◌, ℕ, List, Some, None}
 use Rattle.store_model.specs.Words.{Request, request_of}
 use Rattle.store_model.specs.Words.Request.{Format, Run, Check, Scrub, Wipe, Big}
 use Rattle.disk_model.specs.DiskState.{DiskState}
 use Rattle.script_lines.specs.SourceState.{SourceState}
 use Rattle.script_lines.specs.SinkState.{SinkState}
 use Rattle.image_subcommands.specs.declared.outcome.Outcome.{Outcome}
+use Rattle.image_subcommands.specs.declared.status.Status.TheVariants.{Usage}
 use Rattle.image_subcommands.specs.Outside.{Outside}
 use Rattle.script_claims.specs.Serving.{Serves}
-use Rattle.image_claims.specs.Endings.{IsOneOf, endings, CountsWork}
-use Rattle.image_claims.specs.Faults.{DoesWhatCanBeDone, TakesCommands, RefusesImage}
+use Rattle.image_claims.specs.Endings.{IsOneOf, endings, CountsWork, DoesNothing}
+use Rattle.image_claims.specs.Faults.{FailsByStatus, DoesWhatCanBeDone, TakesCommands, RefusesImage}
 use Rattle.image_claims.proofs.EndingLemmas.{format_ends, run_ends, check_ends, scrub_ends, wipe_ends, big_ends, counts_work, counts_verdict}
-use Rattle.image_claims.proofs.FaultLemmas.{format_done, run_done, check_done, scrub_done, wipe_done, big_done, run_refuses, big_refuses}
+use Rattle.image_claims.proofs.FaultLemmas.{fails_by_status, format_done, run_done, check_done, scrub_done, wipe_done, big_done, run_refuses, big_refuses}
+use Rattle.image_claims.proofs.WordLemmas.{unserved_words}
 
 module _ {D R W : Type 0} (disk_of : D → DiskState) (source_of : R → SourceState) (sink_of : W → SinkState) (words : List (List ℕ)) (before : Outside D R W) (after : Outcome D R W) (serves : Serves disk_of source_of sink_of words before after) where
   pub ends_as_listed : (request : Request) → request_of words ≡ Some request → IsOneOf after.status (endings request)
@@ -46,3 +48,14 @@ module _ {D R W : Type 0} (disk_of : D → DiskState) (source_of : R → SourceS
   refuses_image Scrub is takes = absurd takes
   refuses_image Wipe is takes = absurd takes
   refuses_image (Big number count) is takes = big_refuses disk_of before after sink_of number count (serves.big number count is)
+
+  -- words that ask for nothing do nothing, and no others are said to
+  pub unserved_does_nothing : request_of words ≡ None → DoesNothing after.status after.done before.disk after.disk before.source after.source before.sink after.sink
+  unserved_does_nothing none = unserved_words before after (serves.uncalled none) (serves.unserved none)
+
+  pub unserved_alone : after.status ≡ Usage → request_of words ≡ None
+  unserved_alone usage = serves.usage usage
+
+  -- each failed call is the status
+  pub failed_call_is_status : FailsByStatus after.status (disk_of before.disk) (disk_of after.disk) (source_of before.source) (source_of after.source) (sink_of before.sink) (sink_of after.sink)
+  failed_call_is_status = fails_by_status after.status (disk_of before.disk) (disk_of after.disk) (source_of before.source) (source_of after.source) (sink_of before.sink) (sink_of after.sink) serves.outside

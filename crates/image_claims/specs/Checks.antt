@@ -1,5 +1,5 @@
 -- What a check says of the bytes on a disk, and what a run of the same bytes does.
-use Rattle.std.specs.Prelude.{◌≡◌, ◌⊎◌, ◌+◌, ◌-◌, ◌^◌, ◌<◌, ◌≤◌, ℕ, List, [], ◌∷◌, ◌++◌, map, codes}
+use Rattle.std.specs.Prelude.{◌≡◌, ◌⊎◌, ◌+◌, ◌-◌, ◌^◌, ◌<◌, ◌≤◌, ℕ, List, [], ◌∷◌, ◌++◌, codes}
 use Rattle.std.specs.Fmt.{decimal}
 use Rattle.store_model.specs.Parameters.{Parameters}
 use Rattle.store_model.specs.Trees.{Tree}
@@ -11,7 +11,6 @@ use Rattle.disk_model.specs.DiskState.{DiskState}
 use Rattle.gate_journal.specs.Places.{ReadsOnly}
 use Rattle.image_check.specs.Counts.{count_dirs, count_files, count_bytes}
 use Rattle.image_check.specs.Verdicts.{IsImageWith}
-use Rattle.script_lines.specs.Memory.{SourceMemory, SinkMemory}
 use Rattle.script_lines.specs.SinkState.{SinkState, AppendsPrefix}
 use Rattle.image_subcommands.specs.declared.status.Status.{Status}
 use Rattle.image_subcommands.specs.declared.status.Status.TheVariants.{Done, SourceFault, SinkFault, DiskFault, TooLong, NotImage, Damaged, NoMemory}
@@ -88,15 +87,6 @@ pub record LeavesAlone {R W : Type 0} (done : ℕ) (old new : DiskState) (source
   pub done_is : done ≡ 0
   pub source_is : source_new ≡ source
   pub sink_is : sink_new ≡ sink
-
--- the tree after the lines of scripts, one script behind another
-unfoldable pub tree_after_scripts : Tree → List (List ℕ) → Parameters → Tree
-tree_after_scripts t [] p = t
-tree_after_scripts t (script ∷ scripts) p = tree_after_scripts (tree_after t (lines script) p) scripts p
-
--- the bytes that are left in the sources of these scripts
-abbrev pub scripts_of : List (SourceMemory × SinkMemory) → List (List ℕ)
-scripts_of runs = map (λ run. run.0.left) runs
 
 -- A check of the image of a tree ends clean, unless a call fails or memory runs out, and prints the numbers of the tree.
 pub record ChecksTree (t : Tree) (p : Parameters) (status : Status) (written written_new : List ℕ) : Type 0 where

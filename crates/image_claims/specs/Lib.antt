@@ -4,4 +4,3 @@ pub mod Crashes
 pub mod Endings
 pub mod Faults
 pub mod Images
-pub mod Machines

@@ -8,9 +8,10 @@ ghost use Rattle.store_model.specs.Words.{request_of};
 ghost use Rattle.store_model.specs.Words.Request.{Check, Run};
 ghost use Rattle.script_lines.specs.Memory.{source_state, sink_state};
 ghost use Rattle.image_claims.specs.Checks.{ChecksExactly, AgreesWithRun, AnswersByOneTree, LeavesAlone};
-ghost use Rattle.image_claims.specs.Machines.{seen};
+ghost use Rattle.script_claims.specs.Machines.{meaning};
 
-use crate::machine::{Ended, Machine, call};
+use crate::call::call;
+use script_claims::{Ended, Machine};
 use script_lines::MemSink;
 use std::alloc::Global;
 use store_top::{Status, Words};
@@ -19,7 +20,7 @@ use store_top::{Status, Words};
 /// tree's numbers, `not-image` exactly of those that are no image, and `damaged` exactly of the others, unless a call fails
 /// or memory runs out before. It writes nothing to the disk, and takes nothing from the source.
 pub fn check(alloc: Global, check: &Words, machine: Machine) -> Ended
-    ensures exact { request_of check.now ≡ Some Check → ChecksExactly result.status (seen machine.disk) (seen result.disk) (sink_state machine.sink) (sink_state result.sink) }
+    ensures exact { request_of check.now ≡ Some Check → ChecksExactly result.status (meaning machine.disk) (meaning result.disk) (sink_state machine.sink) (sink_state result.sink) }
     ensures takes_nothing { request_of check.now ≡ Some Check → result.source ≡ machine.source }
 {
     call(alloc, check, machine)
@@ -48,9 +49,9 @@ pub fn check_then_run(
 ) -> Judged
     ensures agrees { request_of check.now ≡ Some Check → request_of run.now ≡ Some Run → AgreesWithRun result.check result.run.status }
     ensures answers { request_of check.now ≡ Some Check → request_of run.now ≡ Some Run → result.check ≡ Status.Done →
-        AnswersByOneTree (seen machine.disk).bytes machine.source.left replies.written result.run.status result.run.sink.written (seen result.run.disk).bytes }
-    ensures alone { request_of check.now ≡ Some Check → request_of run.now ≡ Some Run → ((t : Tree) (p : Parameters) → Represents (seen machine.disk).bytes t p → ⊥) →
-        LeavesAlone result.run.done (seen machine.disk) (seen result.run.disk) machine.source result.run.source replies result.run.sink }
+        AnswersByOneTree (meaning machine.disk).bytes machine.source.left replies.written result.run.status result.run.sink.written (meaning result.run.disk).bytes }
+    ensures alone { request_of check.now ≡ Some Check → request_of run.now ≡ Some Run → ((t : Tree) (p : Parameters) → Represents (meaning machine.disk).bytes t p → ⊥) →
+        LeavesAlone result.run.done (meaning machine.disk) (meaning result.run.disk) machine.source result.run.source replies result.run.sink }
 {
     let checked = call(alloc, check, machine);
     let machine = Machine {

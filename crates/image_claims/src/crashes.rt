@@ -7,17 +7,18 @@ ghost use Rattle.store_model.specs.Words.Request.{Format, Scrub, Wipe};
 ghost use Rattle.store_model.specs.Images.{first_byte};
 ghost use Rattle.disk_model.specs.DiskState.{IsDurable};
 ghost use Rattle.image_claims.specs.Crashes.{MightLeave, MakesAllOrNone, WipesAllOrNone, ScrubsAgain};
-ghost use Rattle.image_claims.specs.Machines.{seen};
+ghost use Rattle.script_claims.specs.Machines.{meaning};
 
-use crate::machine::{Ended, Machine, call};
+use crate::call::call;
+use script_claims::{Ended, Machine};
 use std::alloc::Global;
 use store_top::{Status, Words};
 
 /// An image is made on a disk of its length that does not begin as one. Whatever call of the disk fails first, and
 /// wherever a crash comes, what is left is no image, or the whole image of the empty tree.
 pub fn format_cut_short(alloc: Global, format: &Words, machine: Machine) -> Ended
-    ensures { (p : Parameters) → request_of format.now ≡ Some (Format p) → (seen machine.disk).size ≡ image_len p.slots → slice_index (seen machine.disk).bytes 0 ≢ first_byte →
-        MakesAllOrNone p (seen machine.disk) (seen result.disk) }
+    ensures { (p : Parameters) → request_of format.now ≡ Some (Format p) → (meaning machine.disk).size ≡ image_len p.slots → slice_index (meaning machine.disk).bytes 0 ≢ first_byte →
+        MakesAllOrNone p (meaning machine.disk) (meaning result.disk) }
 {
     call(alloc, format, machine)
 }
@@ -25,7 +26,7 @@ pub fn format_cut_short(alloc: Global, format: &Words, machine: Machine) -> Ende
 /// An image is wiped, on a disk that begins as one does. Whatever call of the disk fails first, and wherever a crash
 /// comes, what is left is no image any more, or each byte of it is as it was.
 pub fn wipe_cut_short(alloc: Global, wipe: &Words, machine: Machine) -> Ended
-    ensures { request_of wipe.now ≡ Some Wipe → slice_index (seen machine.disk).bytes 0 ≡ first_byte → WipesAllOrNone (seen machine.disk) (seen result.disk) }
+    ensures { request_of wipe.now ≡ Some Wipe → slice_index (meaning machine.disk).bytes 0 ≡ first_byte → WipesAllOrNone (meaning machine.disk) (meaning result.disk) }
 {
     call(alloc, wipe, machine)
 }
@@ -52,9 +53,9 @@ pub fn scrub_cut_short(
     left: Machine,
     twin: Machine,
 ) -> Scrubs
-    ensures { request_of scrub.now ≡ Some Scrub → IsDurable (seen machine.disk) →
-        MightLeave (seen machine.disk) (seen result.cut.disk) (seen left.disk).bytes → (seen twin.disk).bytes ≡ (seen machine.disk).bytes →
-        result.whole.status ≡ Status.Done → ScrubsAgain (seen result.whole.disk).bytes result.again.status (seen result.again.disk) }
+    ensures { request_of scrub.now ≡ Some Scrub → IsDurable (meaning machine.disk) →
+        MightLeave (meaning machine.disk) (meaning result.cut.disk) (meaning left.disk).bytes → (meaning twin.disk).bytes ≡ (meaning machine.disk).bytes →
+        result.whole.status ≡ Status.Done → ScrubsAgain (meaning result.whole.disk).bytes result.again.status (meaning result.again.disk) }
 {
     let cut = call(alloc, scrub, machine);
     let again = call(alloc, scrub, left);

@@ -5,12 +5,12 @@
 //! All functions come to the program by `script_claims::serve`. All but one do so on one kind of machine.
 #![tactic(auto)]
 
+mod call;
 mod checks;
 mod costs;
 mod crashes;
 mod faults;
 mod images;
-mod machine;
 mod runs;
 mod table;
 mod words;
@@ -20,7 +20,6 @@ pub use costs::{check_at_cost, format_at_cost, scrub_at_cost, wipe_at_cost};
 pub use crashes::{Scrubs, format_cut_short, scrub_cut_short, wipe_cut_short};
 pub use faults::call_anything;
 pub use images::{Remade, format, scrub, wipe, wipe_then_format};
-pub use machine::{Ended, Machine};
 pub use runs::check_behind_runs;
 pub use table::{call_counted, number_of, table_is_spelled_out};
 pub use words::call_unserved;

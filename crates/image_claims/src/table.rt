@@ -8,7 +8,8 @@ ghost use Rattle.image_subcommands.specs.declared.status.Status.{Status};
 ghost use Rattle.image_subcommands.specs.Statuses.{row, IsFormatStatus, IsRunStatus, IsCheckStatus, IsScrubStatus, IsWipeStatus, IsBigStatus};
 ghost use Rattle.image_claims.specs.Endings.{IsOneOf, endings, number, CountsWork};
 
-use crate::machine::{Ended, Machine, call};
+use crate::call::call;
+use script_claims::{Ended, Machine};
 use std::alloc::Global;
 use store_top::{Status, Words};
 

@@ -5,10 +5,13 @@
 //! its slot, which begins at 16,384: 1 for a page, at 131 that it has one cell, at 132 the name, at 257 that the value has one byte,
 //! at 258 that it is a directory.
 
-use crate::{Machine, call_anything, call_counted, call_unserved, check, check_at_cost};
-use crate::{check_behind_runs, check_then_run, format, format_at_cost, format_cut_short, number_of, scrub, scrub_at_cost};
-use crate::{scrub_cut_short, wipe, wipe_at_cost, wipe_cut_short, wipe_then_format};
+use crate::{
+    call_anything, call_counted, call_unserved, check, check_at_cost, check_behind_runs,
+    check_then_run, format, format_at_cost, format_cut_short, number_of, scrub, scrub_at_cost,
+    scrub_cut_short, wipe, wipe_at_cost, wipe_cut_short, wipe_then_format,
+};
 use disk_model::{FailingDisk, MemDisk, StopChoice};
+use script_claims::{Machine, Making};
 use script_lines::{MemSink, MemSource};
 use std::alloc::Global;
 use std::process::Abort;
@@ -18,7 +21,8 @@ use store_top::{Status, Words};
 const LEN: usize = 20_480;
 
 /// The words that make one.
-const LEAST: &str = "format 1 1 ruler 0000000000000000000000000000000000000000000000000000000000000000";
+const LEAST: &str =
+    "format 1 1 ruler 0000000000000000000000000000000000000000000000000000000000000000";
 
 /// The bytes at the front of one: `HSTORE01`, one slot, one level, the draw `ruler`, version 1.
 static HEADER: [u8; 15] = [72, 83, 84, 79, 82, 69, 48, 49, 0, 0, 0, 1, 1, 0, 1];
@@ -142,7 +146,12 @@ fn a_disk_is_wiped(rt: HostRuntime) {
     let disk = disk.into_disk();
     assert!(rt; (disk.write_count() == 6) & (disk.sync_count() == 2));
 
-    let remade = wipe_then_format(alloc, &wiping, &least, machine(&rt, alloc, &image, NEVER, ""));
+    let remade = wipe_then_format(
+        alloc,
+        &wiping,
+        &least,
+        machine(&rt, alloc, &image, NEVER, ""),
+    );
     assert!(rt; (remade.wipe == Status::Done) & (remade.format.status == Status::Done));
     assert!(rt; remade.format.disk.into_disk().bytes() == empty(&rt, alloc).as_slice());
 }
@@ -215,14 +224,22 @@ fn an_image_is_scrubbed(rt: HostRuntime) {
 fn statuses_are_told(rt: HostRuntime) {
     let alloc = rt.alloc();
     let image = one_directory(&rt, alloc);
-    let unserved = call_unserved(alloc, &words(&rt, alloc, "chek"), machine(&rt, alloc, &image, 0, ""));
+    let unserved = call_unserved(
+        alloc,
+        &words(&rt, alloc, "chek"),
+        machine(&rt, alloc, &image, 0, ""),
+    );
     assert!(rt; (unserved.status == Status::Usage) & (unserved.done == 0));
 
     let Machine { disk, source, sink } = machine(&rt, alloc, &image, 2, "");
     let failed = call_anything(alloc, &words(&rt, alloc, "check"), disk, source, sink);
     assert!(rt; failed.status == Status::DiskFault);
 
-    let counted = call_counted(alloc, &words(&rt, alloc, "scrub"), machine(&rt, alloc, &image, NEVER, ""));
+    let counted = call_counted(
+        alloc,
+        &words(&rt, alloc, "scrub"),
+        machine(&rt, alloc, &image, NEVER, ""),
+    );
     assert!(rt; (number_of(counted.status) == 0) & (counted.done == 1));
     assert!(rt; (number_of(Status::Usage) == 2) & (number_of(Status::WrongLength) == 11));
 }
@@ -230,20 +247,29 @@ fn statuses_are_told(rt: HostRuntime) {
 #[test]
 fn an_image_is_checked_behind_runs(rt: HostRuntime) {
     let alloc = rt.alloc();
-    let (least, running) = (words(&rt, alloc, LEAST), words(&rt, alloc, "run"));
+    let (least, checking) = (words(&rt, alloc, LEAST), words(&rt, alloc, "check"));
     let mut scripts = Vec::new(alloc);
     for script in ["make /a\nmake /b\n", "remove /b\nmake /a\n"] {
         let bytes = script.as_bytes().to_vec(alloc).expect(&rt, "memory");
-        let source = MemSource::new(bytes, Vec::new(alloc), Vec::new(alloc));
-        scripts.push((source, sink(&rt, alloc))).expect(&rt, "memory");
+        scripts
+            .push(MemSource::new(bytes, Vec::new(alloc), Vec::new(alloc)))
+            .expect(&rt, "memory");
     }
-    let blank = machine(&rt, alloc, &zeros(&rt, alloc, LEN), NEVER, "");
-    let checking = words(&rt, alloc, "check");
-    match check_behind_runs(alloc, &least, &running, &checking, blank, scripts) {
-        Some(checked) => {
+    let Machine {
+        disk,
+        sink: replies,
+        ..
+    } = machine(&rt, alloc, &zeros(&rt, alloc, LEN), NEVER, "");
+    let making = Making {
+        disk,
+        scripts,
+        sink: replies,
+    };
+    match check_behind_runs(alloc, &least, &checking, making, sink(&rt, alloc)) {
+        Ok(checked) => {
             assert!(rt; checked.sink.written() == "clean 1 1 0 0\n".as_bytes());
             assert!(rt; checked.disk.into_disk().bytes() == one_directory(&rt, alloc).as_slice());
         }
-        None => assert!(rt; false, "a run ended before"),
+        Err(_) => assert!(rt; false, "a run ended before"),
     }
 }

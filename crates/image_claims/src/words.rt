@@ -4,7 +4,8 @@ ghost use Rattle.std.specs.Prelude.{◌≡◌, None};
 ghost use Rattle.store_model.specs.Words.{request_of};
 ghost use Rattle.image_claims.specs.Endings.{DoesNothing};
 
-use crate::machine::{Ended, Machine, call};
+use crate::call::call;
+use script_claims::{Ended, Machine};
 use std::alloc::Global;
 use store_top::{Status, Words};
 

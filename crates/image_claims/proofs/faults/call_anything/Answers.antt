@@ -1,10 +1,10 @@
 use Rattle.image_subcommands.specs.Outside.{outside_of}
-use Rattle.image_claims.proofs.FaultLemmas.{fails_by_status, format_lengths}
-use Rattle.image_claims.proofs.RequestLemmas.{does_what_can_be_done, refuses_image}
+use Rattle.image_claims.proofs.FaultLemmas.{format_lengths}
+use Rattle.image_claims.proofs.RequestLemmas.{failed_call_is_status, does_what_can_be_done, refuses_image}
 use Rattle.image_claims.proofs.faults.call_anything.Goals as goal
 
 pub returns-clause-faults : goal.returns-clause-faults
-returns-clause-faults g c = fails_by_status c.serve.result.status (g.D.Disk.state c.args.disk) (g.D.Disk.state c.serve.result.disk) (g.R.Source.state c.args.source) (g.R.Source.state c.serve.result.source) (g.W.Sink.state c.args.sink) (g.W.Sink.state c.serve.result.sink) c.serve.ensures.outside
+returns-clause-faults g c = failed_call_is_status g.D.Disk.state g.R.Source.state g.W.Sink.state c.args.words.now (outside_of c.args.disk c.args.source c.args.sink) c.serve.result c.serve.ensures
 
 pub returns-clause-done : goal.returns-clause-done
 returns-clause-done g c request is = does_what_can_be_done g.D.Disk.state g.R.Source.state g.W.Sink.state c.args.words.now (outside_of c.args.disk c.args.source c.args.sink) c.serve.result c.serve.ensures request is

@@ -1,11 +1,11 @@
 use Rattle.std.proofs.Common.{refl}
 use Rattle.image_subcommands.specs.Outside.{outside_of}
-use Rattle.image_claims.specs.Machines.{seen}
+use Rattle.script_claims.specs.Machines.{meaning}
 use Rattle.image_claims.proofs.Imaging.{format_exact, format_spares}
 use Rattle.image_claims.proofs.images.format.Goals as goal
 
 pub returns-clause-makes : goal.returns-clause-makes
-returns-clause-makes c p is = format_exact seen p (outside_of c.args.machine.disk c.args.machine.source c.args.machine.sink) c.call.result (c.call.ensures.format p is) refl
+returns-clause-makes c p is = format_exact meaning p (outside_of c.args.machine.disk c.args.machine.source c.args.machine.sink) c.call.result (c.call.ensures.format p is) refl
 
 pub returns-clause-spares : goal.returns-clause-spares
-returns-clause-spares c p is = format_spares seen p (outside_of c.args.machine.disk c.args.machine.source c.args.machine.sink) c.call.result (c.call.ensures.format p is)
+returns-clause-spares c p is = format_spares meaning p (outside_of c.args.machine.disk c.args.machine.source c.args.machine.sink) c.call.result (c.call.ensures.format p is)
