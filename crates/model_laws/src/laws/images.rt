@@ -2,7 +2,7 @@
 #![tactic(auto)]
 
 ghost use Rattle.std.specs.Prelude.{◌≡◌, ◌≢◌, ℕ, ◌<◌, List, length, slice_index, Some, None};
-ghost use Rattle.store_model.specs.Lists.{zeros};
+ghost use Rattle.store_model.specs.Lists.{IsBytes, zeros};
 ghost use Rattle.store_model.specs.Parameters.{Parameters, IsParameters, block_len, table_at, image_len};
 ghost use Rattle.store_model.specs.Trees.{Tree, IsTree};
 ghost use Rattle.store_model.specs.Pages.{Page, IsPage, Fits};
@@ -13,6 +13,11 @@ pub fn blocks_have_one_length()
     ensures header { (p : Parameters) → IsParameters p → length (header p) ≡ block_len }
     ensures empty_slot { length (slot_bytes None) ≡ block_len }
     ensures page { (page : Page) → IsPage page → length (slot_bytes (Some page)) ≡ block_len }
+{}
+
+/// The header of parameters in their range is made of bytes.
+pub fn headers_are_bytes()
+    ensures { (p : Parameters) → IsParameters p → IsBytes (header p) }
 {}
 
 /// The layout of a tree that fits has the length of an image with its parameters.

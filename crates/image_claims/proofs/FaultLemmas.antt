@@ -1,0 +1,145 @@
+-- Which failed call a status tells, and when a call is done.
+use Rattle.std.proofs.Common.{◌≡◌, ◌⊎◌, ◌≤◌, ℕ, List, [], ◌∷◌, refl, inl, inr, ⊎_elim}
+use Rattle.store_model.specs.Parameters.{Parameters}
+use Rattle.store_model.specs.Words.Request.{Format, Run, Check, Scrub, Wipe, Big}
+use Rattle.disk_model.specs.DiskState.{DiskState}
+use Rattle.script_lines.specs.SourceState.{SourceState}
+use Rattle.script_lines.specs.SinkState.{SinkState}
+use Rattle.image_subcommands.specs.declared.outcome.Outcome.{Outcome}
+use Rattle.image_subcommands.specs.declared.status.Status.{Status}
+use Rattle.image_subcommands.specs.declared.status.Status.TheVariants.{Done, Usage, SourceFault, SinkFault, DiskFault, TooLong, NotImage, Damaged, NoMemory, AlreadyImage, WrongLength}
+use Rattle.image_subcommands.specs.CheckCall.{IsCheck}
+use Rattle.image_subcommands.specs.FormatCall.{IsFormat}
+use Rattle.image_subcommands.specs.Outside.{Outside, KeepsOutside}
+use Rattle.image_subcommands.specs.ScrubCall.{IsScrub}
+use Rattle.image_subcommands.specs.Statuses.{disk_faults_by, source_faults_by, sink_faults_by}
+use Rattle.image_subcommands.specs.WipeCall.{IsWipe}
+use Rattle.store_top.specs.BigCall.{IsBig}
+use Rattle.store_top.specs.RunCall.{IsRun}
+use Rattle.image_claims.specs.Faults.{CountsFault, FailsByStatus, IsDoneOrLacks, DoesWhatCanBeDone, RefusesLength, RefusesImage}
+use Rattle.image_claims.proofs.EndingLemmas.{is_past_header, is_refused_image, is_refused_and_summed}
+
+-- ---- the counts of failed calls
+
+pub disk_counts : (status : Status) (old new : ℕ) → new ≡ disk_faults_by status old → CountsFault status DiskFault old new
+disk_counts Done old new is = record { raised_so = λ e. absurd (cc); same = λ other. is }
+disk_counts Usage old new is = record { raised_so = λ e. absurd (cc); same = λ other. is }
+disk_counts SourceFault old new is = record { raised_so = λ e. absurd (cc); same = λ other. is }
+disk_counts SinkFault old new is = record { raised_so = λ e. absurd (cc); same = λ other. is }
+disk_counts DiskFault old new is = record { raised_so = λ e. is; same = λ other. absurd (other refl) }
+disk_counts TooLong old new is = record { raised_so = λ e. absurd (cc); same = λ other. is }
+disk_counts NotImage old new is = record { raised_so = λ e. absurd (cc); same = λ other. is }
+disk_counts Damaged old new is = record { raised_so = λ e. absurd (cc); same = λ other. is }
+disk_counts NoMemory old new is = record { raised_so = λ e. absurd (cc); same = λ other. is }
+disk_counts AlreadyImage old new is = record { raised_so = λ e. absurd (cc); same = λ other. is }
+disk_counts WrongLength old new is = record { raised_so = λ e. absurd (cc); same = λ other. is }
+
+pub source_counts : (status : Status) (old new : ℕ) → new ≡ source_faults_by status old → CountsFault status SourceFault old new
+source_counts Done old new is = record { raised_so = λ e. absurd (cc); same = λ other. is }
+source_counts Usage old new is = record { raised_so = λ e. absurd (cc); same = λ other. is }
+source_counts SourceFault old new is = record { raised_so = λ e. is; same = λ other. absurd (other refl) }
+source_counts SinkFault old new is = record { raised_so = λ e. absurd (cc); same = λ other. is }
+source_counts DiskFault old new is = record { raised_so = λ e. absurd (cc); same = λ other. is }
+source_counts TooLong old new is = record { raised_so = λ e. absurd (cc); same = λ other. is }
+source_counts NotImage old new is = record { raised_so = λ e. absurd (cc); same = λ other. is }
+source_counts Damaged old new is = record { raised_so = λ e. absurd (cc); same = λ other. is }
+source_counts NoMemory old new is = record { raised_so = λ e. absurd (cc); same = λ other. is }
+source_counts AlreadyImage old new is = record { raised_so = λ e. absurd (cc); same = λ other. is }
+source_counts WrongLength old new is = record { raised_so = λ e. absurd (cc); same = λ other. is }
+
+pub sink_counts : (status : Status) (old new : ℕ) → new ≡ sink_faults_by status old → CountsFault status SinkFault old new
+sink_counts Done old new is = record { raised_so = λ e. absurd (cc); same = λ other. is }
+sink_counts Usage old new is = record { raised_so = λ e. absurd (cc); same = λ other. is }
+sink_counts SourceFault old new is = record { raised_so = λ e. absurd (cc); same = λ other. is }
+sink_counts SinkFault old new is = record { raised_so = λ e. is; same = λ other. absurd (other refl) }
+sink_counts DiskFault old new is = record { raised_so = λ e. absurd (cc); same = λ other. is }
+sink_counts TooLong old new is = record { raised_so = λ e. absurd (cc); same = λ other. is }
+sink_counts NotImage old new is = record { raised_so = λ e. absurd (cc); same = λ other. is }
+sink_counts Damaged old new is = record { raised_so = λ e. absurd (cc); same = λ other. is }
+sink_counts NoMemory old new is = record { raised_so = λ e. absurd (cc); same = λ other. is }
+sink_counts AlreadyImage old new is = record { raised_so = λ e. absurd (cc); same = λ other. is }
+sink_counts WrongLength old new is = record { raised_so = λ e. absurd (cc); same = λ other. is }
+
+pub fails_by_status : (status : Status) (disk disk_new : DiskState) (source source_new : SourceState) (sink sink_new : SinkState) → KeepsOutside status disk disk_new source source_new sink sink_new → FailsByStatus status disk disk_new source source_new sink sink_new
+fails_by_status status disk disk_new source source_new sink sink_new is = record {
+  disk_faults = disk_counts status disk.faults disk_new.faults is.disk_faults;
+  source_faults = source_counts status source.faults source_new.faults is.source_faults;
+  sink_faults = sink_counts status sink.faults sink_new.faults is.sink_faults;
+  size = is.disk_kept.size;
+  disk_tells = is.disk_kept.observable;
+  source_tells = is.source_observable;
+  sink_tells = is.sink_observable;
+  writes = is.disk_kept.writes;
+  syncs = is.disk_kept.syncs;
+}
+
+-- ---- what can be done is done
+
+done_or_lacks : (status : Status) → (status ≡ Done) ⊎ (status ≡ NoMemory) → IsDoneOrLacks status
+done_or_lacks status ends = ⊎_elim inl (λ e. inr (inl e)) ends
+
+module _ {D R W : Type 0} (disk_of : D → DiskState) (source_of : R → SourceState) (sink_of : W → SinkState) (before : Outside D R W) (after : Outcome D R W) where
+  pub format_done : (p : Parameters) → IsFormat disk_of p before after → DoesWhatCanBeDone (Format p) after.status after.done (disk_of before.disk) (disk_of after.disk) (source_of before.source) (source_of after.source) (sink_of before.sink) (sink_of after.sink)
+  format_done p is = record {
+    done_or_lacks = λ can none. done_or_lacks after.status (((is.observed can.0).blank (record { size_is = can.1; other_byte = can.2 })).complete none.disk_well);
+    lines = λ can none. tt;
+  }
+
+  pub run_done : IsRun disk_of source_of sink_of before after → DoesWhatCanBeDone Run after.status after.done (disk_of before.disk) (disk_of after.disk) (source_of before.source) (source_of after.source) (sink_of before.sink) (sink_of after.sink)
+  run_done is = record {
+    done_or_lacks = λ can none.
+        let runs = (is.observed can.0).runs can.1 can.3.0 can.3.1 can.3.2 in
+        ⊎_elim (λ done. inl done.0) (λ lacks. inr (inl lacks)) (runs.complete can.2 none.disk_well none.source_well none.sink_well);
+    lines = λ can none e.
+        let runs = (is.observed can.0).runs can.1 can.3.0 can.3.1 can.3.2 in
+        ⊎_elim (λ done. done.1) (λ lacks. absurd (cc)) (runs.complete can.2 none.disk_well none.source_well none.sink_well);
+  }
+
+  pub check_done : IsCheck disk_of sink_of before after → DoesWhatCanBeDone Check after.status after.done (disk_of before.disk) (disk_of after.disk) (source_of before.source) (source_of after.source) (sink_of before.sink) (sink_of after.sink)
+  check_done is = record {
+    done_or_lacks = λ can none. done_or_lacks after.status ((is.observed can.0).ends.complete (record { tree = can.1.0; params = can.1.1; represents = can.1.2 }) none.disk_well none.sink_well);
+    lines = λ can none. tt;
+  }
+
+  pub scrub_done : IsScrub disk_of sink_of before after → DoesWhatCanBeDone Scrub after.status after.done (disk_of before.disk) (disk_of after.disk) (source_of before.source) (source_of after.source) (sink_of before.sink) (sink_of after.sink)
+  scrub_done is = record {
+    done_or_lacks = λ can none. done_or_lacks after.status ((is.observed can.0).ends.complete (record { tree = can.1.0; params = can.1.1; scrubs = can.1.2 }) none.disk_well none.sink_well);
+    lines = λ can none. tt;
+  }
+
+  pub wipe_done : IsWipe disk_of before after → DoesWhatCanBeDone Wipe after.status after.done (disk_of before.disk) (disk_of after.disk) (source_of before.source) (source_of after.source) (sink_of before.sink) (sink_of after.sink)
+  wipe_done is = record {
+    done_or_lacks = λ can none. done_or_lacks after.status (is.complete none.disk_well);
+    lines = λ can none. tt;
+  }
+
+  pub big_done : (number count : ℕ) → IsBig disk_of sink_of number count before after → DoesWhatCanBeDone (Big number count) after.status after.done (disk_of before.disk) (disk_of after.disk) (source_of before.source) (source_of after.source) (sink_of before.sink) (sink_of after.sink)
+  big_done number count is = record {
+    done_or_lacks = λ can none. done_or_lacks after.status (((is.observed can.0).runs can.1.0 can.1.1 can.1.2).complete none.disk_well none.sink_well);
+    lines = λ can none. tt;
+  }
+
+-- ---- what is refused
+
+module _ {D R W : Type 0} (disk_of : D → DiskState) (before : Outside D R W) (after : Outcome D R W) where
+  pub format_lengths : (p : Parameters) → IsFormat disk_of p before after → RefusesLength p after.status (disk_of before.disk)
+  format_lengths p is = record {
+    wrong_length = record { only = is.wrong_length.only; always = λ differs. ⊎_elim inl (λ e. inr (inl e)) (is.wrong_length.always differs) };
+    already_image = is.right_length;
+  }
+
+  pub run_refuses : (source_of : R → SourceState) (sink_of : W → SinkState) → IsRun disk_of source_of sink_of before after → RefusesImage after.status after.done (disk_of before.disk) before.source after.source before.sink after.sink
+  run_refuses source_of sink_of is = record {
+    done_is = λ so. (is.refused (is_refused_image after.status so)).done;
+    source_is = λ so. (is.refused (is_refused_image after.status so)).source;
+    sink_is = λ so. (is.refused (is_refused_image after.status so)).sink;
+    length_is = λ so. let named = is.named (is_past_header after.status so) in (named.0, named.1.in_range, named.1.size_is);
+  }
+
+  pub big_refuses : (sink_of : W → SinkState) (number count : ℕ) → IsBig disk_of sink_of number count before after → RefusesImage after.status after.done (disk_of before.disk) before.source after.source before.sink after.sink
+  big_refuses sink_of number count is = record {
+    done_is = λ so. is.refused (is_refused_image after.status so);
+    source_is = λ so. is.source;
+    sink_is = λ so. is.silent (is_refused_and_summed after.status so);
+    length_is = λ so. let named = is.named (is_past_header after.status so) in (named.0, named.1.in_range, named.1.size_is);
+  }

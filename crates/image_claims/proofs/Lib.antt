@@ -1,0 +1,11 @@
+pub mod Checking
+pub mod Costing
+pub mod CutShort
+pub mod EndingLemmas
+pub mod FaultLemmas
+pub mod Imaging
+pub mod MachineLemmas
+pub mod MadeTrees
+pub mod RequestLemmas
+pub mod RequestedParameters
+pub mod WordLemmas

@@ -1,0 +1,23 @@
+use Rattle.image_claims.proofs.EndingLemmas.{numbers, format_ends, run_ends, check_ends, scrub_ends, wipe_ends, big_ends, may_end_format, may_end_run, may_end_check, may_end_scrub, may_end_wipe, may_end_big}
+use Rattle.image_claims.proofs.table.table_is_spelled_out.Goals as goal
+
+pub returns-clause-numbers : goal.returns-clause-numbers
+returns-clause-numbers c = numbers
+
+pub returns-clause-format : goal.returns-clause-format
+returns-clause-format c p status = (format_ends status, may_end_format status)
+
+pub returns-clause-run : goal.returns-clause-run
+returns-clause-run c status = (run_ends status, may_end_run status)
+
+pub returns-clause-check : goal.returns-clause-check
+returns-clause-check c status = (check_ends status, may_end_check status)
+
+pub returns-clause-scrub : goal.returns-clause-scrub
+returns-clause-scrub c status = (scrub_ends status, may_end_scrub status)
+
+pub returns-clause-wipe : goal.returns-clause-wipe
+returns-clause-wipe c status = (wipe_ends status, may_end_wipe status)
+
+pub returns-clause-big : goal.returns-clause-big
+returns-clause-big c number count status = (big_ends status, may_end_big status)

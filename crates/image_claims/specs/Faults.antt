@@ -1,0 +1,94 @@
+-- Which failed call a status tells, and when a call is done.
+use Rattle.std.specs.Prelude.{◌≡◌, ◌≢◌, ◌⊎◌, ◌≤◌, ℕ, List, [], ◌∷◌, length, slice_index}
+use Rattle.store_model.specs.Parameters.{Parameters, IsParameters, image_len}
+use Rattle.store_model.specs.Trees.{Tree}
+use Rattle.store_model.specs.Images.{first_byte, Represents}
+use Rattle.store_model.specs.Scripts.{lines, script_limit}
+use Rattle.store_model.specs.Words.{Request}
+use Rattle.store_model.specs.Words.Request.{Format, Run, Check, Scrub, Wipe, Big}
+use Rattle.store_base.specs.Counts.{raised, Rose}
+use Rattle.disk_model.specs.DiskState.{DiskState}
+use Rattle.disk_model.specs.DiskState as disks
+use Rattle.scrub_free.specs.ScrubCalls.{ScrubsTo}
+use Rattle.script_lines.specs.SourceState.{SourceState}
+use Rattle.script_lines.specs.SourceState as sources
+use Rattle.script_lines.specs.SinkState.{SinkState}
+use Rattle.image_subcommands.specs.declared.status.Status.{Status}
+use Rattle.image_subcommands.specs.declared.status.Status.TheVariants.{Done, SourceFault, SinkFault, DiskFault, TooLong, NotImage, Damaged, NoMemory, AlreadyImage, WrongLength}
+use Rattle.image_claims.specs.Endings.{IsOneOf, EndsExactly}
+
+-- the count of failed calls is one more where the call ended so, and else as it was
+pub record CountsFault (status fault : Status) (old new : ℕ) : Type 0 where
+  pub raised_so : status ≡ fault → new ≡ raised old
+  pub same : (status ≡ fault → ⊥) → new ≡ old
+
+-- Each failed call is the status, and no other: one call failed at most. Besides, the disk has its size, and each of the three
+-- tells its bytes where it did, so that another call can follow.
+pub record FailsByStatus (status : Status) (disk disk_new : DiskState) (source source_new : SourceState) (sink sink_new : SinkState) : Type 0 where
+  pub disk_faults : CountsFault status DiskFault disk.faults disk_new.faults
+  pub source_faults : CountsFault status SourceFault source.faults source_new.faults
+  pub sink_faults : CountsFault status SinkFault sink.faults sink_new.faults
+  pub size : disk_new.size ≡ disk.size
+  pub disk_tells : disk_new.is_observable ≡ disk.is_observable
+  pub source_tells : source_new.is_observable ≡ source.is_observable
+  pub sink_tells : sink_new.is_observable ≡ sink.is_observable
+  -- no count of the disk falls
+  pub writes : disk.writes ≤ disk_new.writes
+  pub syncs : disk.syncs ≤ disk_new.syncs
+
+-- no call of the disk, the source or the sink failed
+pub record NoneFailed (disk disk_new : DiskState) (source source_new : SourceState) (sink sink_new : SinkState) : Type 0 where
+  pub disk_well : Rose disk.faults disk_new.faults → ⊥
+  pub source_well : Rose source.faults source_new.faults → ⊥
+  pub sink_well : Rose sink.faults sink_new.faults → ⊥
+
+-- the work is done, or memory ran out
+abbrev pub IsDoneOrLacks : Status → Type 0
+IsDoneOrLacks status = IsOneOf status (Done ∷ NoMemory ∷ [])
+
+-- What is asked for can be done: a disk of the image's length that does not begin as one is formatted, an image that represents
+-- a tree is run and checked, one of which scrubbing leaves a tree's is scrubbed. Each disk is wiped.
+abbrev pub CanBeDone : Request → DiskState → SourceState → Type 0
+CanBeDone (Format p) disk source = disks.IsObservable disk × (disk.size ≡ image_len p.slots) × (slice_index disk.bytes 0 ≢ first_byte)
+CanBeDone Run disk source = disks.IsObservable disk × sources.IsObservable source × (length source.left ≤ script_limit) × ((t : Tree) × (p : Parameters) × Represents disk.bytes t p)
+CanBeDone Check disk source = disks.IsObservable disk × ((t : Tree) × (p : Parameters) × Represents disk.bytes t p)
+CanBeDone Scrub disk source = disks.IsObservable disk × ((t : Tree) × (p : Parameters) × ScrubsTo disk.bytes t p)
+CanBeDone Wipe disk source = Unit {0}
+CanBeDone (Big number count) disk source = disks.IsObservable disk × ((t : Tree) × (p : Parameters) × Represents disk.bytes t p)
+
+-- the count `done` of a run that is done: each line was carried out
+abbrev pub CountsLines : Request → Status → ℕ → SourceState → Type 0
+CountsLines (Format p) status done source = Unit {0}
+CountsLines Run status done source = status ≡ Done → done ≡ length (lines source.left)
+CountsLines Check status done source = Unit {0}
+CountsLines Scrub status done source = Unit {0}
+CountsLines Wipe status done source = Unit {0}
+CountsLines (Big number count) status done source = Unit {0}
+
+-- Where no call failed and memory was there, what can be done is done.
+pub record DoesWhatCanBeDone (request : Request) (status : Status) (done : ℕ) (disk disk_new : DiskState) (source source_new : SourceState) (sink sink_new : SinkState) : Type 0 where
+  pub done_or_lacks : CanBeDone request disk source → NoneFailed disk disk_new source source_new sink sink_new → IsDoneOrLacks status
+  pub lines : CanBeDone request disk source → NoneFailed disk disk_new source source_new sink sink_new → CountsLines request status done source
+
+-- What a format says of the length of a disk: it refuses exactly a length that is not the image's, and finds an image only on one
+-- that is.
+pub record RefusesLength (p : Parameters) (status : Status) (disk : DiskState) : Type 0 where
+  pub wrong_length : EndsExactly WrongLength (disk.size ≢ image_len p.slots) (NoMemory ∷ []) status
+  pub already_image : status ≡ AlreadyImage → disk.size ≡ image_len p.slots
+
+-- the subcommands that carry out commands
+abbrev pub TakesCommands : Request → Type 0
+TakesCommands (Format p) = ⊥
+TakesCommands Run = Unit {0}
+TakesCommands Check = ⊥
+TakesCommands Scrub = ⊥
+TakesCommands Wipe = ⊥
+TakesCommands (Big number count) = Unit {0}
+
+-- What `run` and `big` do with a disk that is no image, or a damaged one: no command is carried out, nothing taken and nothing
+-- printed. They come past its header only where it has the length of an image.
+pub record RefusesImage {R W : Type 0} (status : Status) (done : ℕ) (disk : DiskState) (source source_new : R) (sink sink_new : W) : Type 0 where
+  pub done_is : IsOneOf status (NotImage ∷ Damaged ∷ []) → done ≡ 0
+  pub source_is : IsOneOf status (NotImage ∷ Damaged ∷ []) → source_new ≡ source
+  pub sink_is : IsOneOf status (NotImage ∷ Damaged ∷ []) → sink_new ≡ sink
+  pub length_is : IsOneOf status (Done ∷ SourceFault ∷ SinkFault ∷ TooLong ∷ Damaged ∷ []) → (p : Parameters) × IsParameters p × (disk.size ≡ image_len p.slots)

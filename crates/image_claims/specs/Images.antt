@@ -1,0 +1,66 @@
+-- What making, scrubbing and wiping an image leaves.
+use Rattle.std.specs.Prelude.{◌≡◌, ◌≢◌, ◌⊎◌, ℕ, List, [], ◌∷◌, length, slice_index}
+use Rattle.store_model.specs.Lists.{zeros}
+use Rattle.store_model.specs.Parameters.{Parameters, image_len}
+use Rattle.store_model.specs.Trees.{Tree, empty_tree}
+use Rattle.store_model.specs.Images.{first_byte, Represents}
+use Rattle.store_base.specs.Counts.{Rose}
+use Rattle.disk_model.specs.DiskState.{DiskState, IsDurable}
+use Rattle.gate_journal.specs.Formats.{NamesNoParameters}
+use Rattle.gate_journal.specs.Places.{ReadsOnly}
+use Rattle.scrub_free.specs.ScrubCalls.{ScrubsTo}
+use Rattle.image_check.specs.Standing.{Stands}
+use Rattle.script_lines.specs.SinkState.{SinkState}
+use Rattle.image_subcommands.specs.declared.status.Status.{Status}
+use Rattle.image_subcommands.specs.declared.status.Status.TheVariants.{Done, SinkFault, DiskFault, NoMemory, AlreadyImage, WrongLength}
+use Rattle.image_claims.specs.Endings.{IsOneOf, EndsExactly}
+use Rattle.image_claims.specs.Checks.{JudgesExactly}
+
+-- Nothing was taken from the source or written to the sink; and where memory ran out, the disk was not called either.
+pub record SparesAllElse {D R W : Type 0} (status : Status) (disk disk_new : D) (source source_new : R) (sink sink_new : W) : Type 0 where
+  pub source_is : source_new ≡ source
+  pub sink_is : sink_new ≡ sink
+  pub disk_is : status ≡ NoMemory → disk_new ≡ disk
+
+-- the disk has the length of an image with these parameters, and begins as one does
+pub record HasImageAlready (disk : DiskState) (p : Parameters) : Type 0 where
+  pub size_is : disk.size ≡ image_len p.slots
+  pub first_is : slice_index disk.bytes 0 ≡ first_byte
+
+-- An image is made.
+pub record MakesImage (p : Parameters) (status : Status) (old new : DiskState) : Type 0 where
+  -- it is that of the empty tree, durably
+  pub fresh : status ≡ Done → Stands new empty_tree p
+  -- exactly the length that is not the image's is refused, and exactly a disk that begins as an image
+  pub wrong_length : EndsExactly WrongLength (old.size ≢ image_len p.slots) (NoMemory ∷ []) status
+  pub already_image : EndsExactly AlreadyImage (HasImageAlready old p) (DiskFault ∷ NoMemory ∷ []) status
+  -- no image is overwritten, and no disk that is refused
+  pub keeps_image : slice_index old.bytes 0 ≡ first_byte → ReadsOnly old new
+  pub keeps_refused : IsOneOf status (AlreadyImage ∷ WrongLength ∷ []) → ReadsOnly old new
+
+-- An image is scrubbed. What scrubbing leaves of bytes is one tree's image, or none.
+pub record ScrubsExactly (status : Status) (old new : DiskState) (sink sink_new : SinkState) : Type 0 where
+  pub judges : JudgesExactly (ScrubsTo old.bytes) old.bytes status sink sink_new
+  -- the image of that tree is left, durably, whether or not the line was printed; after a fault too scrubbing leaves it
+  pub scrubbed : IsOneOf status (Done ∷ SinkFault ∷ []) → (t : Tree) (p : Parameters) → ScrubsTo old.bytes t p → Stands new t p
+  pub still : (t : Tree) (p : Parameters) → ScrubsTo old.bytes t p → ScrubsTo new.bytes t p
+  -- an image keeps the tree that it represents
+  pub tree : IsOneOf status (Done ∷ SinkFault ∷ []) → (t : Tree) (p : Parameters) → Represents old.bytes t p → Stands new t p
+  -- where it would leave none, and for want of memory, nothing is written
+  pub untouched : ((t : Tree) (p : Parameters) → ScrubsTo old.bytes t p → ⊥) → ReadsOnly old new
+  pub no_memory : status ≡ NoMemory → ReadsOnly old new
+
+-- A disk is wiped.
+pub record WipesAll (status : Status) (old new : DiskState) : Type 0 where
+  pub zero : status ≡ Done → new.bytes ≡ zeros (length old.bytes)
+  pub durable : status ≡ Done → IsDurable new
+  pub no_image : status ≡ Done → NamesNoParameters new.bytes
+
+-- An image is made on a disk that was wiped before.
+pub record MakesBehindWipe (p : Parameters) (wipe format : Status) (old new : DiskState) : Type 0 where
+  -- it is fresh, and not refused for what was there
+  pub fresh : format ≡ Done → Stands new empty_tree p
+  pub not_refused : wipe ≡ Done → old.size ≡ image_len p.slots → IsOneOf format (Done ∷ DiskFault ∷ NoMemory ∷ [])
+  pub wrong_length : EndsExactly WrongLength (old.size ≢ image_len p.slots) (NoMemory ∷ []) format
+  -- it is made where no call failed and memory was there
+  pub made : old.size ≡ image_len p.slots → (Rose old.faults new.faults → ⊥) → IsOneOf format (Done ∷ NoMemory ∷ []) ⊎ (wipe ≡ NoMemory)

@@ -1,0 +1,6 @@
+pub mod Checks
+pub mod Costs
+pub mod Crashes
+pub mod Endings
+pub mod Faults
+pub mod Images

@@ -1,0 +1,64 @@
+//! A crash tells nothing: what it leaves of an image that is made, wiped or scrubbed.
+
+ghost use Rattle.std.specs.Prelude.{◌≡◌, ◌≢◌, Some, slice_index};
+ghost use Rattle.store_model.specs.Parameters.{Parameters, image_len};
+ghost use Rattle.store_model.specs.Words.{request_of};
+ghost use Rattle.store_model.specs.Words.Request.{Format, Scrub, Wipe};
+ghost use Rattle.store_model.specs.Images.{first_byte};
+ghost use Rattle.disk_model.specs.DiskState.{IsDurable};
+ghost use Rattle.image_claims.specs.Crashes.{MightLeave, MakesAllOrNone, WipesAllOrNone, ScrubsAgain};
+ghost use Rattle.script_claims.specs.Machines.{meaning};
+
+use crate::call::call;
+use script_claims::{Ended, Machine};
+use std::alloc::Global;
+use store_top::{Status, Words};
+
+/// An image is made on a disk of its length that does not begin as one. Whatever call of the disk fails first, and
+/// wherever a crash comes, what is left is no image, or the whole image of the empty tree.
+pub fn format_cut_short(alloc: Global, format: &Words, machine: Machine) -> Ended
+    ensures { (p : Parameters) → request_of format.now ≡ Some (Format p) → (meaning machine.disk).size ≡ image_len p.slots → slice_index (meaning machine.disk).bytes 0 ≢ first_byte →
+        MakesAllOrNone p (meaning machine.disk) (meaning result.disk) }
+{
+    call(alloc, format, machine)
+}
+
+/// An image is wiped, on a disk that begins as one does. Whatever call of the disk fails first, and wherever a crash
+/// comes, what is left is no image any more, or each byte of it is as it was.
+pub fn wipe_cut_short(alloc: Global, wipe: &Words, machine: Machine) -> Ended
+    ensures { request_of wipe.now ≡ Some Wipe → slice_index (meaning machine.disk).bytes 0 ≡ first_byte → WipesAllOrNone (meaning machine.disk) (meaning result.disk) }
+{
+    call(alloc, wipe, machine)
+}
+
+/// How three scrubs ended.
+#[derive(Drop)]
+pub struct Scrubs {
+    /// The one that was cut short.
+    pub cut: Ended,
+    /// The one of what a crash left of it.
+    pub again: Ended,
+    /// The one that nothing disturbed.
+    pub whole: Ended,
+}
+
+/// An image is scrubbed on a machine on which nothing is pending, and cut short by the failure of any call of its disk;
+/// `left` is a machine with an image that a crash at some moment might have left, and `twin` one with the same image as the
+/// first. Where the scrub of the twin ends with status 0, that of what was left ends so too, unless a call of it fails or
+/// memory runs out, and both leave the same bytes.
+pub fn scrub_cut_short(
+    alloc: Global,
+    scrub: &Words,
+    machine: Machine,
+    left: Machine,
+    twin: Machine,
+) -> Scrubs
+    ensures { request_of scrub.now ≡ Some Scrub → IsDurable (meaning machine.disk) →
+        MightLeave (meaning machine.disk) (meaning result.cut.disk) (meaning left.disk).bytes → (meaning twin.disk).bytes ≡ (meaning machine.disk).bytes →
+        result.whole.status ≡ Status.Done → ScrubsAgain (meaning result.whole.disk).bytes result.again.status (meaning result.again.disk) }
+{
+    let cut = call(alloc, scrub, machine);
+    let again = call(alloc, scrub, left);
+    let whole = call(alloc, scrub, twin);
+    Scrubs { cut, again, whole }
+}

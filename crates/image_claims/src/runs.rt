@@ -1,0 +1,39 @@
+//! A check behind any runs.
+
+ghost use Rattle.std.specs.Prelude.{◌≡◌, Some, IfOk};
+ghost use Rattle.store_model.specs.Parameters.{Parameters};
+ghost use Rattle.store_model.specs.Words.{request_of};
+ghost use Rattle.store_model.specs.Words.Request.{Format, Check};
+ghost use Rattle.script_claims.specs.Makings.{made_tree};
+ghost use Rattle.image_claims.specs.Checks.{ChecksTree};
+
+use crate::call::call;
+use script_claims::{Ended, Machine, Making, make_image};
+use script_lines::{MemSink, MemSource};
+use std::alloc::Global;
+use store_top::{Status, Words};
+
+/// An image is made, any number of scripts are run on it, one behind another, and it is checked. The check says `clean`, with the
+/// numbers of the tree after all their lines, and prints that into this sink.
+///
+/// `Err` has the status of the first call before the check that did not end with 0.
+pub fn check_behind_runs(
+    alloc: Global,
+    format: &Words,
+    check: &Words,
+    making: Making,
+    line: MemSink,
+) -> Result<Ended, Status>
+    ensures { (p : Parameters) → request_of format.now ≡ Some (Format p) → request_of check.now ≡ Some Check →
+        IfOk result (λ ended. ChecksTree (made_tree making.scripts.items p) p ended.status line.written ended.sink.written) }
+{
+    let disk = make_image(alloc, format, making)?;
+    let source = MemSource::new(Vec::new(alloc), Vec::new(alloc), Vec::new(alloc));
+    let machine = Machine {
+        disk,
+        source,
+        sink: line,
+    };
+    let checked = call(alloc, check, machine);
+    Ok(checked)
+}
