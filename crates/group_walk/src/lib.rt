@@ -5,6 +5,8 @@ mod guess;
 mod lookup;
 mod progress;
 mod sink;
+#[cfg(test)]
+mod tests;
 mod walk;
 
 pub use guess::{Guess, NextSlot};
