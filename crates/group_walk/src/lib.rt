@@ -5,6 +5,8 @@ mod guide;
 mod lookup;
 mod progress;
 mod sink;
+#[cfg(test)]
+mod tests;
 mod walk;
 
 pub use sink::TakesPairs;

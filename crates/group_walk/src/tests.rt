@@ -1,0 +1,226 @@
+//! Small tables that are walked over: the pages of a list that was worked out apart from this program, and tables that are
+//! no list's, each in one way.
+
+ghost use Rattle.std.specs.Prelude.{◌≡◌};
+ghost use Rattle.ordered_table.specs.MemSlots.{mem_state};
+
+use crate::{NextSlot, TakesPairs, walk_groups};
+use node_pages::{Cell, Page};
+use ordered_table::{MemSlots, insert};
+use seeded_draw::{Draw, RulerDraw};
+use std::alloc::Global;
+use std::process::Abort;
+use store_base::{DrawKind, Fault, Key, Label, Lead, Params, Value};
+
+/// How a key begins; it has zeros behind that. Under the draw `ruler` it stands on as many levels above 0 as it has a `U`.
+type Front = [u8; 3];
+
+/// A page: its level, the key that leads it or none for the start, its place in its group, and its keys.
+type Sample = (u8, Option<Front>, u32, &'static [Front]);
+
+/// The key that begins so.
+fn key(front: Front) -> Key {
+    let mut bytes = [0; 124];
+    bytes[..3].copy_from_slice(&front);
+    Key::new(bytes)
+}
+
+/// The page of a sample, of one cell.
+fn page_with(level: u8, label: Label, first: Front) -> Page
+    requires { label.level ≡ level }
+{
+    if level == 0 {
+        Page::new(label, Cell::with_value(key(first), Value::new(&[1])))
+    } else {
+        Page::new(label, Cell::bare(key(first)))
+    }
+}
+
+/// The cell of a key on a level.
+fn cell_on(level: u8, front: Front) -> Cell {
+    if level == 0 {
+        Cell::with_value(key(front), Value::new(&[1]))
+    } else {
+        Cell::bare(key(front))
+    }
+}
+
+/// The page of a sample, which has some key.
+fn page_of(sample: &Sample) -> Option<Page> {
+    let (level, leader, index, keys) = sample;
+    let lead = leader.map_or(Lead::Start, |front| Lead::Key(key(front)));
+    let label = Label {
+        level: *level,
+        lead,
+        index: *index,
+    };
+    let (first, others) = keys.split_first()?;
+    let mut page = page_with(*level, label, *first);
+    for front in others {
+        let at = page.len();
+        if !page.insert(at, &cell_on(*level, *front)) {
+            return None;
+        }
+    }
+    Some(page)
+}
+
+/// Sixteen pairs at most, by how their keys begin.
+#[derive(Drop)]
+struct Fronts {
+    fronts: [Front; 16],
+    count: usize,
+}
+
+impl Fronts {
+    fn none() -> Self {
+        Fronts {
+            fronts: [[0; 3]; 16],
+            count: 0,
+        }
+    }
+}
+
+impl TakesPairs for Fronts {
+    ghost took = { λ fronts pairs. Unit {0} };
+
+    fn take(&mut self, key: &Key, _value: &Value) {
+        if self.count < 16 {
+            let bytes = key.as_bytes();
+            self.fronts[self.count] = [bytes[0], bytes[1], bytes[2]];
+            self.count += 1;
+        }
+    }
+}
+
+/// Puts the pages of the samples in; a sample of no page is a fault.
+fn put_in(slots: &mut MemSlots, draw: &RulerDraw, samples: &[Sample]) -> Result<(), Fault>
+    requires { (mem_state slots.old).count ≡ draw.now.slots }
+    ensures { (mem_state slots.new).count ≡ draw.now.slots }
+{
+    for sample in samples {
+        match page_of(sample) {
+            Some(page) => insert(slots, draw, &page)?,
+            None => return Err(Fault::Disk),
+        }
+    }
+    Ok(())
+}
+
+/// Walks over sixteen slots with the pages of the samples, as if they were so many, and looks what comes of it: whether they
+/// are a list's, and the pairs that were handed on by then.
+fn walk_over(
+    rt: &impl Abort,
+    alloc: Global,
+    height: u8,
+    samples: &[Sample],
+    used: u32,
+) -> (bool, Fronts) {
+    let params = Params::new(16, height, DrawKind::Ruler, [0; 32]).expect(rt, "parameters");
+    let draw = RulerDraw::new(&params);
+    let mut slots = MemSlots::new(alloc, draw.slots(), Vec::new(alloc)).expect(rt, "memory");
+    assert!(rt; put_in(&mut slots, &draw, samples).is_ok());
+    let mut fronts = Fronts::none();
+    let is_list = walk_groups(&mut slots, &draw, used, &mut fronts, NextSlot::default());
+    (is_list.expect(rt, "no fault"), fronts)
+}
+
+/// A list of six pairs under `ruler` and the height 3, with its pages.
+static WORKED: [Sample; 8] = [
+    (2, None, 0, &[*b"UU\0"]),
+    (1, None, 0, &[*b"U\0\0"]),
+    (1, Some(*b"UU\0"), 0, &[*b"UU\0", *b"aU\0", *b"aaU", *b"bU\0"]),
+    (0, Some(*b"U\0\0"), 0, &[*b"U\0\0"]),
+    (0, Some(*b"UU\0"), 0, &[*b"UU\0"]),
+    (0, Some(*b"aU\0"), 0, &[*b"aU\0"]),
+    (0, Some(*b"aaU"), 0, &[*b"aaU", *b"b\0\0"]),
+    (0, Some(*b"bU\0"), 0, &[*b"bU\0"]),
+];
+
+#[test]
+fn the_pages_of_a_list_are_walked_over(rt: HostRuntime) {
+    let (is_list, fronts) = walk_over(&rt, rt.alloc(), 3, &WORKED, 8);
+    assert!(rt; is_list && fronts.count == 6);
+    let wanted = [*b"U\0\0", *b"UU\0", *b"aU\0", *b"aaU", *b"b\0\0", *b"bU\0"];
+    assert!(rt; fronts.fronts.starts_with(&wanted));
+}
+
+/// The keys of a full page of level 0, and of the page behind it.
+const TEN: [Front; 10] = [
+    [1; 3],
+    [2; 3],
+    [3; 3],
+    [4; 3],
+    [5; 3],
+    [6; 3],
+    [7; 3],
+    [8; 3],
+    [9; 3],
+    [10; 3],
+];
+
+/// Tables of the height 2 with the pages of a list, and how many pages there are.
+static LISTS: [(&[Sample], u32); 4] = [
+    (&[], 0),
+    (&[(0, None, 0, &TEN)], 1),
+    (&[(0, None, 0, &TEN), (0, None, 1, &[[11; 3]])], 2),
+    (
+        &[
+            (0, None, 0, &[[1; 3]]),
+            (1, None, 0, &[*b"U\0\0"]),
+            (0, Some(*b"U\0\0"), 0, &[*b"U\0\0", *b"b\0\0"]),
+        ],
+        3,
+    ),
+];
+
+#[test]
+fn lists_are_known(rt: HostRuntime) {
+    for (samples, used) in &LISTS {
+        let (is_list, _) = walk_over(&rt, rt.alloc(), 2, *samples, *used);
+        assert!(rt; is_list);
+    }
+}
+
+/// Tables of the height 2 that are no list's: a page more or less than is told; a run whose first key is the last of the run
+/// before; a run behind one with room; a group that is not there; one that no key leads; one that begins with another key;
+/// keys on a level below or above their own; and keys of one group that belong into the next.
+static OTHERS: [(&[Sample], u32); 10] = [
+    (&[(0, None, 0, &TEN)], 0),
+    (&[(0, None, 0, &TEN)], 2),
+    (&[(0, None, 0, &TEN), (0, None, 1, &[[10; 3]])], 2),
+    (&[(0, None, 0, &[[1; 3]]), (0, None, 1, &[[2; 3]])], 2),
+    (&[(1, None, 0, &[*b"U\0\0"])], 1),
+    (&[(0, Some(*b"U\0\0"), 0, &[*b"U\0\0"])], 1),
+    (
+        &[
+            (1, None, 0, &[*b"U\0\0"]),
+            (0, Some(*b"U\0\0"), 0, &[*b"a\0\0"]),
+        ],
+        2,
+    ),
+    (&[(0, None, 0, &[*b"U\0\0"])], 1),
+    (
+        &[
+            (1, None, 0, &[*b"a\0\0"]),
+            (0, Some(*b"a\0\0"), 0, &[*b"a\0\0"]),
+        ],
+        2,
+    ),
+    (
+        &[
+            (1, None, 0, &[*b"U\0\0", *b"aU\0"]),
+            (0, Some(*b"U\0\0"), 0, &[*b"U\0\0", *b"b\0\0"]),
+            (0, Some(*b"aU\0"), 0, &[*b"aU\0"]),
+        ],
+        3,
+    ),
+];
+
+#[test]
+fn other_tables_are_told_apart(rt: HostRuntime) {
+    for (samples, used) in &OTHERS {
+        let (is_list, _) = walk_over(&rt, rt.alloc(), 2, *samples, *used);
+        assert!(rt; !is_list);
+    }
+}
