@@ -1,12 +1,12 @@
 -- The blocks of a file, read one after another.
-use Rattle.std.proofs.Common.{◌≡◌, ℕ, zero, suc, ◌+◌, ◌-◌, ◌*◌, ◌<◌, ◌≤◌, min, List, [], ◌∷◌, ◌++◌, map, length, take, drop, slice_get, Some, refl, sym, ap, ap₂, subst, ◌∙◌, arith}
+use Rattle.std.proofs.Common.{◌≡◌, ℕ, zero, suc, ◌+◌, ◌-◌, ◌*◌, ◌<◌, ◌≤◌, min, List, [], ◌∷◌, ◌++◌, map, length, take, slice_get, Some, refl, sym, ap, ap₂, subst, ◌∙◌, arith}
 use Rattle.std.specs.List.{enumerate_from}
-use Rattle.std.proofs.lemmas.List.{length-append, length-drop, map-append, take_all, take-append-le, drop-append-le, drop_at}
+use Rattle.std.proofs.lemmas.List.{length-append}
 use Rattle.std.proofs.lemmas.Option.{same_Some}
 use Rattle.store_model.specs.Lists.{IsBytes, numbers_from, run_at, run_count, runs}
 use Rattle.store_model.specs.Paths.{Path, key}
 use Rattle.store_model.specs.Pairs.{Pair, file_block}
-use Rattle.store_model.proofs.ListsLemmas.{all_append, all_from_bytes, bytes_from_all, length-runs}
+use Rattle.store_model.proofs.ListsLemmas.{all_append, all_from_bytes, bytes_from_all}
 use Rattle.tree_pairs.proofs.BlocksLemmas.{length-run_at}
 use Rattle.tree_reader.specs.Fronts.{block_pairs}
 use Rattle.tree_reader.proofs.BlockLemmas.{blocks_more}

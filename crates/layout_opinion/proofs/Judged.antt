@@ -1,5 +1,5 @@
 -- What is said of slots, by the reads that were made of them.
-use Rattle.std.proofs.Common.{◌≡◌, Some, None, Ok}
+use Rattle.std.proofs.Common.{Some, None, Ok}
 use Rattle.store_model.specs.Parameters.{Parameters}
 use Rattle.store_model.specs.Trees.{Tree}
 use Rattle.store_base.specs.SlotsState.{SlotsState, IsObservable}

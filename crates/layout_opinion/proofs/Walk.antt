@@ -1,36 +1,31 @@
 -- The entries of a tree, read one after another from its sorted pairs.
-use Rattle.std.proofs.Common.{◌≡◌, ℕ, ◌+◌, ◌-◌, ◌*◌, ◌≤◌, List, [], ◌∷◌, ◌++◌, length, take, drop, true, false, cond, IsTrue, Option, Some, None, refl, sym, ap, ap₂, subst, ◌∙◌, arith, take-add, length-drop, Ordering, Less, Greater, nat_cmp}
-use Rattle.std.specs.Ordering.{ordering_then, ordering_reverse, is_eq, eq_by_cmp}
+use Rattle.std.proofs.Common.{◌≡◌, ℕ, ◌+◌, ◌-◌, ◌*◌, ◌≤◌, List, [], ◌∷◌, ◌++◌, length, take, drop, true, false, IsTrue, Option, Some, None, refl, sym, ap, ap₂, subst, ◌∙◌, arith, take-add, length-drop, Ordering, Less, nat_cmp}
+use Rattle.std.specs.Ordering.{ordering_then, is_eq, eq_by_cmp}
 use Rattle.std.specs.Option.{option_or}
 use Rattle.std.specs.Cmp.{tied_itself}
 use Rattle.std.specs.Cmp.Lexicographic.{nat_list_cmp_total}
-use Rattle.std.specs.FinMap.{find, put, is_sorted}
-use Rattle.std.specs.FinMap.Entries.{by_order}
+use Rattle.std.specs.FinMap.{find, is_sorted}
 use Rattle.std.specs.List.{AllByRecursion}
 use Rattle.std.specs.List.Sorted.{IsStrictlySortedBy}
-use Rattle.std.proofs.lemmas.Bool.{false≢true}
 use Rattle.std.proofs.lemmas.Option.{same_Some}
-use Rattle.std.proofs.lemmas.Grind.{flat_map-append}
-use Rattle.std.proofs.lemmas.List.{append-nil, drop_at, drop-drop, take_all, take-append-drop}
-use Rattle.std.proofs.lemmas.List.Sums.{sum_by-append}
+use Rattle.std.proofs.lemmas.List.{drop_at, drop-drop, take_all, take-append-drop}
 use Rattle.store_model.specs.Parameters.{Parameters}
 use Rattle.store_model.specs.Paths.{Path, is_root, is_path, parent, path_cmp, key, key_cmp}
 use Rattle.store_model.specs.Pairs.{Pair, directory_value, file_value, node_pairs, pairs}
-use Rattle.store_model.specs.Trees.{Tree, Node, file_limit, IsNode, IsEntry, IsTree, node_at, is_directory, is_directory_node, is_file_node, contents_of}
+use Rattle.store_model.specs.Trees.{Tree, Node, file_limit, IsNode, IsEntry, IsTree, node_at, is_directory, is_directory_node}
 use Rattle.store_model.specs.Trees.Node.{Directory, File}
 use Rattle.store_model.proofs.ListsLemmas.{all_weaker, all_front, all_back, rising_from_is_sorted, rising_head, rising_tail, rising_back, then-Equal, nat_cmp-eq}
 use Rattle.store_model.proofs.PathsLemmas.{order_of_keys}
-use Rattle.store_model.proofs.TreesLemmas.{IsTree-with_node, node_at-find, entry_at, exists_from_directory}
+use Rattle.store_model.proofs.TreesLemmas.{entry_at, exists_from_directory}
 use Rattle.store_model.proofs.TreesLemmasBytes.{heads_same}
 use Rattle.store_model.proofs.TreesLemmasFits.{IsTree-empty}
-use Rattle.store_model.proofs.TreesLemmasPaths.{path_cmp_total, last_step}
+use Rattle.store_model.proofs.TreesLemmasPaths.{last_step}
 use Rattle.tree_pairs.proofs.TreeBlocks.{block_value}
 use Rattle.tree_pairs.proofs.BlocksLemmas.{find-append, find_missing, pairs_have_blocks}
 use Rattle.tree_reader.specs.declared.counts.Counts.{Counts}
 use Rattle.tree_pairs.specs.declared.kind.Kind.{Kind}
 use Rattle.tree_pairs.specs.declared.kind.Kind.TheVariants as kinds
 use Rattle.tree_reader.specs.Counts.{AreCounts, CountsMore}
-use Rattle.tree_reader.specs.Seen.{MayStandNext}
 use Rattle.tree_reader.proofs.CountLemmas.{counts_more}
 use Rattle.tree_reader.proofs.FrontLemmas.{pairs_more}
 use Rattle.tree_reader.proofs.NextLemmas.{tree_more}
