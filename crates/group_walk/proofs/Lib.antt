@@ -1,0 +1,15 @@
+pub mod LookupLemmas
+pub mod KeyOrder
+pub mod MetPages
+pub mod MetGroups
+pub mod MetWhole
+pub mod KeysBelow
+pub mod Counts
+pub mod Places
+pub mod Handing
+pub mod CellSteps
+pub mod BelowCells
+pub mod GroupSteps
+pub mod GroupAhead
+pub mod GroupEnds
+pub mod TableSteps

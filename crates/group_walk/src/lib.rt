@@ -1,6 +1,7 @@
-//! Stub.
+//! The walk over the groups of pages that a table holds, from the start of each level down to level 0.
 #![tactic(auto)]
 
+mod lookup;
 mod met;
 mod sink;
 mod walk;

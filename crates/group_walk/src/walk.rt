@@ -1,26 +1,162 @@
-//! Stub.
+//! The walk down from the start of each level.
 
-ghost use Rattle.std.specs.Prelude.{◌≡◌, ◌≤◌, ◌<◌, List};
-ghost use Rattle.store_model.specs.Pairs.{Pair};
-ghost use Rattle.group_walk.specs.Walks.{WalksTable};
+ghost use Rattle.std.specs.Prelude.{◌≡◌, ◌↔◌, ◌⊎◌, ◌<◌, IsTrue};
+ghost use Rattle.store_base.specs.Leads.{model_lead};
+ghost use Rattle.group_walk.specs.Walked.{IsInPlace, IsStart};
+ghost use Rattle.group_walk.specs.Streams.{IsAbove};
+ghost use Rattle.group_walk.specs.Walks.{WalksGroup, WalksCells, WalksCell, WalksTable};
 
+use crate::lookup::look_up;
 use crate::met::Met;
 use crate::sink::TakesPairs;
+use node_pages::{Cell, Page};
 use seeded_draw::Draw;
-use store_base::{Fault, ReadSlots};
+use skip_groups::{is_last, label_in_group};
+use store_base::{Fault, Key, Label, Lead, ReadSlots};
 
-/// Stub.
+/// Whether the key of cell `i` of a page belongs there: the first cell of a group that a key leads is the leader's, and
+/// every other key ends on the level of the page.
+fn is_in_place<W: Draw>(draw: &W, label: &Label, i: u32, key: &Key) -> bool
+    ensures { IsTrue result ↔ IsInPlace (W.drawn draw.now) label.now.level label.now.lead label.now.index i key.now }
+{
+    match label.lead {
+        Lead::Key(leader) if label.index == 0 && i == 0 => leader == *key,
+        _ => draw.level(key) == label.level,
+    }
+}
+
+/// Whether a key is above the last one, if there is one.
+fn is_above(last: &Option<Key>, key: &Key) -> bool
+    ensures { IsTrue result ↔ IsAbove last.now key.now }
+{
+    match last {
+        Some(last) => last < key,
+        None => true,
+    }
+}
+
+/// Whether cell `i` of a page belongs there, behind the last key.
+fn is_next<W: Draw>(draw: &W, label: &Label, i: u32, cell: &Cell, last: &Option<Key>) -> bool
+    ensures { IsTrue result ↔ (IsInPlace (W.drawn draw.now) label.now.level label.now.lead label.now.index i cell.now.key × IsAbove last.now cell.now.key) }
+{
+    is_in_place(draw, label, i, &cell.key) && is_above(last, &cell.key)
+}
+
+/// Whether a group may have so many runs: one that a key leads has some.
+fn may_end(lead: &Lead, runs: u32) -> bool
+    ensures { IsTrue result ↔ ((0 < runs) ⊎ IsStart (model_lead lead.now)) }
+{
+    match lead {
+        Lead::Start => true,
+        Lead::Key(_) => runs > 0,
+    }
+}
+
+/// Goes down from a cell of the level to the group that it leads on the level below, and on level 0 hands its pair on.
+#[cycle(walk)]
+fn walk_cell<S: ReadSlots, W: Draw, P: TakesPairs>(
+    slots: &mut S,
+    draw: &W,
+    level: u8,
+    cell: &Cell,
+    met: &mut Met,
+    sink: &mut P,
+) -> Result<bool, Fault>
+    requires { (S.state slots.old).count ≡ (W.drawn draw.now).slots }
+    ensures call { WalksCell (W.drawn draw.now) (S.state slots.old) (S.state slots.new) level cell.now met.old met.new (P.took sink.old) (P.took sink.new) result }
+    ensures follows { S.follows slots.old slots.new }
+{
+    if level > 0 {
+        return walk_group(slots, draw, level - 1, &Lead::Key(cell.key), met, sink);
+    }
+    let Some(value) = &cell.value else {
+        return Ok(false);
+    };
+    sink.take(&cell.key, value);
+    met.last = Some(cell.key);
+    Ok(true)
+}
+
+/// Walks over the cells of a page, and all below them.
+#[cycle(walk)]
+fn walk_cells<S: ReadSlots, W: Draw, P: TakesPairs>(
+    slots: &mut S,
+    draw: &W,
+    page: &Page,
+    met: &mut Met,
+    sink: &mut P,
+) -> Result<bool, Fault>
+    requires { (S.state slots.old).count ≡ (W.drawn draw.now).slots }
+    ensures call { WalksCells (W.drawn draw.now) (S.state slots.old) (S.state slots.new) page.now met.old met.new (P.took sink.old) (P.took sink.new) result }
+    ensures follows { S.follows slots.old slots.new }
+{
+    let label = page.label();
+    for i in 0..page.len() {
+        let cell = page.cell(i);
+        if !is_next(draw, &label, i, &cell, &met.last) {
+            return Ok(false);
+        }
+        if !walk_cell(slots, draw, page.level(), &cell, met, sink)? {
+            return Ok(false);
+        }
+    }
+    Ok(true)
+}
+
+/// Walks over the group that `lead` leads on the level, and all below it. Each run is looked for behind a full one; a
+/// group that a key leads has to be there.
+#[cycle(walk)]
+fn walk_group<S: ReadSlots, W: Draw, P: TakesPairs>(
+    slots: &mut S,
+    draw: &W,
+    level: u8,
+    lead: &Lead,
+    met: &mut Met,
+    sink: &mut P,
+) -> Result<bool, Fault>
+    requires { (S.state slots.old).count ≡ (W.drawn draw.now).slots }
+    ensures call { WalksGroup (W.drawn draw.now) (S.state slots.old) (S.state slots.new) level (model_lead lead.now) met.old met.new (P.took sink.old) (P.took sink.new) result }
+    ensures follows { S.follows slots.old slots.new }
+{
+    let mut index = 0;
+    'runs: loop {
+        let label = label_in_group(level, lead, index);
+        let Some(page) = look_up(slots, draw, &label, &mut met.next)? else {
+            return Ok(may_end(lead, index));
+        };
+        if met.left == 0 {
+            return Ok(false);
+        }
+        met.left -= 1;
+        if !walk_cells(slots, draw, &page, met, sink)? {
+            return Ok(false);
+        }
+        if is_last(level, &page) {
+            return Ok(true);
+        }
+        index += 1;
+    }
+}
+
+/// Whether the pages of a table, of which there are so many, are met one and all on the way down from the start of each
+/// level, and meet the conditions on the way; hands the pairs of level 0 on, in the order of their keys.
+///
+/// There have to be as many slots as the draw's. A fault of the slots ends the call; it writes nothing.
 pub fn walk_groups<S: ReadSlots, W: Draw, P: TakesPairs>(
     slots: &mut S,
     draw: &W,
     used: u32,
-    pairs: &mut P,
+    sink: &mut P,
 ) -> Result<bool, Fault>
-    requires count { (S.state slots.old).count ≡ (W.drawn draw.now).slots }
-    requires stub { ⊥ }
-    ensures call { WalksTable (W.drawn draw.now) (S.state slots.old) (S.state slots.new) used (P.took pairs.old) (P.took pairs.new) result }
+    requires { (S.state slots.old).count ≡ (W.drawn draw.now).slots }
+    ensures call { WalksTable (W.drawn draw.now) (S.state slots.old) (S.state slots.new) used (P.took sink.old) (P.took sink.new) result }
     ensures follows { S.follows slots.old slots.new }
 {
-    let _ = Met::none_of(used);
-    Ok(false)
+    let mut met = Met::none_of(used);
+    for level in 0..draw.height() {
+        if !walk_group(slots, draw, level, &Lead::Start, &mut met, sink)? {
+            return Ok(false);
+        }
+    }
+    Ok(met.left == 0)
 }

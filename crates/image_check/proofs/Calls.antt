@@ -2,12 +2,10 @@
 use Rattle.std.proofs.Common.{◌≡◌, ℕ, ◌*◌, ◌≤◌, List, [], map, length, Bool, true, false, Option, Some, None, MatchOption, Result, Ok, Err, IfOk, refl, sym, ap, subst, ◌∙◌, arith}
 use Rattle.std.specs.Bool.{MatchBool}
 use Rattle.store_model.specs.Parameters.{Parameters, IsParameters}
-use Rattle.store_model.specs.Trees.{Tree}
 use Rattle.store_model.specs.Pairs.{Pair}
 use Rattle.store_model.specs.Draws.{draw_of}
 use Rattle.store_model.specs.Placement.{Table, pages_in}
 use Rattle.store_base.specs.SlotsState.{SlotsState, IsObservable}
-use Rattle.layout_conditions.specs.Layouts.{HaveLayout}
 use Rattle.tree_pairs.specs.TreeCalls.{pairs_limit}
 use Rattle.tree_reader.specs.declared.counts.Counts.{Counts}
 use Rattle.tree_reader.specs.Fronts.{AreOfTree}
@@ -15,32 +13,33 @@ use Rattle.table_order.specs.OrderCalls.{IsOrderedBelow, Checks}
 use Rattle.group_walk.specs.Lookups.{ReadsOnly}
 use Rattle.group_walk.specs.Walked.{MeetWalk}
 use Rattle.group_walk.specs.Walks.{pair_of, WalksTable, HoldsList}
-use Rattle.layout_conditions.specs.Conditions.{StandsIn}
+use Rattle.layout_conditions.specs.Conditions.{StandsIn, MeetConditions}
+use Rattle.layout_conditions.proofs.LawLemmas.{conditions_tell}
 use Rattle.image_check.specs.declared.contents.Contents.{Contents}
 use Rattle.image_check.specs.Orders.{FindsOrder}
 use Rattle.image_check.specs.SlotCalls.{FindsContents, IsFoundIn}
 use Rattle.image_check.specs.TreePairs.{AreCounted}
-use Rattle.image_check.proofs.Found.{sound_of, layout_ordered, layout_walks, layout_taken, found_tree, found_count, few_taken}
+use Rattle.image_check.proofs.Found.{sound_of, order_of, met_walks, met_taken, meets as met, found_count, few_taken}
 use Rattle.image_check.proofs.Searches.{reads_answered, reads_then}
 
 module _ (p : Parameters) (valid : IsParameters p) (old mid : SlotsState) where
-  -- a layout has a number of pages
-  not_none : (slots : List (List ℕ)) (found : Option ℕ) → Checks (draw_of p) (draw_of p).height slots found → found ≡ None → (t : Tree) → HaveLayout slots t p → ⊥
-  not_none slots found checks none t have =
-      let table = layout_ordered p slots t valid have in
-      subst (λ o. MatchOption o ((table : Table) → IsOrderedBelow (draw_of p) (draw_of p).height slots table → ⊥) (λ used. (table : Table) × IsOrderedBelow (draw_of p) (draw_of p).height slots table × (used ≡ length (pages_in table)))) none checks table.0 table.1
+  -- a table by which the conditions are met has a number of pages
+  not_none : (slots : List (List ℕ)) (found : Option ℕ) → Checks (draw_of p) (draw_of p).height slots found → found ≡ None → MeetConditions slots p → ⊥
+  not_none slots found checks none meets =
+      subst (λ o. MatchOption o ((table : Table) → IsOrderedBelow (draw_of p) (draw_of p).height slots table → ⊥) (λ used. (table : Table) × IsOrderedBelow (draw_of p) (draw_of p).height slots table × (used ≡ length (pages_in table)))) none checks
+      meets.table (order_of p slots meets.table meets.slots_are meets.sound)
 
   -- the slots are no table in order
   pub nothing_in_order : (found : Option ℕ) → FindsOrder (draw_of p) (draw_of p).height old mid (Ok found) → found ≡ None → FindsContents p old mid (Ok None)
   nothing_in_order found finds none = record {
     reads = reads_answered old mid found None finds.reads;
     params = tt;
-    found = λ observable t have. not_none old.slots found (finds.found observable) none t have;
+    found = λ observable meets. not_none old.slots found (finds.found observable) none meets;
   }
 
   module _ (new : SlotsState) (found : Option ℕ) (used : ℕ) (finds : FindsOrder (draw_of p) (draw_of p).height old mid (Ok found)) (some : found ≡ Some used) where
     -- the table that they are
-    its_table : IsObservable old → (table : Table) × IsOrderedBelow (draw_of p) (draw_of p).height old.slots table × (used ≡ length (pages_in table))
+    abbrev its_table : IsObservable old → (table : Table) × IsOrderedBelow (draw_of p) (draw_of p).height old.slots table × (used ≡ length (pages_in table))
     its_table observable =
         subst (λ o. MatchOption o ((table : Table) → IsOrderedBelow (draw_of p) (draw_of p).height old.slots table → ⊥) (λ n. (table : Table) × IsOrderedBelow (draw_of p) (draw_of p).height old.slots table × (n ≡ length (pages_in table)))) some (finds.found observable)
 
@@ -48,7 +47,7 @@ module _ (p : Parameters) (valid : IsParameters p) (old mid : SlotsState) where
       reads_both : {T : Type 0} (value : T) → ReadsOnly old new (Ok value)
       reads_both value = reads_answered old new whole value (reads_then old mid new found (Ok whole) finds.reads walks.reads)
 
-      walked : (observable : IsObservable old) → MatchBool whole (HoldsList (draw_of p) (its_table observable).0 Took TookNow) (MeetWalk (draw_of p) (StandsIn (its_table observable).0) → ⊥)
+      abbrev walked : (observable : IsObservable old) → MatchBool whole (HoldsList (draw_of p) (its_table observable).0 Took TookNow) (MeetWalk (draw_of p) (StandsIn (its_table observable).0) → ⊥)
       walked observable =
           let table = its_table observable in
           walks.walked table.0 (finds.reads.calls.observable ∙ observable) (finds.reads.slots observable ∙ table.1.slots_are) (sound_of p old.slots table.0 table.1) (sym table.2)
@@ -58,17 +57,17 @@ module _ (p : Parameters) (valid : IsParameters p) (old mid : SlotsState) where
       nothing_walked cut = record {
         reads = reads_both None;
         params = tt;
-        found = λ observable t have.
+        found = λ observable meets.
             let table = its_table observable in
-            subst (λ b. MatchBool b (HoldsList (draw_of p) table.0 Took TookNow) (MeetWalk (draw_of p) (StandsIn table.0) → ⊥)) cut (walked observable) (layout_walks p valid old.slots table.0 table.1 t have);
+            subst (λ b. MatchBool b (HoldsList (draw_of p) table.0 Took TookNow) (MeetWalk (draw_of p) (StandsIn table.0) → ⊥)) cut (walked observable) (met_walks p valid old.slots table.0 table.1 meets);
       }
 
       module _ (is_whole : whole ≡ true) where
-        holds : (observable : IsObservable old) → HoldsList (draw_of p) (its_table observable).0 Took TookNow
+        abbrev holds : (observable : IsObservable old) → HoldsList (draw_of p) (its_table observable).0 Took TookNow
         holds observable = subst (λ b. MatchBool b (HoldsList (draw_of p) (its_table observable).0 Took TookNow) (MeetWalk (draw_of p) (StandsIn (its_table observable).0) → ⊥)) is_whole (walked observable)
 
         -- the pairs that were taken
-        taken : IsObservable old → List Pair
+        abbrev taken : IsObservable old → List Pair
         taken observable = map pair_of (holds observable).cells
 
         took : Took [] → (observable : IsObservable old) → TookNow (taken observable)
@@ -86,11 +85,11 @@ module _ (p : Parameters) (valid : IsParameters p) (old mid : SlotsState) where
         nothing_counted found none tells is = record {
           reads = reads_both None;
           params = tt;
-          found = λ observable t have.
+          found = λ observable meets.
               let table = its_table observable in
               let s = taken observable in
               subst (λ o. MatchOption o (AreOfTree s p → ⊥) (AreCounted s p)) is (tells s (took none observable) (few observable))
-              (record { tree = t; is_tree = have.tree; pairs_are = layout_taken p valid old.slots table.0 table.1 Took TookNow (holds observable) t have });
+              (record { tree = meets.tree; is_tree = meets.pairs_are.tree; pairs_are = met_taken p valid old.slots table.0 table.1 Took TookNow (holds observable) meets });
         }
 
         -- they are those of a tree
@@ -103,15 +102,14 @@ module _ (p : Parameters) (valid : IsParameters p) (old mid : SlotsState) where
               let table = its_table observable in
               let s = taken observable in
               let are = subst (λ o. MatchOption o (AreOfTree s p → ⊥) (AreCounted s p)) is (tells s (took none observable) (few observable)) in
-              let layout = found_tree p valid old.slots table.0 table.1 Took TookNow (holds observable) are.tree are.is_tree are.pairs_are in
+              let one = met p valid old.slots table.0 table.1 Took TookNow (holds observable) are.tree are.is_tree are.pairs_are in
               record {
-                tree = are.tree;
-                layout = layout;
+                meets = one;
                 contents_are = record {
                   in_range = valid;
                   params_are = named;
                   tree = are.is_tree;
-                  fits = layout.fits;
+                  fits = (conditions_tell old.slots p valid one).fits;
                   used_is = used_is ∙ table.2 ∙ found_count p valid old.slots table.0 table.1 Took TookNow (holds observable) are.tree are.is_tree are.pairs_are;
                   counts_are = are.counts_are;
                 };

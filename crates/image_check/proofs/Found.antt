@@ -30,10 +30,10 @@ use Rattle.store_model.proofs.PlacementLemmasOrder.{held_contained}
 use Rattle.store_model.proofs.PlacementLemmasTables.{held_page, room_of_table}
 use Rattle.layout_conditions.specs.Pages.{HasCell}
 use Rattle.layout_conditions.specs.Conditions.{StandsIn, IsSound, MeetConditions}
-use Rattle.layout_conditions.specs.Layouts.{table_of_tree, HaveLayout}
+use Rattle.layout_conditions.specs.Layouts.{table_of_tree}
 use Rattle.layout_conditions.proofs.HeldLemmas.{all_held, map_held, held_map, flat_map_held, no_longer}
 use Rattle.layout_conditions.proofs.SameLemmas.{cell_cmp_total}
-use Rattle.layout_conditions.proofs.LawLemmas.{layout_meets, table_is_of_tree, conditions_tell}
+use Rattle.layout_conditions.proofs.LawLemmas.{table_is_of_tree, conditions_tell}
 use Rattle.table_order.specs.OrderCalls.{IsBelow, IsOrderedBelow}
 use Rattle.group_walk.specs.Walked.{MeetWalk}
 use Rattle.group_walk.specs.Walks.{pair_of, HoldsList}
@@ -48,7 +48,7 @@ sound_of p slots table is = record {
 }
 
 -- and the other way round
-order_of : (p : Parameters) (slots : List (List ℕ)) (table : Table) → slots ≡ slots_of table → IsSound (draw_of p) table → IsOrderedBelow (draw_of p) (draw_of p).height slots table
+pub order_of : (p : Parameters) (slots : List (List ℕ)) (table : Table) → slots ≡ slots_of table → IsSound (draw_of p) table → IsOrderedBelow (draw_of p) (draw_of p).height slots table
 order_of p slots table are sound = record {
   ordered = sound.ordered;
   slots_are = are;
@@ -57,12 +57,6 @@ order_of p slots table are sound = record {
   where
     some_stands : (page : Page) → Contains (pages_in table) page → StandsIn table page
     some_stands page held = some_slot table page held
-
--- so the layout of a tree is one
-pub layout_ordered : (p : Parameters) (slots : List (List ℕ)) (t : Tree) → IsParameters p → HaveLayout slots t p → (table : Table) × IsOrderedBelow (draw_of p) (draw_of p).height slots table
-layout_ordered p slots t valid have =
-    let meets = layout_meets slots p t valid have in
-    (meets.0.table, order_of p slots meets.0.table meets.0.slots_are meets.0.sound)
 
 -- ---- the pairs of cells
 
@@ -102,11 +96,9 @@ module _ (p : Parameters) (valid : IsParameters p) (slots : List (List ℕ)) (ta
       (one_held_map (draw_of p) slots (map_of_pages (pages_in meets.table)) (map_of_pages (pages_in table)) meets.table table
       (record { ordered = meets.sound.ordered; slots_are = meets.slots_are; pages_are = refl }) (record { ordered = is.ordered; slots_are = is.slots_are; pages_are = refl })).0
 
-  -- so what a walk tests holds of a layout
-  pub layout_walks : (t : Tree) → HaveLayout slots t p → MeetWalk (draw_of p) (StandsIn table)
-  layout_walks t have =
-      let meets = (layout_meets slots p t valid have).0 in
-      subst (λ (u : Table). MeetWalk (draw_of p) (StandsIn u)) (one_table meets) (record { runs = meets.runs; groups = meets.groups; met = meets.met })
+  -- so what a walk tests holds
+  pub met_walks : MeetConditions slots p → MeetWalk (draw_of p) (StandsIn table)
+  met_walks meets = subst (λ (u : Table). MeetWalk (draw_of p) (StandsIn u)) (one_table meets) (record { runs = meets.runs; groups = meets.groups; met = meets.met })
 
   module _ (Took TookNow : List Pair → Type 0) (holds : HoldsList (draw_of p) table Took TookNow) where
     -- the pairs that were taken
@@ -125,14 +117,14 @@ module _ (p : Parameters) (valid : IsParameters p) (slots : List (List ℕ)) (ta
         by_value None e valid = absurd (let low = subst (IsCellValue 0) e valid.value in omega arith)
 
     -- each pair that was taken is that of a cell
-    taken_cell : (pair : Pair) → Contains taken pair → HasCell (StandsIn table) 0 (cell_on 0 pair)
+    pub taken_cell : (pair : Pair) → Contains taken pair → HasCell (StandsIn table) 0 (cell_on 0 pair)
     taken_cell pair held =
         let cell = held_map pair_of holds.cells pair held in
         let has = (holds.cells_are cell.0).0 cell.1 in
         subst (HasCell (StandsIn table) 0) (sym (of_pair cell.0 has) ∙ ap (cell_on 0) cell.2) has
 
     -- and each cell of level 0 has its pair taken
-    cell_taken : (pair : Pair) → HasCell (StandsIn table) 0 (cell_on 0 pair) → Contains taken pair
+    pub cell_taken : (pair : Pair) → HasCell (StandsIn table) 0 (cell_on 0 pair) → Contains taken pair
     cell_taken pair has =
         map_held pair_of holds.cells (cell_on 0 pair) ((holds.cells_are (cell_on 0 pair)).1 has)
 
@@ -141,7 +133,7 @@ module _ (p : Parameters) (valid : IsParameters p) (slots : List (List ℕ)) (ta
     rising_taken = pairs_rise holds.cells holds.rising
 
     -- where they are a tree's, the slots meet the conditions
-    abbrev meets : (t : Tree) → IsTree t → taken ≡ pairs t p → MeetConditions slots p
+    abbrev pub meets : (t : Tree) → IsTree t → taken ≡ pairs t p → MeetConditions slots p
     meets t tree are = record {
       table = table;
       slots_are = is.slots_are;
@@ -156,26 +148,21 @@ module _ (p : Parameters) (valid : IsParameters p) (slots : List (List ℕ)) (ta
       };
     }
 
-    -- where they are a tree's, the slots are its layout
-    pub found_tree : (t : Tree) → IsTree t → taken ≡ pairs t p → HaveLayout slots t p
-    found_tree t tree are = conditions_tell slots p valid (meets t tree are)
-
     -- and the table has the pages of the tree
     pub found_count : (t : Tree) → IsTree t → taken ≡ pairs t p → length (pages_in table) ≡ page_count t p
     unfolding draw_of
     found_count t tree are =
         let one = meets t tree are in
         ap (λ u. length (pages_in u)) (table_is_of_tree slots p valid one)
-        ∙ length_permutation (pages t p) (pages_in (table_of_tree t p)) (IsPermutation-place (draw_of p) (pages t p) (IsLawful-draw_of p valid) (found_tree t tree are).fits)
+        ∙ length_permutation (pages t p) (pages_in (table_of_tree t p)) (IsPermutation-place (draw_of p) (pages t p) (IsLawful-draw_of p valid) (conditions_tell slots p valid one).fits)
 
-    -- where the slots are the layout of a tree, they are the tree's pairs
-    pub layout_taken : (t : Tree) → HaveLayout slots t p → taken ≡ pairs t p
-    layout_taken t have =
-        let there = layout_meets slots p t valid have in
-        let same = one_table there.0 in
-        same_rising (on_total (λ (pair : Pair). pair.0) nat_list_cmp_total) taken (pairs t p) rising_taken (rising_pairs t p have.tree)
-        (λ pair held. subst (λ u. Contains (pairs u p) pair) there.1 ((there.0.pairs_are.cells pair).0 (subst (λ u. HasCell (StandsIn u) 0 (cell_on 0 pair)) (sym same) (taken_cell pair held))))
-        (λ pair held. cell_taken pair (subst (λ u. HasCell (StandsIn u) 0 (cell_on 0 pair)) same ((there.0.pairs_are.cells pair).1 (subst (λ u. Contains (pairs u p) pair) (sym there.1) held))))
+    -- where the slots meet the conditions, they are the pairs of their tree
+    pub met_taken : (there : MeetConditions slots p) → taken ≡ pairs there.tree p
+    met_taken there =
+        let same = one_table there in
+        same_rising (on_total (λ (pair : Pair). pair.0) nat_list_cmp_total) taken (pairs there.tree p) rising_taken (rising_pairs there.tree p there.pairs_are.tree)
+        (λ pair held. (there.pairs_are.cells pair).0 (subst (λ u. HasCell (StandsIn u) 0 (cell_on 0 pair)) (sym same) (taken_cell pair held)))
+        (λ pair held. cell_taken pair (subst (λ u. HasCell (StandsIn u) 0 (cell_on 0 pair)) same ((there.pairs_are.cells pair).1 held)))
 
     -- they are few
     pub few_taken : length taken ≤ 31 * p.slots

@@ -16,6 +16,8 @@ use Rattle.image_check.specs.declared.contents.Contents.{Contents}
 use Rattle.image_check.specs.declared.fault.AttachFault.{AttachFault}
 use Rattle.image_check.specs.declared.fault.AttachFault.TheVariants as attach
 use Rattle.layout_conditions.specs.Layouts.{HaveLayout}
+use Rattle.layout_conditions.specs.Conditions.{MeetConditions}
+use Rattle.layout_conditions.proofs.LawLemmas.{layout_meets, conditions_tell}
 use Rattle.image_check.specs.Contents.{AreContents}
 use Rattle.image_check.specs.Verdicts.{clean_of, IsImageWith, HasParameters, IsDamaged, IsVerdict}
 use Rattle.image_check.specs.SlotCalls.{AreFound, FindsContents, clean_on, contents_in, verdict_in}
@@ -30,11 +32,13 @@ image_found old mid p contents has same reads named found = record {
   has_parameters = subst (HasParameters old) (sym named) has;
   tree = λ observable.
       let is = found (same ∙ observable) in
-      let slots = subst (λ (image : List ℕ). HaveLayout (slots_in p.slots image) is.tree p) (reads observable).bytes is.layout in
+      let t = is.meets.tree in
+      let layout = conditions_tell (slots_in p.slots mid.bytes) p has.in_range is.meets in
+      let slots = subst (λ (image : List ℕ). HaveLayout (slots_in p.slots image) t p) (reads observable).bytes layout in
       record {
-        tree = is.tree;
-        contents_are = subst (λ (q : Parameters). AreContents is.tree q contents) (sym named) is.contents_are;
-        represents = subst (Represents old.bytes is.tree) (sym named) (represents_tree old.bytes is.tree p (has.named observable) slots);
+        tree = t;
+        contents_are = subst (λ (q : Parameters). AreContents t q contents) (sym named) is.contents_are;
+        represents = subst (Represents old.bytes t) (sym named) (represents_tree old.bytes t p (has.named observable) slots);
       };
 }
 
@@ -44,13 +48,14 @@ one_name image t p q named is = headers_same q p is.names.in_range named.names.i
 
 -- one whose slots hold no tree is damaged
 pub image_damaged : (old mid : DiskState) (p : Parameters) → HasParameters old p → mid.is_observable ≡ old.is_observable → (IsObservable old → ReadsOnly old mid)
-    → (IsObservable mid → (t : Tree) → HaveLayout (slots_in p.slots mid.bytes) t p → ⊥) → IsDamaged old
+    → (IsObservable mid → MeetConditions (slots_in p.slots mid.bytes) p → ⊥) → IsDamaged old
 image_damaged old mid p has same reads none = record {
   params = p;
   has_parameters = has;
   no_tree = λ observable t q is.
       let represents = subst (Represents old.bytes t) (one_name old.bytes t p q (has.named observable) is) is in
-      none (same ∙ observable) t (subst (λ (image : List ℕ). HaveLayout (slots_in p.slots image) t p) (sym (reads observable).bytes) (represented_layout old.bytes t p represents));
+      let layout = subst (λ (image : List ℕ). HaveLayout (slots_in p.slots image) t p) (sym (reads observable).bytes) (represented_layout old.bytes t p represents) in
+      none (same ∙ observable) (layout_meets (slots_in p.slots mid.bytes) p t has.in_range layout).0;
 }
 
 -- the verdict on what is found

@@ -1,9 +1,9 @@
 -- Layouts that are found in slots: the verdict on them is that on their tree.
 use Rattle.std.proofs.Common.{◌≡◌, ℕ, List, refl, ap, ◌∙◌}
-use Rattle.store_model.specs.Parameters.{Parameters}
+use Rattle.store_model.specs.Parameters.{Parameters, IsParameters}
 use Rattle.store_model.specs.Trees.{Tree}
-use Rattle.layout_conditions.specs.Layouts.{HaveLayout}
-use Rattle.layout_conditions.proofs.LawLemmas.{one_layout}
+use Rattle.layout_conditions.specs.Conditions.{MeetConditions}
+use Rattle.layout_conditions.proofs.LawLemmas.{conditions_tell, one_layout}
 use Rattle.image_check.specs.declared.contents.Contents.{Contents}
 use Rattle.image_check.specs.declared.verdict.Verdict.TheVariants as verdicts
 use Rattle.image_check.specs.Contents.{AreContents}
@@ -21,10 +21,13 @@ verdict_on t p contents are =
 
 -- the verdict on slots in which they are found is clean
 pub clean_slots : (slots : List (List ℕ)) (p : Parameters) (contents : Contents) → AreFound slots p contents → AreCleanSlots slots p (clean_on contents)
-clean_slots slots p contents found = record { tree = found.tree; layout = found.layout; verdict_is = verdict_on found.tree p contents found.contents_are }
+clean_slots slots p contents found = record { meets = found.meets; verdict_is = verdict_on found.meets.tree p contents found.contents_are }
+
+-- the slots have one tree
+pub one_met : (slots : List (List ℕ)) (p : Parameters) → IsParameters p → (a b : MeetConditions slots p) → a.tree ≡ b.tree
+one_met slots p valid a b = one_layout slots p a.tree b.tree valid (conditions_tell slots p valid a) (conditions_tell slots p valid b)
 
 -- and it is that on each tree that they hold
-pub clean_with : (slots : List (List ℕ)) (u : Tree) (p : Parameters) (contents : Contents) → AreFound slots p contents → HaveLayout slots u p → clean_on contents ≡ clean_of u p
-clean_with slots u p contents found other =
-    let same = one_layout slots p found.tree u found.contents_are.in_range found.layout other in
-    verdict_on found.tree p contents found.contents_are ∙ ap (λ (v : Tree). clean_of v p) same
+pub clean_with : (slots : List (List ℕ)) (p : Parameters) (contents : Contents) → AreFound slots p contents → (meets : MeetConditions slots p) → clean_on contents ≡ clean_of meets.tree p
+clean_with slots p contents found meets =
+    verdict_on found.meets.tree p contents found.contents_are ∙ ap (λ (v : Tree). clean_of v p) (one_met slots p found.contents_are.in_range found.meets meets)

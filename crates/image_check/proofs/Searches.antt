@@ -54,23 +54,23 @@ checks_found p old new (Ok (Some contents)) finds = record {
   reads = reads_answered old new (Some contents) (clean_on contents) finds.reads;
   never = λ no. cc;
   verdict = λ observable. clean_slots old.slots p contents (finds.found observable);
-  clean = λ observable t held. clean_with old.slots t p contents (finds.found observable) held;
+  clean = λ observable meets. clean_with old.slots p contents (finds.found observable) meets;
 }
 checks_found p old new (Ok None) finds = record {
   reads = reads_answered old new None verdicts.Damaged finds.reads;
   never = λ no. cc;
   verdict = finds.found;
-  clean = λ observable t held. absurd (finds.found observable t held);
+  clean = λ observable meets. absurd (finds.found observable meets);
 }
 checks_found p old new (Err causes.Disk) finds = record {
   reads = reads_answer old new (Err causes.Disk) (Err causes.Disk) refl (λ cause. cause) finds.reads;
   never = tt;
   verdict = λ observable. tt;
-  clean = λ observable t held. tt;
+  clean = λ observable meets. tt;
 }
 checks_found p old new (Err causes.NoMemory) finds = record {
   reads = reads_answer old new (Err causes.NoMemory) (Err causes.NoMemory) refl (λ cause. cause) finds.reads;
   never = tt;
   verdict = λ observable. tt;
-  clean = λ observable t held. tt;
+  clean = λ observable meets. tt;
 }

@@ -1,11 +1,10 @@
 -- What the checks of slots ensure.
 use Rattle.std.specs.Prelude.{◌≡◌, ℕ, List, Option, Some, None, Result, Ok, Err, IfOk, IfSome}
 use Rattle.store_model.specs.Parameters.{Parameters}
-use Rattle.store_model.specs.Trees.{Tree}
 use Rattle.store_base.specs.declared.store_fault.Fault.{Fault}
 use Rattle.store_base.specs.declared.store_fault.Fault.TheVariants as causes
 use Rattle.store_base.specs.SlotsState.{SlotsState, IsObservable}
-use Rattle.layout_conditions.specs.Layouts.{HaveLayout}
+use Rattle.layout_conditions.specs.Conditions.{MeetConditions}
 use Rattle.group_walk.specs.Lookups.{ReadsOnly}
 use Rattle.image_check.specs.declared.contents.Contents.{Contents}
 use Rattle.image_check.specs.declared.fault.AttachFault.{AttachFault}
@@ -16,16 +15,15 @@ use Rattle.image_check.specs.Contents.{AreContents}
 use Rattle.image_check.specs.Faults.{attach_fault_of}
 use Rattle.image_check.specs.Verdicts.{clean_of, IsSlotsVerdict}
 
--- the slots are the layout of a tree, and this is what it has
+-- the slots meet the conditions by which the layout of a tree is known, and this is what the tree has
 pub record AreFound (slots : List (List ℕ)) (p : Parameters) (contents : Contents) : Type 0 where
-  pub tree : Tree
-  pub layout : HaveLayout slots tree p
-  pub contents_are : AreContents tree p contents
+  pub meets : MeetConditions slots p
+  pub contents_are : AreContents meets.tree p contents
 
--- what is found in slots: what the tree has whose layout they are, and nothing exactly where they are that of none
+-- what is found in slots: what the tree has whose layout they are, and nothing exactly where they don't meet the conditions
 abbrev pub IsFoundIn : List (List ℕ) → Parameters → Option Contents → Type 0
 IsFoundIn slots p (Some contents) = AreFound slots p contents
-IsFoundIn slots p None = (t : Tree) → HaveLayout slots t p → ⊥
+IsFoundIn slots p None = MeetConditions slots p → ⊥
 
 -- a search for the tree that slots hold
 pub record FindsContents (p : Parameters) (old new : SlotsState) (result : Result (Option Contents) Fault) : Type 0 where
@@ -58,5 +56,5 @@ pub record ChecksSlots (p : Parameters) (old new : SlotsState) (result : Result 
   pub never : IfOk result (λ verdict. verdict ≡ verdicts.NotImage → ⊥)
   -- the verdict is that on the slots
   pub verdict : IsObservable old → IfOk result (IsSlotsVerdict old.slots p)
-  -- and where they hold a tree it is that on the tree
-  pub clean : IsObservable old → (t : Tree) → HaveLayout old.slots t p → IfOk result (λ verdict. verdict ≡ clean_of t p)
+  -- and where they meet the conditions it is that on their tree
+  pub clean : IsObservable old → (meets : MeetConditions old.slots p) → IfOk result (λ verdict. verdict ≡ clean_of meets.tree p)

@@ -5,7 +5,7 @@ use Rattle.store_model.specs.Trees.{Tree}
 use Rattle.store_model.specs.Pages.{page_count}
 use Rattle.store_model.specs.Images.{NamesParameters, Represents}
 use Rattle.disk_model.specs.DiskState.{DiskState, IsObservable}
-use Rattle.layout_conditions.specs.Layouts.{HaveLayout}
+use Rattle.layout_conditions.specs.Conditions.{MeetConditions}
 use Rattle.tree_reader.specs.Counts.{count_dirs, count_files, count_bytes}
 use Rattle.image_check.specs.declared.verdict.Verdict.{Verdict}
 use Rattle.image_check.specs.declared.verdict.Verdict.TheVariants as verdicts
@@ -14,18 +14,17 @@ use Rattle.image_check.specs.declared.verdict.Verdict.TheVariants as verdicts
 abbrev pub clean_of : Tree → Parameters → Verdict
 clean_of t p = verdicts.Clean (page_count t p) (count_dirs t) (count_files t) (count_bytes t)
 
--- slots that hold a tree, with the verdict on it
+-- slots that meet the conditions by which the layout of a tree is known, with the verdict on that tree
 pub record AreCleanSlots (slots : List (List ℕ)) (p : Parameters) (verdict : Verdict) : Type 0 where
-  pub tree : Tree
-  pub layout : HaveLayout slots tree p
-  pub verdict_is : verdict ≡ clean_of tree p
+  pub meets : MeetConditions slots p
+  pub verdict_is : verdict ≡ clean_of meets.tree p
 
--- the verdict on slots: clean with the tree that they hold, and damaged where they hold none. It is never that they
--- are no image
+-- the verdict on slots: clean with the tree whose layout they are, and damaged where they don't meet the conditions. It is
+-- never that they are no image
 abbrev pub IsSlotsVerdict : List (List ℕ) → Parameters → Verdict → Type 0
 IsSlotsVerdict slots p (verdicts.Clean pages dirs files bytes) = AreCleanSlots slots p (verdicts.Clean pages dirs files bytes)
 IsSlotsVerdict slots p verdicts.NotImage = ⊥
-IsSlotsVerdict slots p verdicts.Damaged = (t : Tree) → HaveLayout slots t p → ⊥
+IsSlotsVerdict slots p verdicts.Damaged = MeetConditions slots p → ⊥
 
 -- the image's header names these parameters, and the image has their length
 pub record IsImageWith (image : List ℕ) (p : Parameters) : Type 0 where

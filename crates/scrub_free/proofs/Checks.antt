@@ -20,6 +20,7 @@ use Rattle.gate_journal.proofs.Stages.{on_ok_map}
 use Rattle.image_check.specs.declared.verdict.Verdict.{Verdict}
 use Rattle.image_check.specs.declared.verdict.Verdict.TheVariants.{Clean, NotImage, Damaged}
 use Rattle.layout_conditions.specs.Layouts.{HaveLayout}
+use Rattle.layout_conditions.proofs.LawLemmas.{layout_meets, conditions_tell}
 use Rattle.image_check.specs.ImageCalls.{ReadsDisk}
 use Rattle.image_check.specs.Verdicts.{clean_of, IsSlotsVerdict, IsImageWith, HasParameters}
 use Rattle.image_check.proofs.Images.{slots_in, represents_tree, represented_layout}
@@ -141,7 +142,7 @@ module _ (old mid new : DiskState) (p : Parameters) (verdict : Verdict) (has : H
       scrubs_to old.bytes t p (has.named told) (subst (λ (bytes : List ℕ). HaveLayout (map scrubbed_block (slots_in p.slots bytes)) t p) (read.reads told).bytes layout)
 
   none_found : verdict ≡ Damaged → IsObservable old → (t : Tree) (q : Parameters) → ScrubsTo old.bytes t q → ⊥
-  none_found is told t q scrubs = (subst (IsSlotsVerdict (slots_after p mid) p) is (checks.verdict (read.observable ∙ told))) t (held told t q scrubs)
+  none_found is told t q scrubs = (subst (IsSlotsVerdict (slots_after p mid) p) is (checks.verdict (read.observable ∙ told))) (layout_meets (slots_after p mid) p t has.in_range (held told t q scrubs)).0
 
   damaged : verdict ≡ Damaged → Scrubs old new (Ok verdict)
   damaged is = record {
@@ -159,14 +160,16 @@ module _ (old mid new : DiskState) (p : Parameters) (verdict : Verdict) (has : H
   clean_found : (pages dirs files bytes : ℕ) → verdict ≡ Clean pages dirs files bytes → IsObservable old → ScrubsWith old.bytes p verdict
   clean_found pages dirs files bytes is told =
       let slots = subst (IsSlotsVerdict (slots_after p mid) p) is (checks.verdict (read.observable ∙ told)) in
-      record { tree = slots.tree; scrubs = found told slots.tree slots.layout; verdict_is = is ∙ slots.verdict_is }
+      record { tree = slots.meets.tree; scrubs = found told slots.meets.tree (conditions_tell (slots_after p mid) p has.in_range slots.meets); verdict_is = is ∙ slots.verdict_is }
 
   clean_verdict : (pages dirs files bytes : ℕ) → verdict ≡ Clean pages dirs files bytes → IsScrubVerdict old verdict
   clean_verdict pages dirs files bytes is =
       subst (IsScrubVerdict old) (sym is) (record { params = p; has_parameters = has; scrubs = λ told. subst (ScrubsWith old.bytes p) is (clean_found pages dirs files bytes is told) })
 
   clean_is : IsObservable old → (t : Tree) (q : Parameters) → ScrubsTo old.bytes t q → verdict ≡ clean_of t q
-  clean_is told t q is = checks.clean (read.observable ∙ told) t (held told t q is) ∙ ap (clean_of t) (sym (one_name old.bytes p q (has.named told) is.image_is))
+  clean_is told t q is =
+      let there = layout_meets (slots_after p mid) p t has.in_range (held told t q is) in
+      checks.clean (read.observable ∙ told) there.0 ∙ ap (λ u. clean_of u p) there.1 ∙ ap (clean_of t) (sym (one_name old.bytes p q (has.named told) is.image_is))
 
   module _ (pages dirs files bytes : ℕ) (is : verdict ≡ Clean pages dirs files bytes) (last : DiskState) where
     not_none : IsObservable old → ((t : Tree) (q : Parameters) → ScrubsTo old.bytes t q → ⊥) → ⊥

@@ -13,7 +13,7 @@ use Rattle.gate_journal.specs.Places.{ReadsOnly}
 use Rattle.gate_journal.specs.ViewState.{viewed}
 use Rattle.image_check.specs.declared.verdict.Verdict.{Verdict}
 use Rattle.image_check.specs.declared.verdict.Verdict.TheVariants as verdicts
-use Rattle.layout_conditions.specs.Layouts.{HaveLayout}
+use Rattle.layout_conditions.specs.Conditions.{MeetConditions}
 use Rattle.image_check.specs.Verdicts.{clean_of, IsSlotsVerdict, IsImageWith, HasParameters, IsNoImage}
 use Rattle.image_check.specs.ImageCalls.{ReadsDisk}
 use Rattle.scrub_free.specs.ScrubbedSlots.{scrubbed_slots}
@@ -61,7 +61,7 @@ pub record ChecksScrubbed (p : Parameters) (old new : DiskState) (result : Resul
   pub memory : IsErrOf result NoMemory → ⊥
   pub never : IfOk result (λ verdict. verdict ≡ verdicts.NotImage → ⊥)
   pub verdict : IsObservable old → IfOk result (IsSlotsVerdict (slots_after p old) p)
-  pub clean : IsObservable old → (t : Tree) → HaveLayout (slots_after p old) t p → IfOk result (λ verdict. verdict ≡ clean_of t p)
+  pub clean : IsObservable old → (meets : MeetConditions (slots_after p old) p) → IfOk result (λ verdict. verdict ≡ clean_of meets.tree p)
 
 -- A scrub of an image.
 pub record Scrubs (old new : DiskState) (result : Result Verdict Fault) : Type 0 where

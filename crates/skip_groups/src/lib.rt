@@ -12,7 +12,7 @@ mod set_group;
 mod wanted;
 
 pub use cells::{append_own, lead_behind};
-pub use group::label_in_group;
+pub use group::{is_last, label_in_group};
 pub use group_search::search_group;
 pub use new_cells::NewCells;
 pub use set_group::{change_run, part_group, read_new_cells};

@@ -6,7 +6,7 @@ use Rattle.disk_model.specs.DiskState.{DiskState}
 use Rattle.gate_journal.specs.Places.{Made, Makes, ReadsOnly}
 use Rattle.store_base.specs.Counts.{raised}
 use Rattle.store_core.specs.TableChanges.{slots_between}
-use Rattle.image_check.specs.Contents.{table_of_tree}
+use Rattle.layout_conditions.specs.Layouts.{table_of_tree}
 use Rattle.gate_journal.specs.Costs.{MadeAtMost, opening_writes, opening_syncs, CountsCommit}
 use Rattle.gate_journal.specs.Phases.{HasEmptyJournal}
 use Rattle.gate_journal.specs.Recovery.{redo_writes, redo_syncs, erase_writes}

@@ -190,35 +190,35 @@ module _ (old mid new : DiskState) (contents : Contents) (checks : ChecksSynced 
     (quiet : IsObservable mid → HasEmptyJournal contents.params.slots mid.bytes → new.writes ≡ mid.writes)
     (quiet_syncs : IsObservable mid → HasEmptyJournal contents.params.slots mid.bytes → new.syncs ≡ raised mid.syncs)
     (makes : IsObservable mid → (HasEmptyJournal contents.params.slots mid.bytes → ⊥) → Makes (redo_writes contents.params.slots mid.bytes + erase_writes contents.params.slots mid.bytes) (redo_syncs mid.bytes + 2) mid new result) where
-  t : Tree
-  t = (opening_tree old contents checks.image).0
+  abbrev its_tree : Tree
+  its_tree = (opening_tree old contents checks.image).0
 
-  with : OpensWith old contents t
-  with = (opening_tree old contents checks.image).1
+  opening : OpensWith old contents its_tree
+  opening = (opening_tree old contents checks.image).1
 
   pub kept_by_both : KeepsDisk old new
   kept_by_both = keeps_then old mid new checks.kept (keeps_calls mid new result calls)
 
   -- what the disk reads before recovery represents the tree, and so does what it reads behind it
-  before : IsObservable old → Represents mid.bytes t contents.params
+  before : IsObservable old → Represents mid.bytes its_tree contents.params
   before observable =
-      subst (λ (image : List ℕ). Represents image t contents.params) (sym (checks.synced observable).bytes) (with.represents observable)
+      subst (λ (image : List ℕ). Represents image its_tree contents.params) (sym (checks.synced observable).bytes) (opening.represents observable)
 
-  after : IsObservable old → Represents new.bytes t contents.params
+  after : IsObservable old → Represents new.bytes its_tree contents.params
   after observable =
-      recovers-represents mid.bytes new.bytes t contents.params (before observable) (recovers (checks.kept.observable ∙ observable)).reads
+      recovers-represents mid.bytes new.bytes its_tree contents.params (before observable) (recovers (checks.kept.observable ∙ observable)).reads
 
-  leaves : IsObservable old → LeavesOnly old new (λ image. old.crash_images image ⊎ Represents image t contents.params)
+  leaves : IsObservable old → LeavesOnly old new (λ image. old.crash_images image ⊎ Represents image its_tree contents.params)
   leaves observable =
       let observable_mid : IsObservable mid = checks.kept.observable ∙ observable in
       let durable : IsDurable mid = checks.durable observable in
-      let P : List ℕ → Type 0 = λ image. old.crash_images image ⊎ Represents image t contents.params in
+      let P : List ℕ → Type 0 = λ image. old.crash_images image ⊎ Represents image its_tree contents.params in
       LeavesOnly-trans old mid new P
       (LeavesOnly-weaken old mid old.crash_images P (λ image left. inl left) (checks.synced observable).leaves)
       (LeavesOnly-weaken mid new (λ image. mid.crash_images image ⊎ RecoversAs contents.params.slots mid.bytes image) P
       (λ image either. ⊎_elim
-      (λ left. inr (subst (λ (x : List ℕ). Represents x t contents.params) (sym (durable image left)) (before observable)))
-      (λ alike. inr (recovers-represents mid.bytes image t contents.params (before observable) alike)) either)
+      (λ left. inr (subst (λ (x : List ℕ). Represents x its_tree contents.params) (sym (durable image left)) (before observable)))
+      (λ alike. inr (recovers-represents mid.bytes image its_tree contents.params (before observable) alike)) either)
       (recovers observable_mid).crash)
 
   counts : IsObservable old → CountsOpening contents.params.slots old new result
@@ -238,7 +238,7 @@ module _ (old mid new : DiskState) (contents : Contents) (checks : ChecksSynced 
     unwritten = λ observable other. absurd (other refl);
     looked = λ observable either. ⊎_elim (λ e. absurd (cc)) (λ e. absurd (cc)) either;
     represented = λ observable t p represents.
-        let same = images_tell old.bytes t t contents.params p (with.represents observable) represents in
+        let same = images_tell old.bytes its_tree t contents.params p (opening.represents observable) represents in
         subst (λ (q : Parameters). KeepsImage t q old attach.Disk new) same.1 (subst (λ (u : Tree). KeepsImage u contents.params old attach.Disk new) same.0 (record {
           not_image = λ e. absurd (cc);
           damaged = λ e. absurd (cc);
@@ -246,7 +246,7 @@ module _ (old mid new : DiskState) (contents : Contents) (checks : ChecksSynced 
           crash = leaves observable;
           limit = (counts observable).limit;
         }));
-    unrepresented = λ observable none. absurd (none t contents.params (with.represents observable));
+    unrepresented = λ observable none. absurd (none its_tree contents.params (opening.represents observable));
   }
 
   -- it succeeded
@@ -256,20 +256,20 @@ module _ (old mid new : DiskState) (contents : Contents) (checks : ChecksSynced 
         subst (λ (r : Result (Unit {0}) DiskFault). OnOk r (new.bytes ≡ recovered contents.params.slots mid.bytes)) is (recovers (checks.kept.observable ∙ observable)).done
         ∙ ap (recovered contents.params.slots) (checks.synced observable).bytes
 
-    pub stands : IsObservable old → Stands new t contents.params
+    pub stands : IsObservable old → Stands new its_tree contents.params
     stands observable = record {
-      layout_is = recovered_is observable ∙ (with.represents observable).layout_is;
+      layout_is = recovered_is observable ∙ (opening.represents observable).layout_is;
       durable = subst (λ (r : Result (Unit {0}) DiskFault). OnOk r (IsDurable new)) is (recovers (checks.kept.observable ∙ observable)).durable;
     }
 
-    pub opened : IsObservable old → IsOpened t contents.params old new
+    pub opened : IsObservable old → IsOpened its_tree contents.params old new
     opened observable = record {
-      represents = with.represents observable;
+      represents = opening.represents observable;
       stands = stands observable;
       crash = leaves observable;
       counts = subst (λ (r : Result (Unit {0}) DiskFault). OnOk r (Made (opening_writes contents.params.slots old.bytes) (opening_syncs contents.params.slots old.bytes) old new)) is (counts observable).made;
       unwritten = λ empty. record {
-        bytes = recovered_is observable ∙ recovered_empty contents.params.slots old.bytes (with.represents observable).length_is empty;
+        bytes = recovered_is observable ∙ recovered_empty contents.params.slots old.bytes (opening.represents observable).length_is empty;
         writes =
             quiet (checks.kept.observable ∙ observable) (subst (λ (image : List ℕ). HasEmptyJournal contents.params.slots image) (sym (checks.synced observable).bytes) empty)
             ∙ (checks.synced observable).writes;

@@ -17,7 +17,7 @@ use Rattle.store_model.proofs.PageMapsLemmas.{len-pages_of_map, pages_of_pairs_m
 use Rattle.store_model.proofs.PlacementLemmas.{IsPermutation-place}
 use Rattle.store_model.proofs.PlacementLemmasDraws.{IsLawful-draw_of}
 use Rattle.disk_model.specs.DiskState.{DiskState}
-use Rattle.image_check.specs.Contents.{table_of_tree}
+use Rattle.layout_conditions.specs.Layouts.{table_of_tree}
 use Rattle.skip_levels.specs.Descent.{HoldsPairs}
 use Rattle.tree_pairs.specs.TreeCalls.{pairs_limit}
 use Rattle.table_memory.specs.Differences as places

@@ -7,7 +7,7 @@ use Rattle.store_model.specs.Parameters.{Parameters}
 use Rattle.store_model.specs.Trees.{Tree}
 use Rattle.store_model.specs.Placement.{Table}
 use Rattle.store_model.specs.Images.{slot_bytes}
-use Rattle.image_check.specs.Contents.{table_of_tree}
+use Rattle.layout_conditions.specs.Layouts.{table_of_tree}
 
 -- the bytes of slot i of the table, and none past its end
 abbrev pub bytes_of : Table → ℕ → List ℕ

@@ -1,5 +1,5 @@
 -- The pairs of a tree at the front of others: its entries are the first ones of any tree whose pairs begin so.
-use Rattle.std.proofs.Common.{◌≡◌, ℕ, ◌+◌, ◌≤◌, List, [], ◌∷◌, ◌++◌, map, length, false, IsTrue, refl, sym, ap, ap₂, subst, ◌∙◌, arith}
+use Rattle.std.proofs.Common.{◌≡◌, ℕ, ◌+◌, ◌≤◌, List, [], ◌∷◌, ◌++◌, map, length, IsTrue, refl, sym, ap, ◌∙◌, arith}
 use Rattle.std.specs.Ordering.{ordering_then}
 use Rattle.std.specs.Cmp.{tied_itself}
 use Rattle.std.specs.Cmp.Lexicographic.{nat_list_cmp_total}
@@ -9,7 +9,7 @@ use Rattle.std.proofs.lemmas.List.{append-nil, append_assoc, length-map}
 use Rattle.std.proofs.lemmas.List.FromFn.{length-enumerate_from}
 use Rattle.store_model.specs.Lists.{run_count, runs}
 use Rattle.store_model.specs.Parameters.{Parameters}
-use Rattle.store_model.specs.Paths.{Path, is_path, is_root, path_cmp, key, key_cmp}
+use Rattle.store_model.specs.Paths.{Path, is_path, path_cmp, key, key_cmp}
 use Rattle.store_model.specs.Pairs.{Pair, file_block, file_value, node_pairs, pairs}
 use Rattle.store_model.specs.Trees.{Tree, Node, file_limit, IsNode, IsEntry, IsTree}
 use Rattle.store_model.specs.Trees.Node.{Directory, File}
@@ -18,7 +18,6 @@ use Rattle.store_model.proofs.ListsLemmasCuts.{flat_map-runs}
 use Rattle.store_model.proofs.PathsLemmas.{order_of_keys}
 use Rattle.store_model.proofs.TreesLemmasPaths.{same_from_tie}
 use Rattle.store_model.proofs.TreesLemmasBytes.{fronts_same, heads_same, tails_same, four_bytes_same}
-use Rattle.tree_pairs.specs.declared.kind.Kind.{Kind}
 use Rattle.tree_pairs.specs.Kinds.{kind_of, value_of, IsKind}
 use Rattle.tree_reader.specs.Fronts.{block_pairs}
 
@@ -61,7 +60,7 @@ files_same x y a b u v la lb first e =
     (sym (flat_map-runs file_block a (omega arith)) ∙ ap (flat_map (λ run. run)) blocks ∙ flat_map-runs file_block b (omega arith), whole.1)
 
 -- a key and a value in a pair
-pub pair_parts : {p q : Pair} → p ≡ q → (p.0 ≡ q.0) × (p.1 ≡ q.1)
+pair_parts : {p q : Pair} → p ≡ q → (p.0 ≡ q.0) × (p.1 ≡ q.1)
 pair_parts e = (ap (λ (p : Pair). p.0) e, ap (λ (p : Pair). p.1) e)
 
 -- the pairs of what stands at a path tell it, in front of other pairs
@@ -127,7 +126,8 @@ pub record HasNext (t others : Tree) (pair : Pair) (rest : List Pair) (p : Param
   pub behind : List Pair
   pub node_pairs_are : node_pairs path node p ≡ (key path 0, value_of (kind_of node)) ∷ behind
   pub kind_is : IsKind (kind_of node)
-  pub pair_is : pair ≡ (key path 0, value_of (kind_of node))
+  pub key_is : pair.0 ≡ key path 0
+  pub value_is : pair.1 ≡ value_of (kind_of node)
   pub rest_is : behind ++ pairs later p ≡ rest
 
 pub next_of_pair : (t others : Tree) (pair : Pair) (rest : List Pair) (p : Parameters) → AllByRecursion (IsEntry t) others → pairs others p ≡ pair ∷ rest → HasNext t others pair rest p
@@ -136,6 +136,7 @@ next_of_pair t [] pair rest p entries e = cc
 next_of_pair t (f ∷ later) pair rest p entries e =
     let first = first_of_node f.0 f.1 p (entries.0).node in
     let whole : (key f.0 0, value_of (kind_of f.1)) ∷ (first.behind ++ pairs later p) ≡ pair ∷ rest = sym (ap (λ (front : List Pair). front ++ pairs later p) first.pairs_are) ∙ e in
+    let parts = pair_parts (sym (heads_same whole)) in
     record {
       path = f.0;
       node = f.1;
@@ -145,6 +146,7 @@ next_of_pair t (f ∷ later) pair rest p entries e =
       behind = first.behind;
       node_pairs_are = first.pairs_are;
       kind_is = first.kind_is;
-      pair_is = sym (heads_same whole);
+      key_is = parts.0;
+      value_is = parts.1;
       rest_is = tails_same whole;
     }

@@ -1,5 +1,5 @@
 -- Where an entry may stand behind those of a tree, and that the path of the last one tells it.
-use Rattle.std.proofs.Common.{◌≡◌, ℕ, ◌≤◌, List, [], ◌∷◌, ◌++◌, length, drop, Bool, true, false, ◌⊎◌, inl, inr, cond, IsTrue, Option, Some, None, is_some, refl, sym, ap, subst, ◌∙◌, arith, Ordering, Less, Equal, Greater}
+use Rattle.std.proofs.Common.{◌≡◌, ◌≤◌, List, [], ◌∷◌, ◌++◌, length, drop, Bool, true, false, ◌⊎◌, inl, inr, cond, IsTrue, Option, Some, None, is_some, refl, sym, ap, subst, ◌∙◌, arith, Ordering, Less, Equal, Greater}
 use Rattle.std.specs.Ordering.{ordering_then, ordering_reverse, is_eq, is_le, eq_by_cmp}
 use Rattle.std.specs.Cmp.{tied_itself}
 use Rattle.std.specs.Cmp.Lexicographic.{nat_list_cmp_total}
@@ -13,7 +13,7 @@ use Rattle.std.proofs.lemmas.Option.{same_Some}
 use Rattle.store_model.specs.Paths.{Path, Name, is_root, is_path, is_inside, is_at_or_inside, parent, name_cmp, path_cmp}
 use Rattle.store_model.specs.Trees.{Tree, Node, IsNode, IsEntry, IsTree, node_at, exists, is_directory, is_directory_node}
 use Rattle.store_model.specs.Trees.Node.{Directory, File}
-use Rattle.store_model.proofs.ListsLemmas.{all_weaker, all_append, all_front, all_back, rising_from_is_sorted, rising_head, rising_tail, rising_back}
+use Rattle.store_model.proofs.ListsLemmas.{all_weaker, all_append, all_back, rising_from_is_sorted, rising_head, rising_tail, rising_back}
 use Rattle.store_model.proofs.TreesLemmas.{IsTree-with_node, node_at-find, entry_at, exists_from_directory, find_from_all}
 use Rattle.store_model.proofs.TreesLemmasMoves.{nothing_below}
 use Rattle.store_model.proofs.TreesLemmasPaths.{path_cmp_total, same_from_tie, same_path-itself, last_step, inside-append, at_or_inside-append, not_root-push, parent-push}
@@ -117,7 +117,7 @@ find_front q [] u later = not_found q u later
 find_front q (e ∷ t) u later = ap (cond (eq_by_cmp path_cmp q e.0) (Some e.1)) (find_front q t u later)
 
 -- each entry of a tree may stand behind those before it
-pub stands_next : (t others : Tree) (x : Path) (node : Node) → IsTree (t ++ (x, node) ∷ others) → MayStandNext t x
+stands_next : (t others : Tree) (x : Path) (node : Node) → IsTree (t ++ (x, node) ∷ others) → MayStandNext t x
 stands_next t others x node tree =
     let whole : Tree = t ++ (x, node) ∷ others in
     let entry : IsEntry whole (x, node) = (all_back (IsEntry whole) t ((x, node) ∷ others) tree.entries).0 in
@@ -136,6 +136,10 @@ stands_next t others x node tree =
     by_parent : (q : Path) → AllByRecursion (λ e. path_cmp q e.0 ≡ Less) ((x, node) ∷ others) → is_directory (t ++ (x, node) ∷ others) q ≡ true → is_directory t q ≡ true
     by_parent [] later is = refl
     by_parent (m ∷ q) later is = ap is_directory_node (sym (find_front (m ∷ q) t ((x, node) ∷ others) later)) ∙ is
+
+-- the same of the first entry of those that are left
+pub next_stands : (u t others later : Tree) (x : Path) (node : Node) → IsTree u → u ≡ t ++ others → others ≡ (x, node) ∷ later → MayStandNext t x
+next_stands u t others later x node tree split first = stands_next t later x node (subst IsTree (split ∙ ap (λ (xs : Tree). t ++ xs) first) tree)
 
 -- ---- the last path tells it
 

@@ -1,11 +1,11 @@
 -- What a reader has seen, from pair to pair.
-use Rattle.std.proofs.Common.{◌≡◌, ℕ, zero, suc, ◌+◌, ◌-◌, ◌*◌, ◌/◌, ◌<◌, ◌≤◌, min, List, [], ◌∷◌, ◌++◌, length, replicate, Bool, true, false, inl, inr, IsTrue, Some, nat_lt, ltb-true, ltb-false, refl, sym, ap, ap₂, subst, ◌∙◌, arith}
+use Rattle.std.proofs.Common.{◌≡◌, ℕ, zero, suc, ◌+◌, ◌-◌, ◌*◌, ◌/◌, ◌<◌, ◌≤◌, min, List, [], ◌∷◌, ◌++◌, length, Bool, true, false, inl, inr, nat_lt, ltb-true, ltb-false, refl, sym, ap, ap₂, subst, ◌∙◌, arith}
 use Rattle.std.specs.List.{AllByRecursion}
 use Rattle.std.proofs.lemmas.List.{append-nil, append_assoc, length-append, length-replicate}
 use Rattle.store_model.specs.Lists.{IsBytes, zeros, run_count}
 use Rattle.store_model.specs.Parameters.{Parameters}
 use Rattle.store_model.specs.Paths.{Path, key}
-use Rattle.store_model.specs.Pairs.{Pair, file_block, directory_value, file_value, node_pairs, pairs}
+use Rattle.store_model.specs.Pairs.{Pair, file_block, file_value, node_pairs, pairs}
 use Rattle.store_model.specs.Trees.{Tree, Node, file_limit, IsNode, IsEntry, IsTree, node_at}
 use Rattle.store_model.specs.Trees.Node.{Directory, File}
 use Rattle.store_model.proofs.ListsLemmas.{all_append, all_back, all_replicate, all_from_bytes, bytes_from_all}
@@ -20,17 +20,17 @@ use Rattle.tree_reader.specs.declared.counts.Counts.{Counts}
 use Rattle.tree_reader.specs.declared.reader.TreeReader.{TreeReader}
 use Rattle.tree_reader.specs.Counts.{AreCounts, CountsMore}
 use Rattle.tree_reader.specs.Fronts.{AreOfTree, BeginTree, IsFirst, block_pairs}
-use Rattle.tree_reader.specs.Seen.{IsLast, MayStandNext, MayFollow, IsNextBlock, size_of, IsBetweenEntries, IsInFile, HasSeen}
+use Rattle.tree_reader.specs.Seen.{IsLast, MayFollow, IsNextBlock, size_of, IsBetweenEntries, IsInFile, HasSeen}
 use Rattle.tree_reader.proofs.BlockLemmas.{pairs_behind, blocks-append, blocks_more, no_blocks, block_is}
 use Rattle.tree_reader.proofs.CountLemmas.{counts_more, in_range}
-use Rattle.tree_reader.proofs.FrontLemmas.{length-block_pairs, keys_tell_paths, pair_parts, pairs_more, tree_first, next_of_pair}
-use Rattle.tree_reader.proofs.NextLemmas.{tree_more, last_more, stands_next, next_from_last, last_from_next}
+use Rattle.tree_reader.proofs.FrontLemmas.{length-block_pairs, keys_tell_paths, pairs_more, tree_first, next_of_pair}
+use Rattle.tree_reader.proofs.NextLemmas.{tree_more, last_more, next_stands, next_from_last, last_from_next}
 
 -- ---- where a reader stands
 
 -- nothing was seen
 pub seen_none : (path : Path) (p : Parameters) → path ≡ [] → HasSeen (record { last = record { path = path; kind = kinds.Directory }; read = 0; counts = record { dirs = 0; files = 0; bytes = 0 } }) [] p
-unfolding pairs
+unfolding pairs HasSeen
 seen_none path p root = inl (record {
   tree = [];
   is_tree = IsTree-empty;
@@ -42,10 +42,12 @@ seen_none path p root = inl (record {
 
 -- what was read of the last entry tells where it stands
 pub between : (reader : TreeReader) (s : List Pair) (p : Parameters) → HasSeen reader s p → size_of reader.last.kind ≤ reader.read → IsBetweenEntries reader s p
+unfolding HasSeen
 between reader s p (inl is) whole = is
 between reader s p (inr is) whole = absurd (omega (arith, ap size_of is.kind_is, is.more, whole))
 
 pub in_file : (reader : TreeReader) (s : List Pair) (p : Parameters) (len : ℕ) → HasSeen reader s p → reader.last.kind ≡ kinds.File len → reader.read < len → (is : IsInFile reader s p) × (is.len ≡ len)
+unfolding HasSeen
 in_file reader s p len (inl is) kind_is more = absurd (omega (arith, ap size_of kind_is, is.whole, more))
 in_file reader s p len (inr is) kind_is more = (is, ap size_of (sym is.kind_is ∙ kind_is))
 
@@ -56,6 +58,7 @@ file_pairs path content len p long = ap (λ n. (key path 0, file_value n) ∷ bl
 
 -- some tree's pairs begin with those that were seen: a file that is not whole may go on with zeros
 pub seen_begins : (reader : TreeReader) (s : List Pair) (p : Parameters) → HasSeen reader s p → BeginTree s p
+unfolding HasSeen
 seen_begins reader s p (inl is) = record { tree = is.tree; is_tree = is.is_tree; rest = []; pairs_are = sym is.pairs_are ∙ sym (append-nil s) }
 seen_begins reader s p (inr is) =
     let unread : List ℕ = zeros (is.len - reader.read) in
@@ -79,7 +82,7 @@ seen_begins reader s p (inr is) =
 -- a first pair that may stand next is seen
 pub first_taken : (old : TreeReader) (s : List Pair) (p : Parameters) (path : Path) (kind : Kind) (key_bytes value : List ℕ) (counts : Counts) → IsBetweenEntries old s p → IsFirst path kind key_bytes value → MayFollow old.last.path old.last.kind path → CountsMore old.counts kind counts
     → HasSeen (record { last = record { path = path; kind = kind }; read = 0; counts = counts }) (s ++ (key_bytes, value) ∷ []) p
-unfolding node_pairs
+unfolding node_pairs HasSeen
 first_taken old s p path kinds.Directory key_bytes value counts is first follows more =
     let next = next_from_last is.tree old.last.path old.last.kind path is.is_tree is.last first.path_is first.below_root follows in
     inl (record {
@@ -137,12 +140,11 @@ first_told old s p key_bytes value is begins =
     let front = tree_first begins.tree is.tree rest p begins.is_tree is.is_tree joined in
     let entries = all_back (IsEntry begins.tree) is.tree front.others (subst (AllByRecursion (IsEntry begins.tree)) front.entries_are begins.is_tree.entries) in
     let next = next_of_pair begins.tree front.others pair begins.rest p entries front.pairs_are in
-    let may = stands_next is.tree next.later next.path next.node (subst IsTree (front.entries_are ∙ ap (λ (others : Tree). is.tree ++ others) next.entries_are) begins.is_tree) in
-    let parts = pair_parts next.pair_is in
+    let may = next_stands begins.tree is.tree front.others next.later next.path next.node begins.is_tree front.entries_are next.entries_are in
     record {
       path = next.path;
       kind = kind_of next.node;
-      first = record { path_is = next.is_entry.path; below_root = next.is_entry.below_root; kind_is = next.kind_is; key_is = parts.0; value_is = parts.1 };
+      first = record { path_is = next.is_entry.path; below_root = next.is_entry.below_root; kind_is = next.kind_is; key_is = next.key_is; value_is = next.value_is };
       follows = last_from_next is.tree old.last.path old.last.kind next.path is.last may;
     }
 
@@ -178,6 +180,7 @@ more_bytes bytes value valid more = bytes_from_all (bytes ++ value) (all_append 
 -- a block of a file is seen, and others are still to come
 block_inside : (old : TreeReader) (s : List Pair) (p : Parameters) (key_bytes value : List ℕ) (is : IsInFile old s p) → IsNextBlock old.last.path old.read is.len key_bytes value → IsBytes value → old.read + length value < is.len
     → HasSeen (record old { read = old.read + length value }) (s ++ (key_bytes, value) ∷ []) p
+unfolding HasSeen
 block_inside old s p key_bytes value is next valid more =
     inr (record {
       before = is.before;
@@ -199,6 +202,7 @@ block_inside old s p key_bytes value is next valid more =
 -- the last block of a file is seen
 block_last : (old : TreeReader) (s : List Pair) (p : Parameters) (key_bytes value : List ℕ) (is : IsInFile old s p) → IsNextBlock old.last.path old.read is.len key_bytes value → IsBytes value → is.len ≤ old.read + length value
     → HasSeen (record old { read = old.read + length value }) (s ++ (key_bytes, value) ∷ []) p
+unfolding HasSeen
 block_last old s p key_bytes value is next valid whole =
     let content : List ℕ = is.bytes ++ value in
     let before = is.more in
@@ -239,6 +243,10 @@ content_from_value path (File content) len p behind is short value_is pairs_are 
     let size : length content ≤ file_limit = is.0 in
     (content, sym (four_bytes_same len (length content) (omega arith) (omega arith) (tails_same value_is)), tails_same pairs_are)
 
+-- the blocks of a file at an equal path, in front of other pairs
+blocks_of_same : (x y : Path) (content : List ℕ) (behind later rest : List Pair) → x ≡ y → block_pairs y content ≡ behind → behind ++ later ≡ rest → block_pairs x content ++ later ≡ rest
+blocks_of_same x y content behind later rest same own joined = ap (λ (path : Path). block_pairs path content ++ later) same ∙ ap (λ (pairs : List Pair). pairs ++ later) own ∙ joined
+
 pub content_told : (reader : TreeReader) (s : List Pair) (p : Parameters) (is : IsInFile reader s p) (u : Tree) (rest : List Pair) → IsTree u → pairs u p ≡ s ++ rest → HasContent reader is.len is.bytes rest
 content_told reader s p is u rest tree e =
     let first : Pair = (key reader.last.path 0, file_value is.len) in
@@ -247,14 +255,13 @@ content_told reader s p is u rest tree e =
     let front = tree_first u is.before behind_all p tree is.is_tree (e ∙ ap (λ (xs : List Pair). xs ++ rest) is.pairs_are ∙ append_assoc (pairs is.before p) (first ∷ blocks) rest) in
     let entries = all_back (IsEntry u) is.before front.others (subst (AllByRecursion (IsEntry u)) front.entries_are tree.entries) in
     let next = next_of_pair u front.others first (blocks ++ rest) p entries front.pairs_are in
-    let parts = pair_parts next.pair_is in
-    let same : reader.last.path ≡ next.path = keys_tell_paths reader.last.path next.path is.next.valid next.is_entry.path parts.0 in
-    let found = content_from_value next.path next.node is.len p next.behind next.is_entry.node is.short parts.1 next.node_pairs_are in
+    let same : reader.last.path ≡ next.path = keys_tell_paths reader.last.path next.path is.next.valid next.is_entry.path next.key_is in
+    let found = content_from_value next.path next.node is.len p next.behind next.is_entry.node is.short next.value_is next.node_pairs_are in
     record {
       content = found.0;
       long = found.1;
       later = pairs next.later p;
-      blocks_are = ap (λ (path : Path). block_pairs path found.0 ++ pairs next.later p) same ∙ ap (λ (own : List Pair). own ++ pairs next.later p) found.2 ∙ next.rest_is;
+      blocks_are = blocks_of_same reader.last.path next.path found.0 next.behind (pairs next.later p) (blocks ++ rest) same found.2 next.rest_is;
     }
 
 -- how many blocks were seen
@@ -291,10 +298,12 @@ pub whole_from_seen : (reader : TreeReader) (s : List Pair) (p : Parameters) →
 whole_from_seen reader s p seen whole = let is = between reader s p seen whole in record { tree = is.tree; is_tree = is.is_tree; pairs_are = is.pairs_are }
 
 pub seen_from_whole : (reader : TreeReader) (s : List Pair) (p : Parameters) → HasSeen reader s p → AreOfTree s p → size_of reader.last.kind ≤ reader.read
+unfolding HasSeen
 seen_from_whole reader s p (inl is) of = is.whole
 seen_from_whole reader s p (inr is) of = absurd (not_whole reader s p is of.tree of.is_tree of.pairs_are)
 
 -- and the counts are that tree's
 pub counts_told : (reader : TreeReader) (s : List Pair) (p : Parameters) → HasSeen reader s p → (t : Tree) → IsTree t → s ≡ pairs t p → AreCounts t reader.counts
+unfolding HasSeen
 counts_told reader s p (inl is) t tree e = subst (λ (u : Tree). AreCounts u reader.counts) (pairs_tell_trees is.tree t p is.is_tree tree (sym is.pairs_are ∙ e)) is.counts_are
 counts_told reader s p (inr is) t tree e = absurd (not_whole reader s p is t tree e)

@@ -27,4 +27,5 @@ pub record AreCounts (t : Tree) (counts : Counts) : Type 0 where
 -- the counts with what stands at one path more
 abbrev pub CountsMore : Counts → Kind → Counts → Type 0
 CountsMore old kinds.Directory new = (new.dirs ≡ old.dirs + 1) × (new.files ≡ old.files) × (new.bytes ≡ old.bytes)
-CountsMore old (kinds.File len) new = (new.dirs ≡ old.dirs) × (new.files ≡ old.files + 1) × (new.bytes ≡ old.bytes + len)
+CountsMore old (kinds.File len) new =
+    (new.dirs ≡ old.dirs) × (new.files ≡ old.files + 1) × (new.bytes ≡ old.bytes + len)

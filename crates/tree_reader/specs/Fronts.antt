@@ -1,5 +1,5 @@
 -- Lists of pairs, and those of trees.
-use Rattle.std.specs.Prelude.{◌≡◌, ℕ, IsTrue, List, ◌∷◌, ◌++◌, map, false}
+use Rattle.std.specs.Prelude.{◌≡◌, ℕ, IsTrue, List, ◌++◌, map, false}
 use Rattle.std.specs.List.{enumerate_from}
 use Rattle.store_model.specs.Lists.{runs}
 use Rattle.store_model.specs.Parameters.{Parameters}

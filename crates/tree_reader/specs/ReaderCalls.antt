@@ -1,5 +1,5 @@
 -- What the calls of a reader promise.
-use Rattle.std.specs.Prelude.{◌≡◌, ℕ, ◌<◌, IsTrue, ◌↔◌, List, [], ◌∷◌, ◌++◌, length, Bool}
+use Rattle.std.specs.Prelude.{◌≡◌, ◌<◌, IsTrue, ◌↔◌, List, [], ◌∷◌, ◌++◌, length, Bool}
 use Rattle.std.specs.Bool.{OnTrue, OnFalse}
 use Rattle.store_model.specs.Parameters.{Parameters}
 use Rattle.store_model.specs.Trees.{Tree, IsTree}
@@ -16,7 +16,8 @@ use Rattle.tree_reader.specs.Seen.{HasSeen}
 pub record AddsPair (old new : TreeReader) (pair : Pair) (result : Bool) : Type 0 where
   pub seen : (s : List Pair) (p : Parameters) → HasSeen old s p → OnTrue result (HasSeen new (s ++ pair ∷ []) p)
   pub begins : (s : List Pair) (p : Parameters) → HasSeen old s p → OnTrue result (BeginTree (s ++ pair ∷ []) p)
-  pub refused : (s : List Pair) (p : Parameters) → HasSeen old s p → length s < pairs_limit → OnFalse result (BeginTree (s ++ pair ∷ []) p → ⊥)
+  pub refused : (s : List Pair) (p : Parameters) → HasSeen old s p → length s < pairs_limit
+      → OnFalse result (BeginTree (s ++ pair ∷ []) p → ⊥)
   pub unchanged : OnFalse result (new ≡ old)
 
 -- whether the pairs that a reader has seen are those of a tree
@@ -25,7 +26,8 @@ TellsWhole reader result = (s : List Pair) (p : Parameters) → HasSeen reader s
 
 -- how many entries a tree has whose pairs the reader has seen
 abbrev pub TellsCounts : TreeReader → Counts → Type 0
-TellsCounts reader counts = (s : List Pair) (p : Parameters) → HasSeen reader s p → (t : Tree) → IsTree t → s ≡ pairs t p → AreCounts t counts
+TellsCounts reader counts = (s : List Pair) (p : Parameters) → HasSeen reader s p
+    → (t : Tree) → IsTree t → s ≡ pairs t p → AreCounts t counts
 
 -- the pairs are those of a tree, and the counts are that tree's
 pub record AreCounted (s : List Pair) (p : Parameters) (counts : Counts) : Type 0 where

@@ -32,12 +32,14 @@ pub record MayStandNext (t : Tree) (path : Path) : Type 0 where
 -- the same by the last entry alone: the parent is the root, or the last path if that is a directory, or a path strictly
 -- above it
 abbrev pub MayFollow : Path → Kind → Path → Type 0
-MayFollow last kind path = (path_cmp last path ≡ Less) × ((parent path ≡ []) ⊎ ((parent path ≡ last) × (kind ≡ kinds.Directory)) ⊎ IsTrue (is_inside last (parent path)))
+MayFollow last kind path = (path_cmp last path ≡ Less)
+    × ((parent path ≡ []) ⊎ ((parent path ≡ last) × (kind ≡ kinds.Directory)) ⊎ IsTrue (is_inside last (parent path)))
 
 -- the pair is the next block of a file of len bytes, of which so many were read: it has the next number, and it is full
 -- unless it is the last
 abbrev pub IsNextBlock : Path → ℕ → ℕ → List ℕ → List ℕ → Type 0
-IsNextBlock path read len key_bytes value = (key_bytes ≡ key path (read / file_block + 1)) × (length value ≡ min (len - read) file_block)
+IsNextBlock path read len key_bytes value =
+    (key_bytes ≡ key path (read / file_block + 1)) × (length value ≡ min (len - read) file_block)
 
 -- how many bytes of what stands at a path have pairs of their own
 abbrev pub size_of : Kind → ℕ
@@ -69,8 +71,9 @@ pub record IsInFile (reader : TreeReader) (s : List Pair) (p : Parameters) : Typ
   pub blocks : ℕ
   pub full : reader.read ≡ file_block * blocks
   pub pairs_are : s ≡ pairs before p ++ (key reader.last.path 0, file_value len) ∷ block_pairs reader.last.path bytes
-  pub counts_are : (content : List ℕ) → length content ≡ len → AreCounts (before ++ (reader.last.path, File content) ∷ []) reader.counts
+  pub counts_are : (content : List ℕ) → length content ≡ len
+      → AreCounts (before ++ (reader.last.path, File content) ∷ []) reader.counts
 
 -- the reader has seen these pairs and no others
-abbrev pub HasSeen : TreeReader → List Pair → Parameters → Type 0
+unfoldable pub HasSeen : TreeReader → List Pair → Parameters → Type 0
 HasSeen reader s p = IsBetweenEntries reader s p ⊎ IsInFile reader s p

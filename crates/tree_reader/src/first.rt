@@ -20,7 +20,8 @@ pub struct Entry {
 /// The entry that a first pair names; `None` exactly where it is no path's first pair.
 pub fn first_in(key: &Key, value: &[u8]) -> Option<Entry>
     ensures found { IfSome result (λ entry. IsFirst entry.path entry.kind key.now value.now) }
-    ensures only { (path : paths.Path) (kind : Kind) → IsFirst path kind key.now value.now → result ≡ Some (record { path = path; kind = kind }) }
+    ensures only { (path : paths.Path) (kind : Kind) → IsFirst path kind key.now value.now
+        → result ≡ Some (record { path = path; kind = kind }) }
 {
     match Path::of_key(key)? {
         (path, 0) => Some(Entry {

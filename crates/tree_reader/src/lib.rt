@@ -1,9 +1,9 @@
 //! Whether pairs that come one after another are those of a tree, and how many directories, files and bytes it has. No
 //! list of them is kept.
 //!
-//! The path of the last entry is enough to tell where the next one may stand: all paths above it are directories, and no
-//! others are whose pairs may still come to have children. A file's blocks follow its first pair, so its path, its length
-//! and how many bytes were read are enough for them.
+//! The path of the last entry tells where the next one may stand. All paths above it are directories, and it may be one
+//! itself. Whatever stands in another directory has come already. The blocks of a file follow its first pair at once, so
+//! its path, its length and how many of its bytes were read tell the next one.
 #![tactic(auto)]
 
 mod counts;

@@ -1,4 +1,4 @@
-//! The reader.
+//! The reader of pairs.
 
 ghost use Rattle.std.specs.Prelude.{◌≡◌, ◌↔◌, ◌<◌, ◌≤◌, IsTrue, [], false};
 ghost use Rattle.store_model.specs.Parameters.{Parameters};
@@ -12,7 +12,7 @@ use path_keys::Path;
 use store_base::{Key, Value};
 use tree_pairs::{FILE_BLOCK, Kind};
 
-/// Reads the pairs of a tree one after another, in the order of their keys. It knows what was read last and no list.
+/// Reads the pairs of a tree one after another, in the order of their keys. It knows the last entry, and no list.
 #[derive(Clone, Copy, Debug)]
 pub struct TreeReader {
     /// The last entry, and before the first one the root.
@@ -42,8 +42,9 @@ impl TreeReader {
         }
     }
 
-    /// Takes the next pair: whether some tree's pairs begin with those that were taken and this one. Its key has to be
-    /// greater than theirs. Where the answer is no, nothing changed.
+    /// Takes the next pair: whether some tree's pairs begin with those that were taken and this one. So its key has to
+    /// be greater than theirs. Where the answer is no, nothing changed. Behind `pairs_limit` pairs, which are more than
+    /// any image holds, it may be no though such a tree exists.
     pub fn add(&mut self, key: &Key, value: &Value) -> bool
         ensures { AddsPair self.old self.new (key.now, value.now) result }
     {

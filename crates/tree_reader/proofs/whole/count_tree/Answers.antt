@@ -1,4 +1,4 @@
-use Rattle.std.proofs.Common.{◌≡◌, ◌+◌, List, ◌++◌, ◌∷◌, [], take, drop, sym, refl, ap, subst, ◌∙◌, arith}
+use Rattle.std.proofs.Common.{◌+◌, List, ◌++◌, ◌∷◌, [], take, drop, sym, refl, ap, subst, ◌∙◌, arith}
 use Rattle.std.proofs.lemmas.Bool.{false≢true}
 use Rattle.std.proofs.lemmas.List.{length-take, take_all, take_more, take-append-drop}
 use Rattle.store_model.specs.Pairs.{Pair}

@@ -1,7 +1,6 @@
-use Rattle.std.proofs.Common.{refl, sym, ap, subst}
+use Rattle.std.proofs.Common.{refl, sym, subst}
 use Rattle.std.proofs.lemmas.Bool.{false≢true}
 use Rattle.std.proofs.lemmas.Option.{none-some, same_Some}
-use Rattle.store_model.specs.Paths.{Path}
 use Rattle.tree_reader.specs.declared.first.Entry.{Entry}
 use Rattle.tree_reader.specs.Fronts.{IsFirst}
 use Rattle.tree_reader.specs.Seen.{MayFollow}

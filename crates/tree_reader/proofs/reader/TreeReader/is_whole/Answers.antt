@@ -1,7 +1,12 @@
-use Rattle.std.proofs.Common.{ap, subst, sym, arith, leb-true, le-leb}
+use Rattle.std.proofs.Common.{refl, ap, arith, leb-true, le-leb}
 use Rattle.tree_reader.specs.Seen.{size_of}
 use Rattle.tree_reader.proofs.Readings.{whole_from_seen, seen_from_whole}
 use Rattle.tree_reader.proofs.reader.TreeReader.is_whole.Goals as goal
+
+pub returns-in-Directory : goal.returns-in-Directory
+returns-in-Directory c s p seen =
+    let size = ap size_of c.in-Directory.is in
+    (λ whole. whole_from_seen c.args.self.now s p seen (omega (arith, size)), λ of. refl)
 
 pub returns-in-File : goal.returns-in-File
 returns-in-File c s p seen =

@@ -1,0 +1,185 @@
+use Rattle.std.proofs.Common.{◌≡◌, ◌⊎◌, inl, inr, ℕ, ◌-◌, ◌+◌, Bool, List, [], ◌∷◌, ◌++◌, Option, Some, None, Result, Ok, Err, true, false, refl, sym, ap, subst, ◌∙◌, arith}
+use Rattle.std.proofs.lemmas.Result.{err_from_is_err_and}
+use Rattle.store_base.specs.Leads.{model_lead}
+use Rattle.store_base.specs.declared.store_fault.Fault.{Fault}
+use Rattle.store_model.specs.Labels.{Lead, Label}
+use Rattle.store_model.specs.Labels.Lead.{Leader}
+use Rattle.store_model.specs.Pairs.{Pair}
+use Rattle.store_model.specs.Pages.{Cell, Page}
+use Rattle.group_walk.specs.declared.met.Met.{Met}
+use Rattle.group_walk.specs.Lookups.{FindsPage}
+use Rattle.group_walk.specs.Walked.{IsInPlace}
+use Rattle.group_walk.specs.Streams.{IsAbove}
+use Rattle.group_walk.specs.Walks.{WalksGroup, WalksCells, WalksCell}
+use Rattle.group_walk.proofs.BelowCells.{walks_group_below, walks_pair, walks_no_pair}
+use Rattle.group_walk.proofs.CellSteps.{cells_begin, cells_next, cells_refuted, cells_failed, cells_wrong, cells_done}
+use Rattle.group_walk.proofs.GroupSteps.{runs_begin}
+use Rattle.group_walk.proofs.GroupEnds.{runs_not_looked, runs_absent, runs_overfull, runs_failed, runs_next, runs_done, runs_refuted}
+use Rattle.group_walk.proofs.walk.+walk.Goals as goal
+
+pub walk_cell-returns-then-level-gt0-clause-call : goal.walk_cell-returns-then-level-gt0-clause-call
+walk_cell-returns-then-level-gt0-clause-call g t c =
+    let d = g.W.Draw.drawn c.args.draw.now in
+    let old = g.S.ReadSlots.state c.args.slots.now in
+    let new = g.S.ReadSlots.state c.walk_group.new.slots in
+    let key_is : c.cell.inside.key ≡ c.args.cell.now.key = ap (λ (x : Cell). x.key) c.cell.view_is in
+    walks_group_below d old new (c.args.level - 1) c.args.level c.args.cell.now c.args.met.now c.walk_group.new.met (g.P.TakesPairs.took c.args.sink.now) (g.P.TakesPairs.took c.walk_group.new.sink)
+    (omega (arith, c.if-level-gt0.true)) c.walk_group.result
+    (subst (λ (k : List ℕ). WalksGroup d old new (c.args.level - 1) (Leader k) c.args.met.now c.walk_group.new.met (g.P.TakesPairs.took c.args.sink.now) (g.P.TakesPairs.took c.walk_group.new.sink) c.walk_group.result) key_is c.walk_group.ensures.call)
+
+pub walk_cell-returns-clause-call : goal.walk_cell-returns-clause-call
+walk_cell-returns-clause-call g t c =
+    let d = g.W.Draw.drawn c.args.draw.now in
+    let state = g.S.ReadSlots.state c.args.slots.now in
+    let after : Met = record { left = c.args.met.now.left; last = Some c.cell.inside.key; next = c.args.met.now.next } in
+    let key_is : c.cell.inside.key ≡ c.args.cell.now.key = ap (λ (x : Cell). x.key) c.cell.view_is in
+    let value_is : c.args.cell.now.value ≡ Some c.in-Some.value = sym (ap (λ (x : Cell). x.value) c.cell.view_is) ∙ c.in-Some.is in
+    let zero_is : c.args.level ≡ 0 = omega (arith, c.if-level-gt0.false) in
+    subst (λ (n : ℕ). WalksCell d state state n c.args.cell.now c.args.met.now after (g.P.TakesPairs.took c.args.sink.now) (g.P.TakesPairs.took c.take.new.self) (Ok true)) (sym zero_is)
+    (walks_pair d state c.args.cell.now c.in-Some.value c.args.met.now after (g.P.TakesPairs.took c.args.sink.now) (g.P.TakesPairs.took c.take.new.self) value_is refl (ap Some key_is)
+    (subst (λ (k : List ℕ). (pairs : List Pair) → g.P.TakesPairs.took c.args.sink.now pairs → g.P.TakesPairs.took c.take.new.self (pairs ++ (k, c.in-Some.value) ∷ [])) key_is c.take.ensures))
+
+pub walk_cells-loop-i-init : goal.walk_cells-loop-i-init
+walk_cells-loop-i-init g t c = (cells_begin (g.W.Draw.drawn c.args.draw.now) _ c.args.page.now c.args.met.now _, g.met.S.ReadSlots.follows_refl c.args.slots.now)
+
+pub walk_cells-returns-then-not-is_next-clause-call :
+    goal.walk_cells-returns-then-not-is_next-clause-call
+walk_cells-returns-then-not-is_next-clause-call g t c =
+    let d = g.W.Draw.drawn c.args.draw.now in
+    let page = c.args.page.now in
+    let cell = c.cell-cell.result in
+    cells_wrong d (g.S.ReadSlots.state c.args.slots.now) (g.S.ReadSlots.state c.loop-i.slots) (g.S.ReadSlots.state c.loop-i.slots) page c.loop-i.i cell c.args.met.now c.loop-i.met c.loop-i.met
+    (g.P.TakesPairs.took c.args.sink.now) (g.P.TakesPairs.took c.loop-i.sink) (g.P.TakesPairs.took c.loop-i.sink) c.loop-i.invariant.0 c.cell-cell.ensures.value
+    (λ both. let place = subst (λ (l : Label). IsInPlace d l.level l.lead l.index c.loop-i.i cell.key) (sym c.label-label.ensures.value) both.0 in
+        let yes : c.is_next.result ≡ true = c.is_next.ensures.1 (place, both.1) in
+        let no = c.if-not-is_next.true in absurd (cc))
+
+pub walk_cells-returns-then-not-branch-clause-call :
+    goal.walk_cells-returns-then-not-branch-clause-call
+walk_cells-returns-then-not-branch-clause-call g t c =
+    let d = g.W.Draw.drawn c.args.draw.now in
+    let now = g.S.ReadSlots.state c.loop-i.slots in
+    let new = g.S.ReadSlots.state c.walk_cell.new.slots in
+    let page = c.args.page.now in
+    let cell = c.cell-cell.result in
+    let next = c.is_next.ensures.0 c.if-not-is_next.false in
+    let place = subst (λ (l : Label). IsInPlace d l.level l.lead l.index c.loop-i.i cell.key) c.label-label.ensures.value next.0 in
+    let walks = subst (λ (n : ℕ). WalksCell d now new n cell c.loop-i.met c.walk_cell.new.met (g.P.TakesPairs.took c.loop-i.sink) (g.P.TakesPairs.took c.walk_cell.new.sink) (Ok c.in_ok-walk_cell.field-0)) c.level.ensures c.in_ok-walk_cell.ensures.call in
+    cells_refuted d (g.S.ReadSlots.state c.args.slots.now) now new page c.loop-i.i cell c.args.met.now c.loop-i.met c.walk_cell.new.met
+    (g.P.TakesPairs.took c.args.sink.now) (g.P.TakesPairs.took c.loop-i.sink) (g.P.TakesPairs.took c.walk_cell.new.sink) c.loop-i.invariant.0 c.cell-cell.ensures.value place next.1
+    (subst (λ (b : Bool). WalksCell d now new page.label.level cell c.loop-i.met c.walk_cell.new.met (g.P.TakesPairs.took c.loop-i.sink) (g.P.TakesPairs.took c.walk_cell.new.sink) (Ok b)) c.if-not-branch.true walks)
+
+pub walk_cells-loop-i-preserved : goal.walk_cells-loop-i-preserved
+walk_cells-loop-i-preserved g t c =
+    let d = g.W.Draw.drawn c.args.draw.now in
+    let now = g.S.ReadSlots.state c.loop-i.slots in
+    let new = g.S.ReadSlots.state c.walk_cell.new.slots in
+    let page = c.args.page.now in
+    let cell = c.cell-cell.result in
+    let next = c.is_next.ensures.0 c.if-not-is_next.false in
+    let place = subst (λ (l : Label). IsInPlace d l.level l.lead l.index c.loop-i.i cell.key) c.label-label.ensures.value next.0 in
+    let walks = subst (λ (n : ℕ). WalksCell d now new n cell c.loop-i.met c.walk_cell.new.met (g.P.TakesPairs.took c.loop-i.sink) (g.P.TakesPairs.took c.walk_cell.new.sink) (Ok c.in_ok-walk_cell.field-0)) c.level.ensures c.in_ok-walk_cell.ensures.call in (
+      cells_next d (g.S.ReadSlots.state c.args.slots.now) now new page c.loop-i.i cell c.args.met.now c.loop-i.met c.walk_cell.new.met
+      (g.P.TakesPairs.took c.args.sink.now) (g.P.TakesPairs.took c.loop-i.sink) (g.P.TakesPairs.took c.walk_cell.new.sink) c.loop-i.invariant.0 c.cell-cell.ensures.value place next.1
+      (subst (λ (b : Bool). WalksCell d now new page.label.level cell c.loop-i.met c.walk_cell.new.met (g.P.TakesPairs.took c.loop-i.sink) (g.P.TakesPairs.took c.walk_cell.new.sink) (Ok b)) c.if-not-branch.false walks),
+      g.met.S.ReadSlots.follows_trans c.args.slots.now c.loop-i.slots c.walk_cell.new.slots c.loop-i.invariant.1 c.in_ok-walk_cell.ensures.follows,
+    )
+
+pub walk_cells-returns-clause-call : goal.walk_cells-returns-clause-call
+walk_cells-returns-clause-call g t c =
+    cells_done (g.W.Draw.drawn c.args.draw.now) _ _ c.args.page.now c.loop-i.i c.args.met.now c.loop-i.met _ _ c.loop-i.invariant.0 (omega (arith, c.loop-i-test.false, c.len-i-end.ensures.value))
+
+pub walk_group-runs-init : goal.walk_group-runs-init
+walk_group-runs-init g t c = (runs_begin (g.W.Draw.drawn c.args.draw.now) _ c.args.level (model_lead c.args.lead.now) c.args.met.now _, g.met.S.ReadSlots.follows_refl c.args.slots.now)
+
+pub walk_group-returns-in_default-clause-call :
+    goal.walk_group-returns-in_default-clause-call
+walk_group-returns-in_default-clause-call g t c =
+    let d = g.W.Draw.drawn c.args.draw.now in
+    let now = g.S.ReadSlots.state c.runs.slots in
+    let seen = g.S.ReadSlots.state c.look_up.new.slots in
+    let taken : Met = record { left = c.runs.met.left; last = c.runs.met.last; next = c.look_up.new.next } in
+    runs_absent d (g.S.ReadSlots.state c.args.slots.now) now seen c.args.level (model_lead c.args.lead.now) c.runs.index c.args.met.now c.runs.met taken
+    (g.P.TakesPairs.took c.args.sink.now) (g.P.TakesPairs.took c.runs.sink) c.runs.invariant.0 c.label_in_group-label.result c.label_in_group-label.ensures c.may_end.result (record { left = refl; last = refl })
+    (subst (λ (o : Option Page). FindsPage d now seen c.label_in_group-label.result (Ok o)) c.in_default.is c.in_ok-page.ensures.call) c.may_end.ensures
+
+pub walk_group-returns-then-met-eq0-clause-call : goal.walk_group-returns-then-met-eq0-clause-call
+walk_group-returns-then-met-eq0-clause-call g t c =
+    let d = g.W.Draw.drawn c.args.draw.now in
+    let now = g.S.ReadSlots.state c.runs.slots in
+    let seen = g.S.ReadSlots.state c.look_up.new.slots in
+    let taken : Met = record { left = c.runs.met.left; last = c.runs.met.last; next = c.look_up.new.next } in
+    runs_overfull d (g.S.ReadSlots.state c.args.slots.now) now seen c.args.level (model_lead c.args.lead.now) c.runs.index c.args.met.now c.runs.met taken
+    (g.P.TakesPairs.took c.args.sink.now) (g.P.TakesPairs.took c.runs.sink) c.runs.invariant.0 c.label_in_group-label.result c.label_in_group-label.ensures c.in-Some.page
+    (subst (λ (o : Option Page). FindsPage d now seen c.label_in_group-label.result (Ok o)) c.in-Some.is c.in_ok-page.ensures.call) (record { left = refl; last = refl }) c.if-met-eq0.true
+
+pub walk_group-returns-in_err-walk_cells-clause-call :
+    goal.walk_group-returns-in_err-walk_cells-clause-call
+walk_group-returns-in_err-walk_cells-clause-call g t c =
+    let d = g.W.Draw.drawn c.args.draw.now in
+    let now = g.S.ReadSlots.state c.runs.slots in
+    let seen = g.S.ReadSlots.state c.look_up.new.slots in
+    let taken : Met = record { left = c.runs.met.left - 1; last = c.runs.met.last; next = c.look_up.new.next } in
+    let some = c.if-met-eq0.false in
+    let p = err_from_is_err_and c.from_residual-in_err-walk_cells.result c.from_residual-in_err-walk_cells.ensures.1 in
+    rw (p.1, p.2) (runs_failed d (g.S.ReadSlots.state c.args.slots.now) now seen c.args.level (model_lead c.args.lead.now) c.runs.index c.args.met.now c.runs.met taken
+    (g.P.TakesPairs.took c.args.sink.now) (g.P.TakesPairs.took c.runs.sink) c.runs.invariant.0 c.label_in_group-label.result c.label_in_group-label.ensures c.in-Some.page
+    (subst (λ (o : Option Page). FindsPage d now seen c.label_in_group-label.result (Ok o)) c.in-Some.is c.in_ok-page.ensures.call)
+    c.walk_cells.new.met (g.S.ReadSlots.state c.walk_cells.new.slots) (g.P.TakesPairs.took c.walk_cells.new.sink) (record { left = omega (arith, some); last = refl }) c.in_err-walk_cells.field-0.0 c.in_err-walk_cells.ensures.call)
+
+pub walk_group-returns-then-not-branch-clause-call :
+    goal.walk_group-returns-then-not-branch-clause-call
+walk_group-returns-then-not-branch-clause-call g t c =
+    let d = g.W.Draw.drawn c.args.draw.now in
+    let now = g.S.ReadSlots.state c.runs.slots in
+    let seen = g.S.ReadSlots.state c.look_up.new.slots in
+    let new = g.S.ReadSlots.state c.walk_cells.new.slots in
+    let taken : Met = record { left = c.runs.met.left - 1; last = c.runs.met.last; next = c.look_up.new.next } in
+    let some = c.if-met-eq0.false in
+    runs_refuted d (g.S.ReadSlots.state c.args.slots.now) now seen c.args.level (model_lead c.args.lead.now) c.runs.index c.args.met.now c.runs.met taken
+    (g.P.TakesPairs.took c.args.sink.now) (g.P.TakesPairs.took c.runs.sink) c.runs.invariant.0 c.label_in_group-label.result c.label_in_group-label.ensures c.in-Some.page
+    (subst (λ (o : Option Page). FindsPage d now seen c.label_in_group-label.result (Ok o)) c.in-Some.is c.in_ok-page.ensures.call)
+    c.walk_cells.new.met new (g.P.TakesPairs.took c.walk_cells.new.sink) (record { left = omega (arith, some); last = refl })
+    (subst (λ (b : Bool). WalksCells d seen new c.in-Some.page taken c.walk_cells.new.met (g.P.TakesPairs.took c.runs.sink) (g.P.TakesPairs.took c.walk_cells.new.sink) (Ok b)) c.if-not-branch.true c.in_ok-walk_cells.ensures.call)
+
+pub walk_group-returns-then-is_last-clause-call : goal.walk_group-returns-then-is_last-clause-call
+walk_group-returns-then-is_last-clause-call g t c =
+    let d = g.W.Draw.drawn c.args.draw.now in
+    let now = g.S.ReadSlots.state c.runs.slots in
+    let seen = g.S.ReadSlots.state c.look_up.new.slots in
+    let new = g.S.ReadSlots.state c.walk_cells.new.slots in
+    let taken : Met = record { left = c.runs.met.left - 1; last = c.runs.met.last; next = c.look_up.new.next } in
+    let some = c.if-met-eq0.false in
+    runs_done d (g.S.ReadSlots.state c.args.slots.now) now seen c.args.level (model_lead c.args.lead.now) c.runs.index c.args.met.now c.runs.met taken
+    (g.P.TakesPairs.took c.args.sink.now) (g.P.TakesPairs.took c.runs.sink) c.runs.invariant.0 c.label_in_group-label.result c.label_in_group-label.ensures c.in-Some.page
+    (subst (λ (o : Option Page). FindsPage d now seen c.label_in_group-label.result (Ok o)) c.in-Some.is c.in_ok-page.ensures.call)
+    c.walk_cells.new.met new (g.P.TakesPairs.took c.walk_cells.new.sink) (record { left = omega (arith, some); last = refl })
+    (subst (λ (b : Bool). WalksCells d seen new c.in-Some.page taken c.walk_cells.new.met (g.P.TakesPairs.took c.runs.sink) (g.P.TakesPairs.took c.walk_cells.new.sink) (Ok b)) c.if-not-branch.false c.in_ok-walk_cells.ensures.call)
+    (c.is_last.ensures.0 c.if-is_last.true)
+
+pub walk_group-runs-preserved : goal.walk_group-runs-preserved
+walk_group-runs-preserved g t c =
+    let d = g.W.Draw.drawn c.args.draw.now in
+    let now = g.S.ReadSlots.state c.runs.slots in
+    let seen = g.S.ReadSlots.state c.look_up.new.slots in
+    let new = g.S.ReadSlots.state c.walk_cells.new.slots in
+    let taken : Met = record { left = c.runs.met.left - 1; last = c.runs.met.last; next = c.look_up.new.next } in
+    let some = c.if-met-eq0.false in
+    let follows = g.met.S.ReadSlots.follows_trans c.args.slots.now c.runs.slots c.look_up.new.slots c.runs.invariant.1 c.in_ok-page.ensures.follows in (
+      runs_next d (g.S.ReadSlots.state c.args.slots.now) now seen c.args.level (model_lead c.args.lead.now) c.runs.index c.args.met.now c.runs.met taken
+      (g.P.TakesPairs.took c.args.sink.now) (g.P.TakesPairs.took c.runs.sink) c.runs.invariant.0 c.label_in_group-label.result c.label_in_group-label.ensures c.in-Some.page
+      (subst (λ (o : Option Page). FindsPage d now seen c.label_in_group-label.result (Ok o)) c.in-Some.is c.in_ok-page.ensures.call)
+      c.walk_cells.new.met new (g.P.TakesPairs.took c.walk_cells.new.sink) (record { left = omega (arith, some); last = refl })
+      (subst (λ (b : Bool). WalksCells d seen new c.in-Some.page taken c.walk_cells.new.met (g.P.TakesPairs.took c.runs.sink) (g.P.TakesPairs.took c.walk_cells.new.sink) (Ok b)) c.if-not-branch.false c.in_ok-walk_cells.ensures.call)
+      (λ room. let yes : c.is_last.result ≡ true = c.is_last.ensures.1 room in let no = c.if-is_last.false in cc),
+      g.met.S.ReadSlots.follows_trans c.args.slots.now c.look_up.new.slots c.walk_cells.new.slots follows c.in_ok-walk_cells.ensures.follows,
+    )
+
+pub walk_cell-returns-in_default-clause-call : goal.walk_cell-returns-in_default-clause-call
+walk_cell-returns-in_default-clause-call g t c =
+    let d = g.W.Draw.drawn c.args.draw.now in
+    let state = g.S.ReadSlots.state c.args.slots.now in
+    let took = g.P.TakesPairs.took c.args.sink.now in
+    let none : c.args.cell.now.value ≡ None = sym (ap (λ (x : Cell). x.value) c.cell.view_is) ∙ c.in_default.is in
+    let zero_is : c.args.level ≡ 0 = omega (arith, c.if-level-gt0.false) in
+    subst (λ (n : ℕ). WalksCell d state state n c.args.cell.now c.args.met.now c.args.met.now took took (Ok false)) (sym zero_is) (walks_no_pair d state c.args.cell.now c.args.met.now took none)

@@ -1,0 +1,29 @@
+use Rattle.std.proofs.Common.{◌+◌, ◌*◌}
+use Rattle.store_base.specs.Leads.{model_lead}
+use Rattle.group_walk.proofs.CellSteps.{CellsSoFar}
+use Rattle.group_walk.proofs.GroupSteps.{RunsSoFar}
+use Rattle.group_walk.proofs.walk.+walk.Given as goal
+
+-- a walk goes down by level, and on each from a group to its pages to their cells
+abbrev pub decreases-walk_cell : goal.decreases-walk_cell
+decreases-walk_cell g l = 3 * l.level
+
+abbrev pub decreases-walk_cells : goal.decreases-walk_cells
+decreases-walk_cells g l = 3 * l.page.now.label.level + 1
+
+abbrev pub decreases-walk_group : goal.decreases-walk_group
+decreases-walk_group g l = 3 * l.level + 2
+
+abbrev pub invariant-walk_cells-loop-i : goal.invariant-walk_cells-loop-i
+invariant-walk_cells-loop-i g l =
+    CellsSoFar (g.W.Draw.drawn l.fn.draw) (g.S.ReadSlots.state l.fn.slots) (g.S.ReadSlots.state l.slots) l.fn.page l.i l.fn.met l.met (g.P.TakesPairs.took l.fn.sink) (g.P.TakesPairs.took l.sink)
+    × g.S.ReadSlots.follows l.fn.slots l.slots
+
+abbrev pub invariant-walk_group-runs : goal.invariant-walk_group-runs
+invariant-walk_group-runs g l =
+    RunsSoFar (g.W.Draw.drawn l.fn.draw) (g.S.ReadSlots.state l.fn.slots) (g.S.ReadSlots.state l.slots) l.fn.level (model_lead l.fn.lead) l.index l.fn.met l.met (g.P.TakesPairs.took l.fn.sink) (g.P.TakesPairs.took l.sink)
+    × g.S.ReadSlots.follows l.fn.slots l.slots
+
+-- each run is one page less that is left
+abbrev pub decreases-walk_group-runs : goal.decreases-walk_group-runs
+decreases-walk_group-runs g l = l.met.left

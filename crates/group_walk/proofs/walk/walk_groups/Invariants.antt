@@ -1,0 +1,7 @@
+use Rattle.group_walk.proofs.TableSteps.{LevelsSoFar}
+use Rattle.group_walk.proofs.walk.walk_groups.Given as goal
+
+abbrev pub invariant-loop-level : goal.invariant-loop-level
+invariant-loop-level g l =
+    LevelsSoFar (g.W.Draw.drawn l.fn.draw) (g.S.ReadSlots.state l.fn.slots) (g.S.ReadSlots.state l.slots) l.level l.fn.used l.met (g.P.TakesPairs.took l.fn.sink) (g.P.TakesPairs.took l.sink)
+    × g.S.ReadSlots.follows l.fn.slots l.slots
