@@ -7,15 +7,18 @@ use std::process::Abort;
 use store_base::BLOCK;
 
 /// The parameters of a table; its tree; and how many of its bytes may be greater by 1, so that it is a tree's table still:
-/// bytes of files, and letters of names below which no other pair stands. The tables have 1, 2 and 4 slots under both
-/// draws, and a page in each slot, or in all but one.
-static TABLES: &str = "\
+/// bytes of files, and letters of names below which no other pair stands. The tables have 1, 2 and 4 slots, and a page in
+/// each slot, or in all but one.
+static RULER: &str = "\
     1 1 ruler||0#\
     1 1 ruler|/f=2|2#\
     2 2 ruler|/a /f=2|3#\
     2 2 ruler|/U=3|3#\
     4 2 ruler|/UU=1 /Ua|1#\
-    4 2 ruler|/0 /AU=300 /U|301#\
+    4 2 ruler|/0 /AU=300 /U|301";
+
+/// The same under the other draw.
+static SHA256: &str = "\
     1 1 sha256||0#\
     1 1 sha256|/f=2|2#\
     2 2 sha256|/a /b=2|2#\
@@ -57,8 +60,15 @@ fn expect_bytes(rt: &impl Abort, alloc: Global, row: [&str; 7]) {
 }
 
 #[test]
-fn each_byte_with_1_added(rt: HostRuntime) {
-    for row in TABLES.split('#') {
+fn each_byte_with_1_added_under_ruler(rt: HostRuntime) {
+    for row in RULER.split('#') {
+        expect_bytes(&rt, rt.alloc(), fields(row));
+    }
+}
+
+#[test]
+fn each_byte_with_1_added_under_sha256(rt: HostRuntime) {
+    for row in SHA256.split('#') {
         expect_bytes(&rt, rt.alloc(), fields(row));
     }
 }

@@ -15,8 +15,10 @@ use tree_reader::Counts;
 /// The fields of a row, and no text for each that it does not have.
 pub fn fields(row: &str) -> [&str; 7] {
     let mut fields = [""; 7];
-    for (field, text) in fields.iter_mut().zip(row.split('|')) {
-        *field = text;
+    for (at, field) in row.split('|').enumerate() {
+        if at < 7 {
+            fields[at] = field;
+        }
     }
     fields
 }

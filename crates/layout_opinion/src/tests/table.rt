@@ -5,6 +5,7 @@ ghost use Rattle.std.specs.Prelude.{◌≡◌, length};
 use crate::opinion::TreeSize;
 use crate::order::{do_rise, list_of, sort_pairs};
 use crate::slots::judge_slots;
+use image_check::{Verdict, check_slots};
 use layout_scratch::{Layout, build};
 use node_pages::Page;
 use ordered_table::{MemSlots, insert};
@@ -28,9 +29,17 @@ fn layout_of(
     build(alloc, params, &pairs).expect(rt, "no more pages than slots")
 }
 
-/// What the check without memory says of slots; until it can be linked, the same as the other opinion.
-fn checked(size: Option<TreeSize>) -> Option<TreeSize> {
-    size
+/// The verdict of the check on slots that are the layout of a tree of this size, or of no tree.
+fn verdict_on(size: Option<TreeSize>) -> Verdict {
+    match size {
+        Some(TreeSize { pages, counts }) => Verdict::Clean {
+            pages,
+            dirs: counts.dirs,
+            files: counts.files,
+            bytes: counts.bytes,
+        },
+        None => Verdict::Damaged,
+    }
 }
 
 /// Slots in memory, and the parameters of their image.
@@ -99,7 +108,8 @@ impl Table {
     pub fn size(&mut self, rt: &impl Abort) -> Option<TreeSize> {
         assert!(rt; self.slots.slots().len() == self.params.slots() as usize);
         let size = judge_slots(self.alloc, &mut self.slots, &self.params).expect(rt, "memory");
-        assert!(rt; checked(size) == size);
+        let checked = check_slots(&mut self.slots, &self.params);
+        assert!(rt; checked == Ok(verdict_on(size)));
         size
     }
 }
