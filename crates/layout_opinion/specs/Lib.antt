@@ -1,0 +1,4 @@
+pub mod Collected
+pub mod Opinions
+pub mod PairFronts
+pub mod Parents

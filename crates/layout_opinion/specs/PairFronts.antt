@@ -1,0 +1,31 @@
+-- What stands at the front of a list of pairs.
+use Rattle.std.specs.Prelude.{◌≡◌, ℕ, ◌≤◌, IsTrue, ◌+◌, List, [], length, take, false}
+use Rattle.store_model.specs.Lists.{IsBytes, run_count}
+use Rattle.store_model.specs.Parameters.{Parameters}
+use Rattle.store_model.specs.Paths.{Path, is_path, is_root}
+use Rattle.store_model.specs.Pairs.{Pair, file_block, node_pairs}
+use Rattle.store_model.specs.Trees.{Node, IsNode}
+use Rattle.tree_pairs.specs.declared.kind.Kind.{Kind}
+use Rattle.tree_pairs.specs.declared.kind.Kind.TheVariants as kinds
+use Rattle.tree_pairs.specs.Kinds.{kind_of}
+use Rattle.tree_reader.specs.Fronts.{block_pairs}
+
+-- the pairs are the blocks of a file with so many bytes
+abbrev pub AreBlocks : Path → ℕ → List Pair → Type 0
+AreBlocks path len s = (bytes : List ℕ) × (length bytes ≡ len) × IsBytes bytes × (s ≡ block_pairs path bytes)
+
+-- so many pairs stand at a path with their first, and those behind it are these
+abbrev pub HasPairs : Path → Kind → ℕ → List Pair → Type 0
+HasPairs path kinds.Directory count behind = (count ≡ 1) × (behind ≡ [])
+HasPairs path (kinds.File len) count behind = (count ≡ 1 + run_count file_block len) × AreBlocks path len behind
+
+-- so many pairs from the front on are those of what stands at the path
+pub record StandsFirst (s : List Pair) (path : Path) (kind : Kind) (count : ℕ) : Type 0 where
+  pub node : Node
+  pub node_is : IsNode node
+  pub kind_is : kind ≡ kind_of node
+  pub path_is : IsTrue (is_path path)
+  pub below_root : is_root path ≡ false
+  pub some : 1 ≤ count
+  pub within : count ≤ length s
+  pub pairs_are : (p : Parameters) → take count s ≡ node_pairs path node p

@@ -1,0 +1,73 @@
+//! What is said of slots.
+
+ghost use Rattle.std.specs.Prelude.{◌≡◌, ◌≤◌, IfOk, IfSome, MatchOption, length};
+ghost use Rattle.std.specs.List.Sorted.{IsPermutation};
+ghost use Rattle.store_model.specs.Parameters.{Parameters};
+ghost use Rattle.store_model.specs.Trees.{Tree, IsTree};
+ghost use Rattle.store_model.specs.Pairs as model;
+ghost use Rattle.layout_opinion.specs.Collected.{most_table_pairs};
+ghost use Rattle.tree_reader.specs.Counts.{AreCounts};
+ghost use Rattle.layout_opinion.specs.Opinions.{JudgesSlots};
+
+use crate::collect::read_pairs;
+use crate::opinion::TreeSize;
+use crate::order::{do_rise, list_of, sort_pairs};
+use crate::tree::count_tree;
+use layout_scratch::{ScratchFault, are_layout, build};
+use node_pages::PairList;
+use std::alloc::Global;
+use store_base::{Fault, Key, NoMemory, Params, ReadSlots, Value};
+use tree_reader::Counts;
+
+/// Pairs in the order of their keys, with what their tree holds; `None` exactly where they are no tree's.
+fn in_key_order(
+    alloc: Global,
+    mut pairs: Vec<(Key, Value)>,
+) -> Result<Option<(PairList, Counts)>, NoMemory>
+    requires { length pairs.items ≤ most_table_pairs }
+    ensures tree { (p : Parameters) → IfOk result (λ found. IfSome found (λ (s, counts). (t : Tree) × IsTree t × (s ≡ model.pairs t p) × AreCounts t counts)) }
+    ensures few { IfOk result (λ found. IfSome found (λ (s, counts). length s ≤ most_table_pairs)) }
+    ensures only { (p : Parameters) (t : Tree) → IsTree t → IsPermutation pairs.items (model.pairs t p) → IfOk result (λ found. MatchOption found ⊥ (λ (s, counts). s ≡ model.pairs t p)) }
+{
+    sort_pairs(&mut pairs)?;
+    if !do_rise(&pairs) {
+        return Ok(None);
+    }
+    let Some(counts) = count_tree(&pairs) else {
+        return Ok(None);
+    };
+    Ok(Some((list_of(alloc, pairs)?, counts)))
+}
+
+/// How much the tree has whose layout slots are; `None` exactly where they are the layout of no tree. There have to be as
+/// many slots as the parameters say. A fault of the slots is handed on, and the slots are as they were; `NoMemory` comes
+/// for want of memory too.
+pub fn judge_slots<S: ReadSlots>(
+    alloc: Global,
+    slots: &mut S,
+    params: &Params,
+) -> Result<Option<TreeSize>, Fault>
+    requires { (S.state slots.old).count ≡ params.now.slots }
+    ensures call { JudgesSlots params.now (S.state slots.old) (S.state slots.new) result }
+    ensures follows { S.follows slots.old slots.new }
+{
+    let Some(pairs) = read_pairs(alloc, slots, params)? else {
+        return Ok(None);
+    };
+    let Some((pairs, counts)) = in_key_order(alloc, pairs)? else {
+        return Ok(None);
+    };
+    let layout = match build(alloc, params, &pairs) {
+        Ok(layout) => layout,
+        // Pages that are more than the slots are the layout of no tree.
+        Err(ScratchFault::Full { .. }) => return Ok(None),
+        Err(ScratchFault::NoMemory) => return Err(Fault::NoMemory),
+    };
+    if !are_layout(slots, params, &layout)? {
+        return Ok(None);
+    }
+    Ok(Some(TreeSize {
+        pages: layout.used(),
+        counts,
+    }))
+}
