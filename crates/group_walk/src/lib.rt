@@ -5,8 +5,6 @@ mod guide;
 mod lookup;
 mod progress;
 mod sink;
-#[cfg(test)]
-mod tests;
 mod walk;
 
 pub use sink::TakesPairs;

@@ -1,16 +1,20 @@
 //! Small tables that are walked over: the pages of a list that was worked out apart from this program, and tables that are
 //! no list's, each in one way.
 
-ghost use Rattle.std.specs.Prelude.{◌≡◌};
+ghost use Rattle.std.specs.Prelude.{◌≡◌, ◌≤◌, ◌<◌};
 ghost use Rattle.ordered_table.specs.MemSlots.{mem_state};
 
-use crate::{NextSlot, TakesPairs, walk_groups};
+use group_walk::{TakesPairs, walk_groups};
+use label_index::Entry;
 use node_pages::{Cell, Page};
-use ordered_table::{MemSlots, insert};
+use ordered_table::{MemSlots, Steps, insert};
 use seeded_draw::{Draw, RulerDraw};
 use std::alloc::Global;
+use std::marker::Brand;
 use std::process::Abort;
+use std::sync::ledger::{Blank, Ledger};
 use store_base::{DrawKind, Fault, Key, Label, Lead, Params, Value};
+use table_order::check_order;
 
 /// How a key begins; it has zeros behind that. Under the draw `ruler` it stands on as many levels above 0 as it has a `U`.
 type Front = [u8; 3];
@@ -107,6 +111,36 @@ fn put_in(slots: &mut MemSlots, draw: &RulerDraw, samples: &[Sample]) -> Result<
     Ok(())
 }
 
+/// The walk over slots that are in order, by the index of their pages; slots that are not are a fault.
+fn walk_in<L: Ledger>(
+    slots: &mut MemSlots,
+    draw: &RulerDraw,
+    used: u32,
+    fronts: &mut Fronts,
+    blank: Blank,
+) -> Result<bool, Fault>
+    requires name { blank.name ≡ L.name }
+    requires parts { blank.parts ≡ L.parts }
+    requires some { 0 < L.parts }
+    requires count { (mem_state slots.old).count ≡ draw.now.slots }
+    requires most { draw.now.slots ≤ 16 }
+{
+    let mut entries = [Entry::BLANK; 16];
+    let mut steps = Steps::<L>::new(blank);
+    let Some(pages) = check_order(slots, draw, draw.height(), &mut entries, &mut steps)? else {
+        return Err(Fault::Disk);
+    };
+    walk_groups(slots, draw, &entries[..pages as usize], used, fronts)
+}
+
+/// As `walk_in`, with a ledger for steps that nobody counts.
+fn walk(slots: &mut MemSlots, draw: &RulerDraw, used: u32, fronts: &mut Fronts) -> Result<bool, Fault>
+    requires count { (mem_state slots.old).count ≡ draw.now.slots }
+    requires most { draw.now.slots ≤ 16 }
+{
+    walk_in::<Brand>(slots, draw, used, fronts, Blank::new(1))
+}
+
 /// Walks over sixteen slots with the pages of the samples, as if they were so many, and looks what comes of it: whether they
 /// are a list's, and the pairs that were handed on by then.
 fn walk_over(
@@ -121,7 +155,7 @@ fn walk_over(
     let mut slots = MemSlots::new(alloc, draw.slots(), Vec::new(alloc)).expect(rt, "memory");
     assert!(rt; put_in(&mut slots, &draw, samples).is_ok());
     let mut fronts = Fronts::none();
-    let is_list = walk_groups(&mut slots, &draw, used, &mut fronts, NextSlot::default());
+    let is_list = walk(&mut slots, &draw, used, &mut fronts);
     (is_list.expect(rt, "no fault"), fronts)
 }
 
