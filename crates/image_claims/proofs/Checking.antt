@@ -120,7 +120,7 @@ module _ (disk : DiskState) (told : IsObservable disk) (sound : IsSound disk) wh
   }
 
   clean_verdict : (pages dirs files count : ℕ) → IsVerdict disk (verdicts.Clean pages dirs files count) → TellsTree (Represents disk.bytes) (verdicts.Clean pages dirs files count)
-  clean_verdict pages dirs files count is = record { tree = is.tree; params = is.params; holds = is.represents told; verdict_is = is.verdict_is }
+  clean_verdict pages dirs files count is = let image = is.image told in record { tree = image.tree; params = is.params; holds = image.represents; verdict_is = image.verdict_is }
 
 module _ {D R W : Type 0} (disk_of : D → DiskState) (sink_of : W → SinkState) where
   pub check_exact : (before : Outside D R W) (after : Outcome D R W) → IsCheck disk_of sink_of before after → IsObservable (disk_of before.disk) → IsSound (disk_of before.disk) → sinks.IsObservable (sink_of before.sink)
@@ -136,6 +136,10 @@ module _ {D R W : Type 0} (disk_of : D → DiskState) (sink_of : W → SinkState
 
   pub check_takes_nothing : (before : Outside D R W) (after : Outcome D R W) → IsCheck disk_of sink_of before after → after.source ≡ before.source
   check_takes_nothing before after is = is.source
+
+  -- for want of memory nothing is called
+  pub check_unchecked : (before : Outside D R W) (after : Outcome D R W) → IsCheck disk_of sink_of before after → after.status ≡ NoMemory → after.disk ≡ before.disk
+  check_unchecked before after is = is.no_memory
 
 -- ---- a check and a run
 

@@ -100,11 +100,14 @@ module _ {D R W : Type 0} (disk_of : D → DiskState) (sink_of : W → SinkState
         still = λ t p to. scrubs_alike old.bytes (disk_of after.disk).bytes t p to (seen.scrubs t p to).reads;
         tree = λ so t p represents. (seen.scrubs t p (represented_scrubs old.bytes t p represents)).scrubbed (is_judged after.status so);
         untouched = seen.nothing;
-        no_memory = seen.no_memory;
       }
 
   pub scrub_takes_nothing : after.source ≡ before.source
   scrub_takes_nothing = is.source
+
+  -- for want of memory nothing is called
+  pub scrub_unscrubbed : after.status ≡ NoMemory → after.disk ≡ before.disk
+  scrub_unscrubbed = is.no_memory
 
 -- ---- a disk is wiped
 

@@ -46,9 +46,8 @@ pub record ScrubsExactly (status : Status) (old new : DiskState) (sink sink_new 
   pub still : (t : Tree) (p : Parameters) → ScrubsTo old.bytes t p → ScrubsTo new.bytes t p
   -- an image keeps the tree that it represents
   pub tree : IsOneOf status (Done ∷ SinkFault ∷ []) → (t : Tree) (p : Parameters) → Represents old.bytes t p → Stands new t p
-  -- where it would leave none, and for want of memory, nothing is written
+  -- where it would leave none nothing is written
   pub untouched : ((t : Tree) (p : Parameters) → ScrubsTo old.bytes t p → ⊥) → ReadsOnly old new
-  pub no_memory : status ≡ NoMemory → ReadsOnly old new
 
 -- A disk is wiped.
 pub record WipesAll (status : Status) (old new : DiskState) : Type 0 where

@@ -23,10 +23,12 @@ pub fn format(alloc: Global, format: &Words, machine: Machine) -> Ended
 }
 
 /// Scrubs an image: where the free slots are all that differs from the image of a tree, behind recovery, that image is left,
-/// byte for byte, and else nothing is written. It prints what a check of that image would.
+/// byte for byte, and else nothing is written. It prints what a check of that image would. It takes no memory itself: where
+/// memory ran out, that was while the words were read, and the disk is as it was.
 pub fn scrub(alloc: Global, scrub: &Words, machine: Machine) -> Ended
     ensures exact { request_of scrub.now ≡ Some Scrub → ScrubsExactly result.status (meaning machine.disk) (meaning result.disk) (sink_state machine.sink) (sink_state result.sink) }
     ensures takes_nothing { request_of scrub.now ≡ Some Scrub → result.source ≡ machine.source }
+    ensures takes_no_memory { request_of scrub.now ≡ Some Scrub → result.status ≡ Status.NoMemory → result.disk ≡ machine.disk }
 {
     call(alloc, scrub, machine)
 }
