@@ -60,9 +60,6 @@ after_none u p left e = ap (λ (text : List ℕ). tree_after u (lines text) p) e
 module _ (t : Tree) (p : Parameters) (failing : Disk) (source : SourceMemory) (sink : SinkMemory) (run : Ended)
     (is_run : IsRun meaning source_state sink_state (outside_of failing source sink) run)
     (only : MayLeaveOnly (meaning failing) (λ image. Represents image t p)) where
-  texts : List (List ℕ)
-  texts = lines source.left
-
   abbrev trees : ℕ → Tree
   trees k = tree_after t (take k (lines source.left)) p
 

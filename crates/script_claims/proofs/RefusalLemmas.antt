@@ -12,7 +12,7 @@ use Rattle.store_model.specs.Trees.{IsTree}
 use Rattle.store_model.specs.Images.{layout, Represents}
 use Rattle.store_model.specs.Commands.{Command, Reply, reply_text}
 use Rattle.store_model.specs.Commands.Command.{Make, Write, Cut, Rename, Remove, Prune, ListChildren, Read, Space, Digest}
-use Rattle.store_model.specs.Commands.Reply.{Refused}
+use Rattle.store_model.specs.Commands.Reply.{Acknowledged, Content, Listing, PagesUsed, ImageDigest, Refused}
 use Rattle.store_model.specs.Steps.{Step, Condition, step, step_by, conditions, first_refusal, refusal_of, reply_of, next_tree, may_fill}
 use Rattle.store_model.specs.Grammar.{parse}
 use Rattle.store_model.specs.Scripts.{lines, line_limit, answer, answer_by, answers_by, state_by, replies_by, tree_by, replies, tree_after, replies_text}
@@ -23,10 +23,11 @@ use Rattle.gate_journal.proofs.Layouts.{layout-has-empty-journal}
 use Rattle.script_lines.specs.Memory.{SourceMemory, SinkMemory, source_state, sink_state}
 use Rattle.image_subcommands.specs.declared.status.Status.TheVariants as statuses
 use Rattle.image_subcommands.specs.Outside.{outside_of}
+use Rattle.store_top.specs.Generations.{is_refused}
 use Rattle.store_top.specs.RunCall.{IsRun}
 use Rattle.script_claims.specs.Answered.{AnswersScript}
 use Rattle.script_claims.specs.Machines.{Disk, Ended, bytes_of, meaning}
-use Rattle.script_claims.specs.Refusals.{IsRefusal, IsAtRest, IsUntouched, IsOneLine, NeedsMoreSlots, AnswersFull}
+use Rattle.script_claims.specs.Refusals.{IsRefusal, IsAtRest, IsUntouched, IsOneLine, NeedsMoreSlots, AnswersFull, without_refused}
 
 -- ---- lines that are refused
 
@@ -49,6 +50,38 @@ untouched t p disk source sink after run rest all other =
     let kept = refused_keep t (lines source.left) p all in
     let unwritten = ((run.observed refl).runs refl t p is).quiet empty other (λ k few. kept k ∙ sym (kept 0)) in
     record { bytes = unwritten.bytes; writes = unwritten.writes }
+
+-- ---- lines that are left out
+
+-- a reply that is a refusal
+refusal_of_reply : (reply : Reply) → is_refused reply ≡ true → IsRefusal reply
+refusal_of_reply Acknowledged e = absurd (cc)
+refusal_of_reply (Content bytes) e = absurd (cc)
+refusal_of_reply (Listing children) e = absurd (cc)
+refusal_of_reply (PagesUsed used slots) e = absurd (cc)
+refusal_of_reply (ImageDigest digest) e = absurd (cc)
+refusal_of_reply (Refused refusal) e = (refusal, refl)
+
+-- the lines that are not refused lead to the same tree
+same_without : (t : Tree) (texts : List (List ℕ)) (p : Parameters) → tree_after t (without_refused t texts p) p ≡ tree_after t texts p
+unfolding tree_after tree_by state_by
+same_without t [] p = refl
+same_without t (text ∷ texts) p =
+    elim (is_refused (answer t text p).reply) as (λ b. is_refused (answer t text p).reply ≡ b
+    → tree_after t (if b then without_refused t texts p else text ∷ without_refused (answer t text p).tree texts p) p ≡ tree_after (answer t text p).tree texts p) [
+      | true ↦ λ e.
+          let refused = refusal_of_reply (answer t text p).reply e in
+          same_without t texts p ∙ ap (λ (u : Tree). tree_after u texts p) (sym (refused_answer_keeps t text p refused.0 refused.1))
+      | false ↦ λ e. same_without (answer t text p).tree texts p
+    ] refl
+
+pub left_out : (t : Tree) (p : Parameters) (disk other_disk : Disk) (source other : SourceMemory) (sink other_sink : SinkMemory) (whole short : Ended)
+    → AnswersScript t p disk source sink whole → AnswersScript t p other_disk other other_sink short → lines other.left ≡ without_refused t (lines source.left) p
+    → whole.status ≡ statuses.Done → short.status ≡ statuses.Done → bytes_of short.disk ≡ bytes_of whole.disk
+left_out t p disk other_disk source other sink other_sink whole short answers short_answers lines_are e d =
+    (short_answers.image d).bytes
+    ∙ ap (λ (u : Tree). layout u p) (ap (λ (texts : List (List ℕ)). tree_after t texts p) lines_are ∙ same_without t (lines source.left) p)
+    ∙ sym (answers.image e).bytes
 
 -- ---- full
 

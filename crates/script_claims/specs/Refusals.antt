@@ -1,5 +1,5 @@
 -- Lines that are refused.
-use Rattle.std.specs.Prelude.{◌≡◌, ◌↔◌, ◌≤◌, ◌<◌, ℕ, List, [], ◌∷◌, ◌++◌, length, Ok, None}
+use Rattle.std.specs.Prelude.{◌≡◌, ◌↔◌, ◌≤◌, ◌<◌, ℕ, List, [], ◌∷◌, ◌++◌, length, Ok, None, if◌then◌else◌}
 use Rattle.store_model.specs.declared.refusal.Refusal.{Refusal}
 use Rattle.store_model.specs.declared.refusal.Refusal.TheVariants as refusals
 use Rattle.store_model.specs.Parameters.{Parameters}
@@ -10,14 +10,20 @@ use Rattle.store_model.specs.Commands.{Command, Reply, reply_text}
 use Rattle.store_model.specs.Commands.Reply.{Refused}
 use Rattle.store_model.specs.Steps.{refusal_of, next_tree}
 use Rattle.store_model.specs.Grammar.{parse}
-use Rattle.store_model.specs.Scripts.{lines, line_limit}
+use Rattle.store_model.specs.Scripts.{lines, line_limit, answer}
 use Rattle.script_lines.specs.Memory.{SourceMemory, SinkMemory}
 use Rattle.image_subcommands.specs.declared.status.Status.TheVariants as statuses
+use Rattle.store_top.specs.Generations.{is_refused}
 use Rattle.script_claims.specs.Machines.{Disk, Ended, HasImage, bytes_of, meaning}
 
 -- a reply that refuses
 abbrev pub IsRefusal : Reply → Type 0
 IsRefusal reply = (refusal : Refusal) × (reply ≡ Refused refusal)
+
+-- the lines, one after another, that are not refused
+abbrev pub without_refused : Tree → List (List ℕ) → Parameters → List (List ℕ)
+without_refused t [] p = []
+without_refused t (text ∷ texts) p = if is_refused (answer t text p).reply then without_refused t texts p else text ∷ without_refused (answer t text p).tree texts p
 
 -- the bytes are, each of them, those of the image of the tree: there is nothing to be recovered
 pub record IsAtRest (bytes : List ℕ) (t : Tree) (p : Parameters) : Type 0 where

@@ -29,5 +29,7 @@ pub use crash::{Crash, a_crash_loses_nothing};
 pub use equal::{Images, Making, equal_contents_have_equal_bytes, make_image};
 pub use machines::{Disk, Ended, Machine};
 pub use nothing::{a_run_on_no_tree_does_nothing, big_on_no_tree_does_nothing};
-pub use refused::{full_is_exact, refused_lines_change_nothing};
+pub use refused::{
+    Shortened, full_is_exact, refused_lines_change_nothing, refused_lines_may_be_left_out,
+};
 pub use removed::{Removal, what_was_removed_is_gone};

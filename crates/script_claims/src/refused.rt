@@ -1,4 +1,4 @@
-//! A refused line changes nothing, and `full` comes exactly where the new tree's pages exceed the slots.
+//! A refused line changes nothing and leaves no trace, and `full` comes exactly where the new tree's pages exceed the slots.
 
 ghost use Rattle.std.specs.Prelude.{◌≡◌, ◌≢◌, IfOk};
 ghost use Rattle.std.specs.List.{AllByRecursion};
@@ -7,12 +7,12 @@ ghost use Rattle.store_model.specs.Trees.{Tree};
 ghost use Rattle.store_model.specs.Images.{Represents};
 ghost use Rattle.store_model.specs.Commands.{Command};
 ghost use Rattle.store_model.specs.Scripts.{lines, replies};
-ghost use Rattle.script_claims.specs.Refusals.{IsRefusal, IsAtRest, IsUntouched, IsOneLine, AnswersFull};
+ghost use Rattle.script_claims.specs.Refusals.{IsRefusal, IsAtRest, IsUntouched, IsOneLine, AnswersFull, without_refused};
 ghost use Rattle.script_claims.specs.Machines.{bytes_of};
 
 use crate::answered::a_script_is_answered;
 use crate::call::serve;
-use crate::machines::{Disk, Ended, run_word};
+use crate::machines::{Disk, Ended, Machine, run_word};
 use script_lines::{MemSink, MemSource};
 use std::alloc::Global;
 use store_base::NoMemory;
@@ -49,4 +49,33 @@ pub fn full_is_exact(
         → IfOk result (λ after. after.status ≡ Status.Done → AnswersFull command t p sink after) }
 {
     a_script_is_answered(alloc, disk, source, sink)
+}
+
+/// Two runs.
+#[derive(Drop)]
+pub struct Shortened {
+    /// The run of a script.
+    pub whole: Ended,
+    /// The run of what is left of it without the lines that are refused.
+    pub short: Ended,
+}
+
+/// Runs a script on one machine, and on another one the lines of it that are not refused. Where both end with 0 they leave
+/// the same image, byte for byte.
+///
+/// `NoMemory`: there was none for the word `run`.
+pub fn refused_lines_may_be_left_out(
+    alloc: Global,
+    first: Machine,
+    second: Machine,
+) -> Result<Shortened, NoMemory>
+    ensures { (t : Tree) (p : Parameters) → Represents (bytes_of first.disk) t p → Represents (bytes_of second.disk) t p
+        → lines second.source.left ≡ without_refused t (lines first.source.left) p
+        → IfOk result (λ runs. runs.whole.status ≡ Status.Done → runs.short.status ≡ Status.Done → bytes_of runs.short.disk ≡ bytes_of runs.whole.disk) }
+{
+    let Machine { disk, source, sink } = first;
+    let whole = a_script_is_answered(alloc, disk, source, sink)?;
+    let Machine { disk, source, sink } = second;
+    let short = a_script_is_answered(alloc, disk, source, sink)?;
+    Ok(Shortened { whole, short })
 }

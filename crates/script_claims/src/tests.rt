@@ -5,10 +5,10 @@
 //! than zero, each with its place, behind the text that it begins with.
 
 use crate::{
-    Disk, Ended, Machine, Making, a_crash_loses_nothing, a_run_costs_its_changes,
+    Crash, Disk, Ended, Machine, Making, Removal, Shortened, a_crash_loses_nothing, a_run_costs_its_changes,
     a_run_on_no_tree_does_nothing, a_script_is_answered, big_costs_its_changes, big_is_a_run,
     big_on_no_tree_does_nothing, commands_of_big_stay, equal_contents_have_equal_bytes,
-    full_is_exact, refused_lines_change_nothing, serve, what_was_acknowledged_stays,
+    full_is_exact, refused_lines_change_nothing, refused_lines_may_be_left_out, serve, what_was_acknowledged_stays,
     what_was_removed_is_gone,
 };
 use disk_model::{FailingDisk, MemDisk};
@@ -65,7 +65,7 @@ fn bytes_of(rt: &impl Abort, alloc: Global, places: &str) -> Vec<u8> {
     for place in places.split_whitespace() {
         let (at, byte) = place.split_once(':').expect(rt, "a place and a byte");
         if let Some(found) = bytes.get_mut(number(rt, at)) {
-            *found = number(rt, byte) as u8;
+            *found = byte.parse::<u8>().expect(rt, "a byte");
         }
     }
     bytes
@@ -193,6 +193,24 @@ fn refused_lines_write_nothing(rt: HostRuntime) {
 }
 
 #[test]
+fn refused_lines_leave_no_trace(rt: HostRuntime) {
+    let alloc = rt.alloc();
+    let first = machine_of(&rt, alloc, EMPTY, "make /a\nmake /a\nmake /b/c\nmake /b\nfoo\n");
+    let second = machine_of(&rt, alloc, EMPTY, "make /a\nmake /b\n");
+    let runs = refused_lines_may_be_left_out(alloc, first, second).expect(&rt, "memory");
+    let Shortened { whole, short } = runs;
+    let wanted = Wanted {
+        status: 0,
+        done: 5,
+        written: "ok\nno exists\nno parent\nok\nno syntax\n",
+        image: A_AND_B,
+        calls: [14, 12],
+    };
+    expect_end(&rt, alloc, whole, &wanted);
+    expect_end(&rt, alloc, short, &Wanted { done: 2, written: "ok\nok\n", ..wanted });
+}
+
+#[test]
 fn full_tells_the_pages_and_the_slots(rt: HostRuntime) {
     let alloc = rt.alloc();
     let script = "make /a\nmake /b\nmake /c\nmake /d\nmake /e\nmake /f\nmake /g\nmake /h\nmake /i\nmake /j\n";
@@ -247,12 +265,21 @@ fn a_pruned_directory_leaves_the_image_as_it_was(rt: HostRuntime) {
     let Machine { disk, source, sink } = machine_of(&rt, alloc, EMPTY, "make /a\n");
     let second = source_of(&rt, alloc, "make /b\nwrite /b/f 0 41\nrename /b/f /b/g\nprune /b\n");
     let runs = what_was_removed_is_gone(alloc, disk, source, second, sink).expect(&rt, "memory");
-    let is_kept = runs.image.as_slice() == image_of(&rt, alloc, A).as_slice();
-    assert!(&rt; is_kept & (runs.first.code() == 0), "the first script");
-    let left = runs.second.disk.into_disk();
-    let is_gone = left.bytes() == image_of(&rt, alloc, A).as_slice();
-    let is_written = runs.second.sink.written() == b"ok\nok\nok\nok\nok\n".as_slice();
-    assert!(&rt; is_gone & is_written & (runs.second.status.code() == 0), "the second script");
+    let Removal {
+        first,
+        image,
+        second,
+    } = runs;
+    let is_kept = image.as_slice() == image_of(&rt, alloc, A).as_slice();
+    assert!(&rt; is_kept & (first.code() == 0), "the first script");
+    let gone = Wanted {
+        status: 0,
+        done: 4,
+        written: "ok\nok\nok\nok\nok\n",
+        image: A,
+        calls: [35, 29],
+    };
+    expect_end(&rt, alloc, second, &gone);
 }
 
 /// Looks whether a run of `make /b` that fails from this call on, and a run on this image that it leaves, come to what was
@@ -262,14 +289,15 @@ fn crash_at(rt: &impl Abort, alloc: Global, from: u64, left: &[u8]) -> (Vec<u8>,
     let source = source_of(rt, alloc, "make /b\n");
     let sink = sink_of(rt, alloc);
     let crash = a_crash_loses_nothing(alloc, disk, from, source, sink, left).expect(rt, "memory");
-    let is_acknowledged = crash.run.sink.written() == b"ok\n".as_slice();
-    let found = crash.next.disk.into_disk();
+    let Crash { run, next } = crash;
+    let is_acknowledged = run.sink.written() == b"ok\n".as_slice();
+    assert!(rt; next.status.code() == 0, "the run behind call {from}");
+    let found = next.disk.into_disk();
     let is_old = found.bytes() == image_of(rt, alloc, A).as_slice();
     let is_new = found.bytes() == image_of(rt, alloc, A_AND_B).as_slice();
     assert!(rt; (is_old & !is_acknowledged) | is_new, "a crash at call {from}");
-    assert!(rt; crash.next.status.code() == 0, "the run behind call {from}");
-    let is_done = crash.run.status.code() == 0;
-    let read = crash.run.disk.into_disk();
+    let is_done = run.status.code() == 0;
+    let read = run.disk.into_disk();
     (read.bytes().to_vec(alloc).expect(rt, "memory"), is_done)
 }
 
