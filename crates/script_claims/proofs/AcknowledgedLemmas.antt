@@ -1,18 +1,17 @@
 -- What was acknowledged stays: from what a run promises.
-use Rattle.std.proofs.Common.{◌≡◌, ◌⊎◌, inl, inr, ℕ, ◌+◌, ◌≤◌, ◌<◌, List, ◌++◌, length, take, refl, sym, ap, ◌∙◌, subst, ⊎_elim, arith, length-append}
+use Rattle.std.proofs.Common.{◌⊎◌, inl, inr, ℕ, ◌+◌, List, ◌++◌, length, take, refl, sym, ap, ◌∙◌, subst, ⊎_elim, arith, length-append}
 use Rattle.store_model.specs.Parameters.{Parameters}
 use Rattle.store_model.specs.Trees.{Tree}
 use Rattle.store_model.specs.Images.{Represents}
-use Rattle.store_model.specs.Scripts.{lines, replies, replies_text, tree_after, script_limit}
+use Rattle.store_model.specs.Scripts.{lines, replies, tree_after, script_limit}
 use Rattle.disk_model.specs.DiskState.{MayLeaveOnly}
 use Rattle.script_lines.specs.Lines.{ended_lines}
 use Rattle.script_lines.specs.Memory.{SourceMemory, SinkMemory, source_state, sink_state}
-use Rattle.image_subcommands.specs.declared.status.Status.TheVariants as statuses
 use Rattle.image_subcommands.specs.Outside.{outside_of}
 use Rattle.store_top.specs.RunCall.{IsRun}
 use Rattle.store_top.proofs.RunLemmas.{length-replies}
-use Rattle.script_claims.specs.Acknowledged.{EndsWhole, EndsEarly, KeepsAcknowledged}
-use Rattle.script_claims.specs.Machines.{Disk, Ended, HasImage, bytes_of, meaning}
+use Rattle.script_claims.specs.Acknowledged.{KeepsAcknowledged}
+use Rattle.script_claims.specs.Machines.{Disk, Ended, meaning}
 use Rattle.script_claims.proofs.RunWays.{between, cut_short, way, image_of, read_is}
 use Rattle.script_claims.proofs.CrashLemmas.{wrote_in_part}
 
@@ -38,9 +37,10 @@ keeps_acknowledged t p disk source sink after run only =
           (from.image.no_memory e);
       source_fault = λ e. record { taken = told.taken; taken_is = told.taken_is; done_is = told.counted.ended e };
       too_long = λ e.
-          let many = limit.too_long e in
-          (omega (arith, many.count_is, ap length many.taken_is, length-append many.taken after.source.left),
-          told.counted.ended_in_limit e ∙ ap (λ (bytes : List ℕ). length (ended_lines (take script_limit bytes))) (sym told.taken_is));
+          let many = limit.too_long e in (
+            omega (arith, many.count_is, ap length many.taken_is, length-append many.taken after.source.left),
+            told.counted.ended_in_limit e ∙ ap (λ (bytes : List ℕ). length (ended_lines (take script_limit bytes))) (sym told.taken_is),
+          );
       in_limit = λ other.
           let few = limit.within other in
           omega (arith, few.1, (few.2).count_is, ap length (few.2).taken_is, length-append (few.2).taken after.source.left);

@@ -1,12 +1,11 @@
 -- A run answers its script: from what a run promises.
-use Rattle.std.proofs.Common.{◌≡◌, ◌⊎◌, inl, inr, ℕ, List, ◌++◌, length, take, refl, sym, ap, ◌∙◌, subst, ⊎_elim}
+use Rattle.std.proofs.Common.{◌≡◌, ◌⊎◌, inl, inr, ℕ, List, ◌++◌, take, refl, sym, ap, ◌∙◌, subst, ⊎_elim}
 use Rattle.std.proofs.Math.Seq.{take-length}
 use Rattle.store_model.specs.Parameters.{Parameters}
 use Rattle.store_model.specs.Trees.{Tree}
 use Rattle.store_model.specs.Images.{Represents}
 use Rattle.store_model.specs.Scripts.{lines, replies, tree_after}
 use Rattle.script_lines.specs.Memory.{SourceMemory, SinkMemory, source_state, sink_state}
-use Rattle.image_subcommands.specs.declared.status.Status.{Status}
 use Rattle.image_subcommands.specs.declared.status.Status.TheVariants as statuses
 use Rattle.image_subcommands.specs.Outside.{outside_of}
 use Rattle.image_subcommands.specs.Statuses.{IsBetweenLines}

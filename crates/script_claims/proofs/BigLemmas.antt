@@ -7,23 +7,23 @@ use Rattle.store_model.specs.Parameters.{Parameters}
 use Rattle.store_model.specs.Trees.{Tree}
 use Rattle.store_model.specs.Pages.{page_count}
 use Rattle.store_model.specs.Images.{layout, Represents}
-use Rattle.store_model.specs.Commands.{Command, Reply, line, reply_text}
+use Rattle.store_model.specs.Commands.{Command, Reply}
 use Rattle.store_model.specs.Commands.Command.{Space, Digest}
 use Rattle.store_model.specs.Commands.Reply.{PagesUsed, ImageDigest}
 use Rattle.store_model.specs.Steps.{Step, step, conditions, first_refusal, may_fill, reply_of}
 use Rattle.store_model.specs.Grammar.{parse}
 use Rattle.store_model.specs.Scripts.{lines, line_limit, answer, answer_by, answers_by, state_by, replies_by, tree_by, replies, tree_after}
 use Rattle.script_lines.specs.Generated.{generated}
-use Rattle.script_lines.specs.Memory.{SourceMemory, SinkMemory, source_state, sink_state}
+use Rattle.script_lines.specs.Memory.{SourceMemory, SinkMemory, sink_state}
 use Rattle.image_subcommands.specs.declared.status.Status.TheVariants as statuses
 use Rattle.image_subcommands.specs.Outside.{outside_of}
 use Rattle.image_subcommands.specs.Statuses.{IsBetweenLines, IsSummed}
 use Rattle.store_top.specs.BigCall.{IsBig}
-use Rattle.store_top.specs.Generations.{first_commands, step_under, generated_replies, generated_trees, summary_text, count_answered, count_refused}
+use Rattle.store_top.specs.Generations.{first_commands, step_under, generated_trees, summary_text}
 use Rattle.script_claims.specs.declared.big.TwoRuns.{TwoRuns}
 use Rattle.script_claims.specs.Answered.{AnswersScript}
 use Rattle.script_claims.specs.BigRuns.{AskFor, summary_of, IsRunOfCommands}
-use Rattle.script_claims.specs.Machines.{Disk, Ended, HasImage, bytes_of, meaning}
+use Rattle.script_claims.specs.Machines.{Disk, bytes_of, meaning}
 
 -- ---- a script that asks for commands
 
@@ -89,7 +89,7 @@ run_of_commands number count t p disk other_disk source script sink other_sink b
     let whole : take count commands ≡ commands = ap (λ (n : ℕ). take n commands) (sym size) ∙ take-length commands in
     let tree : generated_trees t number count p count ≡ tree_after t (lines script.left) p = ap (tree_by (step_under p) t) whole ∙ sym (same_tree t p (lines script.left) commands ask) in
     let image = λ (e : both.big.status ≡ statuses.Done).
-        (from.image.between (subst IsBetweenLines (sym e) refl)).layout_is ∙ ap (λ (n : ℕ). layout (generated_trees t number count p n) p) (is_big.all_done (subst IsSummed (sym e) refl)) ∙ ap (λ (u : Tree). layout u p) tree in
+    (from.image.between (subst IsBetweenLines (sym e) refl)).layout_is ∙ ap (λ (n : ℕ). layout (generated_trees t number count p n) p) (is_big.all_done (subst IsSummed (sym e) refl)) ∙ ap (λ (u : Tree). layout u p) tree in
     record {
       image = λ e d. image e ∙ sym (answers.image d).bytes;
       count = λ e d. is_big.all_done (subst IsSummed (sym e) refl) ∙ sym size ∙ sym (same_length (lines script.left) commands ask) ∙ sym (answers.count d);

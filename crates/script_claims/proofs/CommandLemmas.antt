@@ -1,5 +1,5 @@
 -- What stands of the commands of a number: from what `big` promises.
-use Rattle.std.proofs.Common.{◌≡◌, ◌⊎◌, inl, inr, ℕ, ◌+◌, ◌≤◌, List, ◌++◌, take, refl, sym, ap, ◌∙◌, subst, ⊎_elim, arith}
+use Rattle.std.proofs.Common.{◌≡◌, ◌⊎◌, inl, inr, ℕ, List, refl, sym, ap, ◌∙◌, subst, ⊎_elim, arith}
 use Rattle.std.proofs.lemmas.Bool.{false≢true}
 use Rattle.store_model.specs.Parameters.{Parameters}
 use Rattle.store_model.specs.Trees.{Tree}
@@ -8,7 +8,7 @@ use Rattle.store_model.specs.Scripts.{replies_by}
 use Rattle.disk_model.specs.DiskState.{MayLeaveOnly}
 use Rattle.gate_journal.specs.Phases.{HasEmptyJournal}
 use Rattle.gate_journal.proofs.Layouts.{layout-has-empty-journal}
-use Rattle.script_lines.specs.Memory.{SourceMemory, SinkMemory, source_state, sink_state}
+use Rattle.script_lines.specs.Memory.{SourceMemory, SinkMemory, sink_state}
 use Rattle.image_subcommands.specs.declared.status.Status.{Status}
 use Rattle.image_subcommands.specs.declared.status.Status.TheVariants as statuses
 use Rattle.image_subcommands.specs.Outside.{outside_of}
@@ -16,8 +16,8 @@ use Rattle.image_subcommands.specs.Statuses.{IsBigStatus, IsBetweenLines, IsSumm
 use Rattle.store_top.specs.BigCall.{IsBig}
 use Rattle.store_top.specs.Generations.{first_commands, step_under, generated_trees}
 use Rattle.script_claims.specs.BigRuns.{summary_of}
-use Rattle.script_claims.specs.Commands.{commanded_tree, IsSummedUp, IsBrokenOff, RepresentsSomeCommands, KeepsCommands}
-use Rattle.script_claims.specs.Machines.{Disk, Ended, HasImage, bytes_of, meaning}
+use Rattle.script_claims.specs.Commands.{IsSummedUp, IsBrokenOff, KeepsCommands}
+use Rattle.script_claims.specs.Machines.{Disk, Ended, bytes_of, meaning}
 use Rattle.script_claims.proofs.BigLemmas.{summary_is}
 use Rattle.script_claims.proofs.RunWays.{image_of, read_is}
 

@@ -9,21 +9,19 @@ use Rattle.store_model.specs.Images.{layout, Represents}
 use Rattle.store_model.specs.Commands.{Reply}
 use Rattle.store_model.specs.Scripts.{lines, replies, tree_after, tree_by, state_by, replies_text}
 use Rattle.disk_model.specs.DiskState.{MayLeaveOnly}
-use Rattle.disk_model.specs.Memory.{Memory, memory_state}
 use Rattle.script_lines.specs.Memory.{SourceMemory, SinkMemory, source_state, sink_state}
 use Rattle.script_lines.proofs.LineLemmas.{lines-none}
 use Rattle.image_check.specs.Standing.{Stands}
 use Rattle.image_subcommands.specs.declared.status.Status.{Status}
 use Rattle.image_subcommands.specs.declared.status.Status.TheVariants as statuses
 use Rattle.image_subcommands.specs.Outside.{outside_of}
-use Rattle.store_top.specs.Promises.{PromisesReplies, PromisesImage, PromisesCrashes}
+use Rattle.store_top.specs.Promises.{PromisesReplies}
 use Rattle.store_top.specs.RunCall.{IsRun}
-use Rattle.store_top.specs.Runs.{WritesReplies}
 use Rattle.store_top.proofs.RunLemmas.{length-replies}
 use Rattle.script_claims.specs.declared.crash.Crash.{Crash}
 use Rattle.script_claims.specs.Acknowledged.{EndsWhole, EndsEarly}
 use Rattle.script_claims.specs.Answered.{AnswersScript}
-use Rattle.script_claims.specs.Crashes.{WroteReplies, HasSomeLines, HasRepliedLines, LosesNothing}
+use Rattle.script_claims.specs.Crashes.{WroteReplies, LosesNothing}
 use Rattle.script_claims.specs.Machines.{Disk, Ended, HasImage, MayLeave, MightHaveLeft, bytes_of, meaning}
 use Rattle.script_claims.proofs.RunWays.{between, cut_short, way, layout_after, read_is}
 
@@ -197,7 +195,7 @@ pub loses_nothing : (t : Tree) (p : Parameters) (failing next_disk : Disk) (sour
     → LosesNothing t p failing.disk source sink left crash
 loses_nothing t p failing next_disk source next_source sink next_sink left crash is_run only none disk_faults source_faults sink_faults answers =
     let next_image : (u : Tree) → Represents left u p → crash.next.status ≡ statuses.Done → HasImage crash.next.disk u p =
-        λ u is e. subst (λ (v : Tree). HasImage crash.next.disk v p) (after_none u p next_source.left none) ((answers u is).image e) in
+    λ u is e. subst (λ (v : Tree). HasImage crash.next.disk v p) (after_none u p next_source.left none) ((answers u is).image e) in
     record {
       acknowledged = λ leaves e.
           let behind = left_behind t p failing source sink crash.run is_run only left leaves in

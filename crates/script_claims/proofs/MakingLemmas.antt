@@ -1,11 +1,10 @@
 -- Equal contents have equal bytes: from images of trees.
-use Rattle.std.proofs.Common.{◌≡◌, ◌↔◌, ℕ, List, [], ◌∷◌, ◌++◌, refl, sym, ap, ◌∙◌, subst}
+use Rattle.std.proofs.Common.{◌≡◌, ℕ, List, [], ◌∷◌, ◌++◌, refl, sym, ap, ◌∙◌, subst}
 use Rattle.std.specs.List.{flat_map}
 use Rattle.std.proofs.lemmas.Grind.{flat_map-append}
 use Rattle.std.proofs.lemmas.List.{append-nil}
 use Rattle.store_model.specs.Parameters.{Parameters, IsParameters}
-use Rattle.store_model.specs.Trees.{Tree, empty_tree, IsTree}
-use Rattle.store_model.specs.Pages.{Fits}
+use Rattle.store_model.specs.Trees.{Tree, empty_tree}
 use Rattle.store_model.specs.Images.{layout, Represents}
 use Rattle.store_model.specs.Scripts.{lines, tree_after, tree_by, state_by}
 use Rattle.store_model.proofs.ImagesLemmas.{Represents-layout}
@@ -14,7 +13,7 @@ use Rattle.store_model.proofs.TreesLemmasSteps.{IsTree-tree_after}
 use Rattle.store_model.proofs.TreesLemmasFits.{Fits-tree_after, Fits-empty, IsTree-empty}
 use Rattle.store_model.proofs.TreesLemmasLayouts.{layouts_tell}
 use Rattle.image_check.specs.Standing.{IsFitting}
-use Rattle.script_lines.specs.Memory.{SourceMemory, SinkMemory, source_state, sink_state}
+use Rattle.script_lines.specs.Memory.{SourceMemory, SinkMemory}
 use Rattle.image_subcommands.specs.declared.status.Status.TheVariants as statuses
 use Rattle.image_subcommands.specs.Outside.{outside_of}
 use Rattle.image_subcommands.specs.FormatCall.{IsFormat}
@@ -57,7 +56,7 @@ equal_contents p first_scripts second_scripts first second valid one other =
       second_image = other;
       equal = (
         (λ e. (layouts_tell (made_tree first_scripts p) (made_tree second_scripts p) p p valid valid a.tree b.tree a.fits b.fits (sym one.bytes ∙ e ∙ other.bytes)).0),
-        (λ e. one.bytes ∙ ap (λ (t : Tree). layout t p) e ∙ sym other.bytes)
+        (λ e. one.bytes ∙ ap (λ (t : Tree). layout t p) e ∙ sym other.bytes),
       );
     }
 

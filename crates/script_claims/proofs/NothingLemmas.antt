@@ -1,15 +1,13 @@
 -- Nothing is done on bytes that are the image of no tree: from what a run and `big` promise.
-use Rattle.std.proofs.Common.{◌≡◌, ◌⊎◌, inl, inr, ℕ, List, refl, sym, ap, ◌∙◌, subst, ⊎_elim}
+use Rattle.std.proofs.Common.{◌≡◌, ◌⊎◌, inl, inr, ℕ, refl, sym, subst, ⊎_elim}
 use Rattle.std.proofs.lemmas.Bool.{false≢true}
 use Rattle.store_model.specs.Parameters.{Parameters}
-use Rattle.disk_model.specs.DiskState.{IsObservable}
-use Rattle.image_check.specs.Standing.{RepresentsSome}
-use Rattle.image_check.specs.Verdicts.{HasParameters, IsImageWith, IsNoImage, IsDamaged}
+use Rattle.image_check.specs.Verdicts.{IsImageWith, IsDamaged}
 use Rattle.script_lines.specs.Memory.{SourceMemory, SinkMemory, source_state, sink_state}
 use Rattle.image_subcommands.specs.declared.status.Status.{Status}
 use Rattle.image_subcommands.specs.declared.status.Status.TheVariants as statuses
 use Rattle.image_subcommands.specs.Outside.{outside_of}
-use Rattle.image_subcommands.specs.Statuses.{IsRunStatus, IsBigStatus, IsBetweenLines, IsPastHeader, IsRefusedImage, MayComeFirst}
+use Rattle.image_subcommands.specs.Statuses.{IsRunStatus, IsBigStatus, IsBetweenLines, IsPastHeader, MayComeFirst}
 use Rattle.store_top.specs.BigCall.{IsBig}
 use Rattle.store_top.specs.RunCall.{IsRun}
 use Rattle.script_claims.specs.Machines.{Disk, Ended, bytes_of, meaning}

@@ -1,5 +1,5 @@
 -- What was removed is gone: from two runs that answered their scripts.
-use Rattle.std.proofs.Common.{◌≡◌, ℕ, List, ◌++◌, [], ◌∷◌, refl, sym, ap, ◌∙◌, subst}
+use Rattle.std.proofs.Common.{◌≡◌, ℕ, List, sym, ap, ◌∙◌, subst}
 use Rattle.store_model.specs.Parameters.{Parameters}
 use Rattle.store_model.specs.Paths.{Path}
 use Rattle.store_model.specs.Trees.{Tree}
@@ -11,7 +11,7 @@ use Rattle.script_lines.specs.Memory.{SourceMemory, SinkMemory}
 use Rattle.image_subcommands.specs.declared.status.Status.TheVariants as statuses
 use Rattle.model_laws.proofs.WithinLemmas.{tree_after-pruned}
 use Rattle.script_claims.specs.Answered.{AnswersScript}
-use Rattle.script_claims.specs.Machines.{Disk, Ended, HasImage, bytes_of}
+use Rattle.script_claims.specs.Machines.{Disk, Ended, bytes_of}
 use Rattle.script_claims.specs.Removals.{RemovesAt}
 use Rattle.script_claims.proofs.RunWays.{layout_after}
 

@@ -1,15 +1,14 @@
 -- How a run over the image of a tree may end, and what its statuses have in common.
-use Rattle.std.proofs.Common.{◌≡◌, ◌⊎◌, inl, inr, IsTrue, List, ℕ, refl, sym, ap, ◌∙◌, subst, ⊎_elim, length, take, ◌++◌}
+use Rattle.std.proofs.Common.{◌≡◌, ◌⊎◌, inl, inr, List, ℕ, refl, sym, ◌∙◌, subst}
 use Rattle.std.proofs.lemmas.Bool.{false≢true}
-use Rattle.std.proofs.Math.Seq.{take-length}
 use Rattle.store_model.specs.Parameters.{Parameters}
 use Rattle.store_model.specs.Trees.{Tree}
 use Rattle.store_model.specs.Images.{layout, Represents}
-use Rattle.store_model.specs.Scripts.{lines, replies, tree_after}
+use Rattle.store_model.specs.Scripts.{lines, tree_after}
 use Rattle.store_model.proofs.ImagesLemmas.{Represents-layout}
 use Rattle.store_model.proofs.TreesLemmasSteps.{IsTree-tree_after}
 use Rattle.store_model.proofs.TreesLemmasFits.{Fits-tree_after}
-use Rattle.disk_model.specs.DiskState.{DiskState, IsDurable, MayLeaveOnly}
+use Rattle.disk_model.specs.DiskState.{MayLeaveOnly}
 use Rattle.disk_model.specs.MemoryLaws.{memory_is_sound}
 use Rattle.image_check.specs.Standing.{Stands}
 use Rattle.script_lines.specs.Memory.{SourceMemory, SinkMemory, source_state, sink_state}
@@ -19,7 +18,7 @@ use Rattle.image_subcommands.specs.Outside.{outside_of}
 use Rattle.image_subcommands.specs.Statuses.{IsRunStatus, IsBetweenLines, IsCutShort}
 use Rattle.store_top.specs.RunCall.{IsRun}
 use Rattle.script_claims.specs.Acknowledged.{EndsWhole, EndsEarly}
-use Rattle.script_claims.specs.Machines.{Disk, Ended, HasImage, MayLeave, bytes_of, meaning}
+use Rattle.script_claims.specs.Machines.{Disk, Ended, HasImage, bytes_of, meaning}
 
 -- ---- statuses
 

@@ -51,12 +51,7 @@ fn done(ended: Ended) -> Result<Ended, Status>
 }
 
 /// Runs one script on an image. `Err` has the status of a run that did not end with 0.
-fn run_whole(
-    alloc: Global,
-    disk: Disk,
-    source: MemSource,
-    sink: MemSink,
-) -> Result<Ended, Status>
+fn run_whole(alloc: Global, disk: Disk, source: MemSource, sink: MemSink) -> Result<Ended, Status>
     ensures image { (t : Tree) (p : Parameters) → IsFitting t p → HasImage disk t p → IfOk result (λ after. HasImage after.disk (tree_after t (lines source.left) p) p) }
     ensures ended { IfErr result (λ status. status ≢ Status.Done) }
 {

@@ -5,11 +5,11 @@
 //! than zero, each with its place, behind the text that it begins with.
 
 use crate::{
-    Crash, Disk, Ended, Machine, Making, Removal, Shortened, a_crash_loses_nothing, a_run_costs_its_changes,
-    a_run_on_no_tree_does_nothing, a_script_is_answered, big_costs_its_changes, big_is_a_run,
-    big_on_no_tree_does_nothing, commands_of_big_stay, equal_contents_have_equal_bytes,
-    full_is_exact, refused_lines_change_nothing, refused_lines_may_be_left_out, serve, what_was_acknowledged_stays,
-    what_was_removed_is_gone,
+    Crash, Disk, Ended, Machine, Making, Removal, Shortened, a_crash_loses_nothing,
+    a_run_costs_its_changes, a_run_on_no_tree_does_nothing, a_script_is_answered,
+    big_costs_its_changes, big_is_a_run, big_on_no_tree_does_nothing, commands_of_big_stay,
+    equal_contents_have_equal_bytes, full_is_exact, refused_lines_change_nothing,
+    refused_lines_may_be_left_out, serve, what_was_acknowledged_stays, what_was_removed_is_gone,
 };
 use disk_model::{FailingDisk, MemDisk};
 use script_lines::{MemSink, MemSource};
@@ -22,8 +22,10 @@ static EMPTY: &str = "11:1 12:1 14:1";
 
 /// The image with the directory `/a`, with `/a` and `/b`, and with `/d1`.
 static A: &str = "11:1 12:1 14:1 16384:1 16515:1 16516:97 16641:1 16642:1";
+
 static A_AND_B: &str =
     "11:1 12:1 14:1 16384:1 16515:2 16516:97 16641:1 16642:1 16898:98 17023:1 17024:1";
+
 static D1: &str = "11:1 12:1 14:1 16384:1 16515:1 16516:100 16517:49 16641:1 16642:1";
 
 /// An image of that length whose slot counts no cell.
@@ -31,6 +33,7 @@ static BROKEN: &str = "11:1 12:1 14:1 16384:1 16516:97 16641:1 16642:1";
 
 /// The commands of number 0, as lines, and what `big 0 3` prints of them on the image of the empty tree.
 static COMMANDS: &str = "write /d7/f7 0 0a02bdbf\nrename /d0/f1 /d5/f1\nmake /d1\n";
+
 static SUMMARY: &str =
     "ok 1\nno 2\nspace 1 1\ndigest a24e919299174bac9d4607c8d26f5bad2a266c95aebe5f85bffa4f61010f4ced\n";
 
@@ -148,7 +151,12 @@ fn a_script_is_answered_at_its_costs(rt: HostRuntime) {
     let alloc = rt.alloc();
     let Machine { disk, source, sink } = machine_of(&rt, alloc, EMPTY, "make /a");
     let words = words_of(&rt, alloc, "run");
-    expect_end(&rt, alloc, serve(alloc, &words, disk, source, sink), &MADE_A);
+    expect_end(
+        &rt,
+        alloc,
+        serve(alloc, &words, disk, source, sink),
+        &MADE_A,
+    );
     let Machine { disk, source, sink } = machine_of(&rt, alloc, EMPTY, "make /a\n");
     let ended = a_script_is_answered(alloc, disk, source, sink).expect(&rt, "memory");
     expect_end(&rt, alloc, ended, &MADE_A);
@@ -165,7 +173,16 @@ fn a_fault_of_the_sink_or_the_source_keeps_what_was_acknowledged(rt: HostRuntime
     failing.push(0).expect(&rt, "memory");
     let sink = MemSink::new(alloc, ROOM, failing).expect(&rt, "memory");
     let ended = what_was_acknowledged_stays(alloc, disk, source, sink).expect(&rt, "memory");
-    expect_end(&rt, alloc, ended, &Wanted { status: 4, written: "", ..MADE_A });
+    expect_end(
+        &rt,
+        alloc,
+        ended,
+        &Wanted {
+            status: 4,
+            written: "",
+            ..MADE_A
+        },
+    );
     let Machine { disk, sink, .. } = machine_of(&rt, alloc, EMPTY, "");
     let mut failing = Vec::new(alloc);
     failing.push(1).expect(&rt, "memory");
@@ -174,7 +191,15 @@ fn a_fault_of_the_sink_or_the_source_keeps_what_was_acknowledged(rt: HostRuntime
     let script = b"make /a\nmake /b\n".to_vec(alloc).expect(&rt, "memory");
     let source = MemSource::new(script, pieces, failing);
     let ended = what_was_acknowledged_stays(alloc, disk, source, sink).expect(&rt, "memory");
-    expect_end(&rt, alloc, ended, &Wanted { status: 3, ..MADE_A });
+    expect_end(
+        &rt,
+        alloc,
+        ended,
+        &Wanted {
+            status: 3,
+            ..MADE_A
+        },
+    );
 }
 
 #[test]
@@ -195,7 +220,12 @@ fn refused_lines_write_nothing(rt: HostRuntime) {
 #[test]
 fn refused_lines_leave_no_trace(rt: HostRuntime) {
     let alloc = rt.alloc();
-    let first = machine_of(&rt, alloc, EMPTY, "make /a\nmake /a\nmake /b/c\nmake /b\nfoo\n");
+    let first = machine_of(
+        &rt,
+        alloc,
+        EMPTY,
+        "make /a\nmake /a\nmake /b/c\nmake /b\nfoo\n",
+    );
     let second = machine_of(&rt, alloc, EMPTY, "make /a\nmake /b\n");
     let runs = refused_lines_may_be_left_out(alloc, first, second).expect(&rt, "memory");
     let Shortened { whole, short } = runs;
@@ -207,26 +237,41 @@ fn refused_lines_leave_no_trace(rt: HostRuntime) {
         calls: [14, 12],
     };
     expect_end(&rt, alloc, whole, &wanted);
-    expect_end(&rt, alloc, short, &Wanted { done: 2, written: "ok\nok\n", ..wanted });
+    expect_end(
+        &rt,
+        alloc,
+        short,
+        &Wanted {
+            done: 2,
+            written: "ok\nok\n",
+            ..wanted
+        },
+    );
 }
 
 #[test]
 fn full_tells_the_pages_and_the_slots(rt: HostRuntime) {
     let alloc = rt.alloc();
-    let script = "make /a\nmake /b\nmake /c\nmake /d\nmake /e\nmake /f\nmake /g\nmake /h\nmake /i\nmake /j\n";
+    let script =
+        "make /a\nmake /b\nmake /c\nmake /d\nmake /e\nmake /f\nmake /g\nmake /h\nmake /i\nmake /j\n";
     let Machine { disk, source, sink } = machine_of(&rt, alloc, EMPTY, script);
     let ten = a_script_is_answered(alloc, disk, source, sink).expect(&rt, "memory");
     let Machine { source, sink, .. } = machine_of(&rt, alloc, EMPTY, "make /k\n");
     let ended = full_is_exact(alloc, ten.disk, source, sink).expect(&rt, "memory");
     let is_full = ended.sink.written() == b"no full 2 1\n".as_slice();
-    assert!(&rt; is_full & (ended.status.code() == 0) & (ended.done == 1), "full");
+    assert!(&rt;
+        is_full & (ended.status.code() == 0) & (ended.done == 1),
+        "full"
+    );
 }
 
 /// An image that is to be made by these scripts, parted by `#`.
 fn making_of(rt: &impl Abort, alloc: Global, scripts: &str) -> Making {
     let mut sources = Vec::new(alloc);
     for script in scripts.split('#') {
-        sources.push(source_of(rt, alloc, script)).expect(rt, "memory");
+        sources
+            .push(source_of(rt, alloc, script))
+            .expect(rt, "memory");
     }
     let zeros = bytes_of(rt, alloc, "");
     Making {
@@ -248,22 +293,39 @@ fn expect_images(rt: &impl Abort, alloc: Global, scripts: [&str; 2], images: [&s
     let (first, second) = (made.first.into_disk(), made.second.into_disk());
     let is_first = first.bytes() == image_of(rt, alloc, images[0]).as_slice();
     let is_second = second.bytes() == image_of(rt, alloc, images[1]).as_slice();
-    assert!(rt; is_first & is_second, "the images of {} and {}", scripts[0], scripts[1]);
+    assert!(rt;
+        is_first & is_second,
+        "the images of {} and {}",
+        scripts[0],
+        scripts[1]
+    );
 }
 
 #[test]
 fn two_ways_lead_to_equal_bytes(rt: HostRuntime) {
     let alloc = rt.alloc();
-    let ways = ["make /a\n", "make /x\nmake /y/z\n##rename /x /b\nmake /c\n#remove /c\nrename /b /a"];
+    let ways = [
+        "make /a\n",
+        "make /x\nmake /y/z\n##rename /x /b\nmake /c\n#remove /c\nrename /b /a",
+    ];
     expect_images(&rt, alloc, ways, [A, A]);
-    expect_images(&rt, alloc, ["make /a\n", "make /b\nmake /a\n"], [A, A_AND_B]);
+    expect_images(
+        &rt,
+        alloc,
+        ["make /a\n", "make /b\nmake /a\n"],
+        [A, A_AND_B],
+    );
 }
 
 #[test]
 fn a_pruned_directory_leaves_the_image_as_it_was(rt: HostRuntime) {
     let alloc = rt.alloc();
     let Machine { disk, source, sink } = machine_of(&rt, alloc, EMPTY, "make /a\n");
-    let second = source_of(&rt, alloc, "make /b\nwrite /b/f 0 41\nrename /b/f /b/g\nprune /b\n");
+    let second = source_of(
+        &rt,
+        alloc,
+        "make /b\nwrite /b/f 0 41\nrename /b/f /b/g\nprune /b\n",
+    );
     let runs = what_was_removed_is_gone(alloc, disk, source, second, sink).expect(&rt, "memory");
     let Removal {
         first,
@@ -295,7 +357,10 @@ fn crash_at(rt: &impl Abort, alloc: Global, from: u64, left: &[u8]) -> (Vec<u8>,
     let found = next.disk.into_disk();
     let is_old = found.bytes() == image_of(rt, alloc, A).as_slice();
     let is_new = found.bytes() == image_of(rt, alloc, A_AND_B).as_slice();
-    assert!(rt; (is_old & !is_acknowledged) | is_new, "a crash at call {from}");
+    assert!(rt;
+        (is_old & !is_acknowledged) | is_new,
+        "a crash at call {from}"
+    );
     let is_done = run.status.code() == 0;
     let read = run.disk.into_disk();
     (read.bytes().to_vec(alloc).expect(rt, "memory"), is_done)
@@ -331,11 +396,29 @@ fn commands_of_a_number_are_those_of_a_script(rt: HostRuntime) {
         calls: [7, 7],
     };
     expect_end(&rt, alloc, both.big, &summed);
-    expect_end(&rt, alloc, both.run, &Wanted { written: "no parent\nno missing\nok\n", ..summed });
+    expect_end(
+        &rt,
+        alloc,
+        both.run,
+        &Wanted {
+            written: "no parent\nno missing\nok\n",
+            ..summed
+        },
+    );
     let machine = machine_of(&rt, alloc, EMPTY, "");
-    expect_end(&rt, alloc, commands_of_big_stay(alloc, &words, machine), &summed);
+    expect_end(
+        &rt,
+        alloc,
+        commands_of_big_stay(alloc, &words, machine),
+        &summed,
+    );
     let machine = machine_of(&rt, alloc, EMPTY, "");
-    expect_end(&rt, alloc, big_costs_its_changes(alloc, &words, machine), &summed);
+    expect_end(
+        &rt,
+        alloc,
+        big_costs_its_changes(alloc, &words, machine),
+        &summed,
+    );
 }
 
 #[test]
@@ -353,5 +436,10 @@ fn nothing_is_done_without_a_tree(rt: HostRuntime) {
     expect_end(&rt, alloc, ended, &nothing);
     let words = words_of(&rt, alloc, "big 0 3");
     let machine = machine_of(&rt, alloc, BROKEN, "");
-    expect_end(&rt, alloc, big_on_no_tree_does_nothing(alloc, &words, machine), &nothing);
+    expect_end(
+        &rt,
+        alloc,
+        big_on_no_tree_does_nothing(alloc, &words, machine),
+        &nothing,
+    );
 }
