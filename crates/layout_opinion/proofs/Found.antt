@@ -1,6 +1,7 @@
 -- What is found in slots: contents of a tree, and none where they hold none.
-use Rattle.std.proofs.Common.{◌≡◌, ℕ, ◌≤◌, List, map, length, Option, Some, None, MatchOption, IfSome, sym, ap, subst, ◌∙◌, arith}
+use Rattle.std.proofs.Common.{◌≡◌, ℕ, ◌≤◌, List, map, length, Option, Some, None, MatchOption, IfSome, IsTrue, sym, ap, subst, ◌∙◌, arith}
 use Rattle.std.specs.Cmp.Lexicographic.{nat_list_cmp_total}
+use Rattle.std.specs.FinMap.{is_sorted}
 use Rattle.std.specs.List.{AllByRecursion}
 use Rattle.std.specs.List.Sorted.{IsPermutation, IsSorted}
 use Rattle.std.specs.Ordering.{eq_by_cmp}
@@ -15,7 +16,7 @@ use Rattle.store_model.specs.Draws.{draw_of}
 use Rattle.store_model.specs.Pages.{Fits, pages, page_count, pages_of_pairs}
 use Rattle.store_model.specs.Placement.{Table, place, pages_in}
 use Rattle.store_model.specs.Images.{slots_of}
-use Rattle.store_model.proofs.ListsLemmas.{in_order_of_rising}
+use Rattle.store_model.proofs.ListsLemmas.{in_order_of_rising, rising_from_is_sorted, rising_to_map}
 use Rattle.store_model.proofs.ListsLemmasOrder.{same_as_in_order}
 use Rattle.store_model.proofs.PairsLemmas.{rising_pairs, rising_keys}
 use Rattle.store_model.proofs.PlacementLemmas.{length-place, IsPermutation-place}
@@ -39,7 +40,11 @@ at_some o P x is some = subst (λ v. MatchOption v ⊥ P) some is
 pub if_some : {V : Type 0} (o : Option V) (P : V → Type 0) (x : V) → IfSome o P → o ≡ Some x → P x
 if_some o P x is some = subst (λ v. IfSome v P) some is
 
--- the keys of a tree's pairs differ
+-- keys that rise differ
+pub sorted_keys_differ : (s : List Pair) → IsTrue (is_sorted key_cmp s) → HasDistinctKeys s
+sorted_keys_differ s up = IsDistinct-from_sorted key_cmp (map (λ (pair : Pair). pair.0) s) (rising_to_map key_cmp (λ (pair : Pair). pair.0) s (rising_from_is_sorted key_cmp s up))
+
+-- so those of a tree's pairs do
 pub keys_differ : (t : Tree) (p : Parameters) (s : List Pair) → IsTree t → s ≡ pairs t p → HasDistinctKeys s
 keys_differ t p s tree is = subst HasDistinctKeys (sym is) (IsDistinct-from_sorted key_cmp (map (λ (pair : Pair). pair.0) (pairs t p)) (rising_keys t p tree))
 

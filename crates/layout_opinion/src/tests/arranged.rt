@@ -7,34 +7,31 @@ use std::alloc::Global;
 use std::process::Abort;
 use store_base::Slot;
 
-/// The parameters of a table of at most four slots; its tree; and how many tables there are, each of whose slots has the
-/// bytes of one of its slots, whichever, that are a tree's. It is one of them, and so are free slots alone; of `/a` and
-/// `/f`, each may be there without the other.
+/// The parameters of a table of four slots; its tree; and how many tables there are, each of whose slots has the bytes of
+/// one of its slots, whichever, that are a tree's. It is one of them. So are free slots alone; and where pages of two
+/// trees make a third, those of each.
 static ORDERS: &str = "\
     4 2 ruler|/0 /AU /U|1#\
     4 2 ruler|/UU /Ua|2#\
     4 2 ruler|/UU /Ua /A|1#\
+    4 3 ruler|/A /U=1|4#\
     4 2 sha256|/a /f=1|4#\
-    4 2 sha256|/a /f=1 /b /c /d /e /g=0 /h /i /j /k /l /m /n|1#\
-    3 3 ruler|/A /U=1|1";
+    4 2 sha256|/a /f=1 /b /c /d /e /g=0 /h /i /j /k /l /m /n|1";
 
-/// Gives each slot the bytes of the good slot that a number tells it, digit by digit.
+/// Gives each of four slots the bytes of the good slot that a digit of a number tells it.
 fn arrange(rt: &impl Abort, table: &mut Table, good: &[Slot], mut order: u32) {
-    let count = table.count();
-    assert!(rt; count > 0);
-    for at in 0..count {
-        let slot = good.get((order % count) as usize).expect(rt, "a slot");
+    for at in 0..4 {
+        let slot = good.get((order % 4) as usize).expect(rt, "a slot");
         table.set(rt, at, slot);
-        order /= count;
+        order /= 4;
     }
 }
 
 /// How many of all such tables are a tree's.
 fn clean_orders(rt: &impl Abort, alloc: Global, table: &mut Table) -> u32 {
     let good = slots_of(rt, alloc, table);
-    assert!(rt; table.count() <= 4);
     let mut clean = 0u32;
-    for order in 0..table.count().pow(table.count()) {
+    for order in 0..256 {
         arrange(rt, table, &good, order);
         if table.size(rt).is_some() {
             clean = clean.saturating_add(1);
@@ -50,12 +47,7 @@ fn slots_in_each_order(rt: HostRuntime) {
         let mut table = Table::new(&rt, rt.alloc(), params(&rt, row[0]));
         table.lay(&rt, tree(&rt, rt.alloc(), row[1]));
         let clean = clean_orders(&rt, rt.alloc(), &mut table);
-        assert!(rt;
-            clean == number(&rt, row[2]),
-            "{} {}: {clean}",
-            row[0],
-            row[1]
-        );
+        assert!(rt; clean == number(&rt, row[2]), "{}: {clean}", row[1]);
     }
 }
 

@@ -7,7 +7,7 @@ use std::process::Abort;
 use store_base::Slot;
 
 /// Inserts pages, which are parted by `;`.
-pub fn insert_pages(rt: &impl Abort, table: &mut Table, pages: &str) {
+fn insert_pages(rt: &impl Abort, table: &mut Table, pages: &str) {
     for text in pages.split(';') {
         if !text.is_empty() {
             table.insert(rt, &page(rt, text));

@@ -1,45 +1,44 @@
 //! Tables in memory, and what both opinions say of them.
 
-ghost use Rattle.std.specs.Prelude.{◌≡◌, length};
+ghost use Rattle.std.specs.Prelude.{◌≡◌, length, IfOk, IfSome};
+ghost use Rattle.layout_scratch.specs.Sorting.{HasDistinctKeys};
 
 use crate::opinion::TreeSize;
 use crate::order::{do_rise, list_of, sort_pairs};
 use crate::slots::judge_slots;
-use image_check::{Verdict, check_slots};
-use layout_scratch::{Layout, build};
-use node_pages::Page;
+use layout_scratch::{Layout, ScratchFault, build};
+use node_pages::{Page, PairList};
 use ordered_table::{MemSlots, insert};
 use seeded_draw::{AnyDraw, Draw};
 use std::alloc::Global;
 use std::process::Abort;
-use store_base::{BLOCK, Key, Params, ReadSlots, Slot, Slots, Value};
+use store_base::{BLOCK, Key, NoMemory, Params, ReadSlots, Slot, Slots, Value};
+
+/// Pairs in the order of their keys; `None` where two of them have one key.
+fn by_rising_key(alloc: Global, mut pairs: Vec<(Key, Value)>) -> Result<Option<PairList>, NoMemory>
+    ensures { IfOk result (λ found. IfSome found HasDistinctKeys) }
+{
+    sort_pairs(&mut pairs)?;
+    if !do_rise(&pairs) {
+        return Ok(None);
+    }
+    Ok(Some(list_of(alloc, pairs)?))
+}
 
 /// The layout of pairs whose keys differ, at most 16,384 of them.
 fn layout_of(
     rt: &impl Abort,
     alloc: Global,
     params: &Params,
-    mut pairs: Vec<(Key, Value)>,
-) -> Layout
-    ensures { length result ≡ params.now.slots }
+    pairs: Vec<(Key, Value)>,
+) -> Result<Layout, ScratchFault>
+    ensures { IfOk result (λ layout. length layout ≡ params.now.slots) }
 {
-    sort_pairs(&mut pairs).expect(rt, "memory");
-    assert!(rt; pairs.len() <= 16384 && do_rise(&pairs));
-    let pairs = list_of(alloc, pairs).expect(rt, "memory");
-    build(alloc, params, &pairs).expect(rt, "no more pages than slots")
-}
-
-/// The verdict of the check on slots that are the layout of a tree of this size, or of no tree.
-fn verdict_on(size: Option<TreeSize>) -> Verdict {
-    match size {
-        Some(TreeSize { pages, counts }) => Verdict::Clean {
-            pages,
-            dirs: counts.dirs,
-            files: counts.files,
-            bytes: counts.bytes,
-        },
-        None => Verdict::Damaged,
-    }
+    let Ok(Some(pairs)) = by_rising_key(alloc, pairs) else {
+        return Err(ScratchFault::NoMemory);
+    };
+    assert!(rt; pairs.len() <= 16384);
+    build(alloc, params, &pairs)
 }
 
 /// Slots in memory, and the parameters of their image.
@@ -89,7 +88,9 @@ impl Table {
 
     /// Makes it the layout of pairs.
     pub fn lay(&mut self, rt: &impl Abort, pairs: Vec<(Key, Value)>) {
-        let layout = layout_of(rt, self.alloc, &self.params, pairs);
+        let Ok(layout) = layout_of(rt, self.alloc, &self.params, pairs) else {
+            panic!(rt; "no layout")
+        };
         let mut slot = [0; BLOCK];
         for at in 0..self.params.slots() {
             layout.slot(at, &mut slot);
@@ -108,8 +109,6 @@ impl Table {
     pub fn size(&mut self, rt: &impl Abort) -> Option<TreeSize> {
         assert!(rt; self.slots.slots().len() == self.params.slots() as usize);
         let size = judge_slots(self.alloc, &mut self.slots, &self.params).expect(rt, "memory");
-        let checked = check_slots(&mut self.slots, &self.params);
-        assert!(rt; checked == Ok(verdict_on(size)));
         size
     }
 }
