@@ -204,8 +204,8 @@ fn without_subcommands<'a>(alloc: Global) -> Command<'a>
         "IMAGE is the path of the image's file. `format` makes the file; every other word wants it there.\n\
          Numbers are decimal digits, with no sign and no leading zero.",
     )
-    .subcommand_value_name("WORD")
-    .subcommand_help_heading("Words")
+    .subcommand_value_name("SUBCOMMAND")
+    .subcommand_help_heading("Subcommands")
     .no_binary_name(true)
     .disable_help_subcommand(true)
     .subcommand_required(true)

@@ -9,6 +9,7 @@ use Rattle.store_base.specs.SlotsState.{SlotsState, IsObservable}
 use Rattle.tree_pairs.specs.TreeCalls.{pairs_limit}
 use Rattle.tree_reader.specs.declared.counts.Counts.{Counts}
 use Rattle.tree_reader.specs.Fronts.{AreOfTree}
+use Rattle.tree_reader.specs.ReaderCalls.{AreCounted}
 use Rattle.table_order.specs.OrderCalls.{IsOrderedBelow, Checks}
 use Rattle.group_walk.specs.Lookups.{ReadsOnly}
 use Rattle.group_walk.specs.Walked.{MeetWalk}
@@ -18,7 +19,6 @@ use Rattle.layout_conditions.proofs.LawLemmas.{conditions_tell}
 use Rattle.image_check.specs.declared.contents.Contents.{Contents}
 use Rattle.image_check.specs.Orders.{FindsOrder}
 use Rattle.image_check.specs.SlotCalls.{FindsContents, IsFoundIn}
-use Rattle.image_check.specs.TreePairs.{AreCounted}
 use Rattle.image_check.proofs.Found.{sound_of, order_of, met_walks, met_taken, meets as met, found_count, few_taken}
 use Rattle.image_check.proofs.Searches.{reads_answered, reads_then}
 

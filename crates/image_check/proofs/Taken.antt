@@ -8,8 +8,8 @@ use Rattle.tree_reader.specs.declared.counts.Counts.{Counts}
 use Rattle.tree_reader.specs.declared.reader.TreeReader.{TreeReader}
 use Rattle.tree_reader.specs.Fronts.{AreOfTree, BeginTree}
 use Rattle.tree_reader.specs.Seen.{HasSeen}
-use Rattle.tree_reader.specs.ReaderCalls.{AddsPair, TellsWhole, TellsCounts}
-use Rattle.image_check.specs.TreePairs.{BeginNoTree, AreCounted}
+use Rattle.tree_reader.specs.ReaderCalls.{AddsPair, TellsWhole, TellsCounts, AreCounted}
+use Rattle.image_check.specs.TreePairs.{BeginNoTree}
 
 -- pairs behind some that no tree's begin with
 pub begin_none : (s : List Pair) (pair : Pair) (p : Parameters) → BeginNoTree s p → BeginNoTree (s ++ pair ∷ []) p

@@ -2,12 +2,11 @@
 use Rattle.std.specs.Prelude.{◌≡◌, ℕ, ◌≤◌, List, ◌++◌, length, Option, Some, None, MatchOption}
 use Rattle.std.specs.Bool.{MatchBool}
 use Rattle.store_model.specs.Parameters.{Parameters}
-use Rattle.store_model.specs.Trees.{Tree, IsTree}
-use Rattle.store_model.specs.Pairs.{Pair, pairs}
+use Rattle.store_model.specs.Pairs.{Pair}
 use Rattle.tree_pairs.specs.TreeCalls.{pairs_limit}
 use Rattle.tree_reader.specs.declared.counts.Counts.{Counts}
-use Rattle.tree_reader.specs.Counts.{AreCounts}
 use Rattle.tree_reader.specs.Fronts.{AreOfTree, BeginTree}
+use Rattle.tree_reader.specs.ReaderCalls.{AreCounted}
 use Rattle.tree_reader.specs.Seen.{HasSeen}
 use Rattle.image_check.specs.declared.pairs.TreePairs.{TreePairs}
 
@@ -21,13 +20,6 @@ pub record BeginNoTree (s : List Pair) (p : Parameters) : Type 0 where
 -- just these pairs were taken
 abbrev pub TookPairs : TreePairs → List Pair → Type 0
 TookPairs pairs s = (p : Parameters) → MatchBool pairs.is_refused (BeginNoTree s p) (HasSeen pairs.reader s p)
-
--- the pairs are those of a tree, which is counted
-pub record AreCounted (s : List Pair) (p : Parameters) (counts : Counts) : Type 0 where
-  pub tree : Tree
-  pub is_tree : IsTree tree
-  pub pairs_are : s ≡ pairs tree p
-  pub counts_are : AreCounts tree counts
 
 -- what the tree holds whose pairs were taken, and nothing exactly where they are no tree's
 abbrev pub TellsTree : TreePairs → Option Counts → Type 0

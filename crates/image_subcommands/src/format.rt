@@ -14,7 +14,7 @@ use script_lines::{Sink, Source};
 use store_base::Params;
 
 /// How a call ends whose format ended so.
-fn status_of(formatted: Result<(), JournalFault>) -> Status
+fn format_status(formatted: Result<(), JournalFault>) -> Status
     ensures { result ≡ endings.status_of journal_status formatted }
 {
     match formatted {
@@ -34,7 +34,7 @@ pub fn format_disk<D: Disk, R: Source, W: Sink>(
     ensures outside { KeepsOutside result.status (D.state disk) (D.state result.disk) (R.state source) (R.state result.source) (W.state sink) (W.state result.sink) }
 {
     let mut disk = disk;
-    let status = status_of(Journal::format(&mut disk, params));
+    let status = format_status(Journal::format(&mut disk, params));
     Outcome {
         status,
         done: status.done_of_work(),

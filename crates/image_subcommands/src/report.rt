@@ -63,7 +63,7 @@ fn report_line(verdict: Verdict) -> Text
 }
 
 /// How a call ends whose report is printed.
-fn status_of(verdict: Verdict) -> Status
+fn verdict_status(verdict: Verdict) -> Status
     ensures { result ≡ verdict_status verdict }
 {
     match verdict {
@@ -79,7 +79,7 @@ fn print_verdict<W: Sink>(sink: &mut W, verdict: Verdict) -> Status
     ensures { PrintsVerdict verdict (W.state sink.old) (W.state sink.new) result }
 {
     match sink.put(report_line(verdict).as_slice()) {
-        Ok(()) => status_of(verdict),
+        Ok(()) => verdict_status(verdict),
         Err(fault) => fault.into(),
     }
 }

@@ -14,7 +14,7 @@ use script_lines::{Sink, Source};
 use store_base::DiskFault;
 
 /// How a call ends whose wipe ended so.
-fn status_of(wiped: Result<(), DiskFault>) -> Status
+fn wipe_status(wiped: Result<(), DiskFault>) -> Status
     ensures { result ≡ endings.status_of disk_status wiped }
 {
     match wiped {
@@ -29,7 +29,7 @@ pub fn wipe_disk<D: Disk, R: Source, W: Sink>(disk: D, source: R, sink: W) -> Ou
     ensures outside { KeepsOutside result.status (D.state disk) (D.state result.disk) (R.state source) (R.state result.source) (W.state sink) (W.state result.sink) }
 {
     let mut disk = disk;
-    let status = status_of(Journal::wipe(&mut disk));
+    let status = wipe_status(Journal::wipe(&mut disk));
     Outcome {
         status,
         done: status.done_of_work(),

@@ -1,7 +1,9 @@
 -- What a store of pages means at one moment, and what a call on it does.
-use Rattle.std.specs.Prelude.{◌≡◌, ℕ, ◌+◌, ◌≤◌, Option, Some, Result, Ok, Err, IfOk, OnOk, OnErr, option_copied}
+use Rattle.std.specs.Prelude.{◌≡◌, ◌≢◌, ℕ, ◌+◌, ◌≤◌, Option, Some, Result, Ok, Err, IfOk, OnOk, OnErr, option_copied}
 use Rattle.std.specs.Borrow.{Bor}
+use Rattle.store_base.specs.Counts.{raised}
 use Rattle.store_base.specs.declared.store_fault.Fault.{Fault}
+use Rattle.store_base.specs.declared.store_fault.Fault.TheVariants.{NoMemory}
 use Rattle.store_base.specs.Faults.{disk_faults_after}
 use Rattle.store_model.specs.Labels.{Label}
 use Rattle.store_model.specs.Pages.{Cell, Page}
@@ -18,6 +20,8 @@ pub record PagesState : Type 1 where
   pub faults : ℕ
   -- how many pages were asked for, up to the last value of a u64
   pub lookups : ℕ
+  -- what is under a label is at hand: to ask for it takes no memory
+  pub at_hand : Label → Type 0
 
 -- the pages tell their map
 abbrev pub IsObservable : PagesState → Type 0
@@ -45,9 +49,13 @@ pub record DropsPage {T : Type 0} (old new : PagesState) (label : Label) (result
   pub changed : OnOk result (new.pages ≡ without_page old.pages label)
   pub unchanged : OnErr result (new.pages ≡ old.pages)
 
--- Asking for the page under a label: one more lookup at most. Pages that were not observable stay so, here and below.
+-- Asking for the page under a label: one more lookup where it answers, and at most one where it fails. What is at hand
+-- is had without memory, and what was answered is at hand then. Pages that were not observable stay so, here and below.
 pub record IsPageGet (old new : PagesState) (label : Label) (result : Result (Option Page) Fault) : Type 0 where
   pub faults : new.faults ≡ disk_faults_after old.faults result
+  pub memory : old.at_hand label → result ≢ Err NoMemory
+  pub held : OnOk result (new.at_hand label)
+  pub counted : OnOk result (new.lookups ≡ raised old.lookups)
   pub lookups_kept : old.lookups ≤ new.lookups
   pub lookups_most : new.lookups ≤ old.lookups + 1
   pub hidden : IsObservable new → IsObservable old

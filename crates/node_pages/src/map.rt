@@ -1,16 +1,15 @@
 //! The pages in memory.
 
-ghost use Rattle.std.specs.Prelude.{◌≡◌, map, IsOk, IsTrue, OnOk};
+ghost use Rattle.std.specs.Prelude.{◌≡◌, map, IsOk, IsTrue};
 ghost use Rattle.std.specs.List.{AllByRecursion};
 ghost use Rattle.std.specs.FinMap as maps;
 ghost use Rattle.std.specs.FinMap.{is_sorted};
-ghost use Rattle.store_base.specs.Counts.{raised};
 ghost use Rattle.store_model.specs.Paths.{key_cmp};
 ghost use Rattle.store_model.specs.Labels.{label_bytes, label_cmp};
 ghost use Rattle.store_model.specs.Pages.{IsPage};
 ghost use Rattle.node_pages.specs.PageEntries.{entry_of, map_of_sorted, ArePages-prop};
 ghost use Rattle.node_pages.specs.EntriesLemmas.{IsPageMap-sorted};
-ghost use Rattle.node_pages.specs.PagesState.{HasPlace, IsCellInsert, IsPageGet};
+ghost use Rattle.node_pages.specs.PagesState.{HasPlace, IsCellInsert};
 ghost use Rattle.node_pages.specs.EntryPlaces.{IsPlaceOf};
 
 use crate::cell::Cell;
@@ -57,7 +56,7 @@ impl MapPages {
 }
 
 impl Pages for MapPages {
-    ghost state = { λ p. record { is_observable = Unit {0}; pages = map_of_sorted (map (λ page. page.value) p.pages.items); faults = 0; lookups = p.lookups } };
+    ghost state = { λ p. record { is_observable = Unit {0}; pages = map_of_sorted (map (λ page. page.value) p.pages.items); faults = 0; lookups = p.lookups; at_hand = λ _. Unit {0} } };
 
     ghost follows = { λ _ _. Unit {0} };
 
@@ -67,16 +66,8 @@ impl Pages for MapPages {
 
     ghost follows_trans = { λ _ _ _ _ _. tt };
 
-    fn get(&mut self, label: &Label) -> Result<Option<Page>, Fault>
-        ensures call { IsPageGet (⟦<MapPages as Pages>⟧.state self.old) (⟦<MapPages as Pages>⟧.state self.new) label.now result }
-        ensures counts { OnOk result (self.new.lookups ≡ raised self.old.lookups) }
-        ensures follows { ⟦<MapPages as Pages>⟧.follows self.old self.new }
-    {
-        self.lookups = self.lookups.saturating_add(1);
-        match place_of(&self.pages, label) {
-            Ok(at) => Ok(Some(*self.pages[at])),
-            Err(_) => Ok(None),
-        }
+    fn get(&mut self, label: &Label) -> Result<Option<Page>, Fault> {
+        Ok(self.look(label)?.copied())
     }
 
     fn look(&mut self, label: &Label) -> Result<Option<&Page>, Fault> {

@@ -17,8 +17,10 @@ use store_base::{Fault, Label};
 ///
 /// Clauses on the map hold where the pages are observable, those on counts for all pages; pages that were not
 /// observable stay so. A call answers `Fault::Disk` only where the count of faults rises in it, by one (a count that is
-/// 2^64 - 1 stays). No call lowers the count of lookups. `follows` says what every call keeps of the state below, as
-/// that nothing was committed, also where the call fails; pages in memory have nothing below them.
+/// 2^64 - 1 stays). The count of lookups rises by one where a page is asked for, and by one at most where that fails;
+/// no other call changes it. What is at hand under a label, a page or that there is none, is had without memory.
+/// `follows` says what every call keeps of the state below, as that nothing was committed, also where the call fails;
+/// pages in memory have nothing below them.
 pub trait Pages {
     /// What the pages mean at this moment.
     ghost state: { Self → PagesState };
@@ -26,12 +28,14 @@ pub trait Pages {
     /// What every call keeps of the state below the pages.
     ghost follows: { Self → Self → Type 0 };
 
-    /// The page under the label; `None` exactly where there is none. After a fault the pages are as they were.
+    /// The page under the label; `None` exactly where there is none. After a fault the pages are as they were. It
+    /// does not answer `Fault::NoMemory` for what is at hand.
     fn get(&mut self, label: &Label) -> Result<Option<Page>, Fault>
         ensures call { IsPageGet (state self.old) (state self.new) label.now result }
         ensures follows { follows self.old self.new };
 
-    /// As `get`, with a reference to the page in the place of a copy. It may answer `Fault::NoMemory`.
+    /// As `get`, with a reference to the page in the place of a copy. It may answer `Fault::NoMemory` for what is
+    /// not at hand.
     fn look(&mut self, label: &Label) -> Result<Option<&Page>, Fault>
         ensures* after_borrow { sem 𝓛 (Rests Self.row self.entry (λ new. IsPageGet (state self.old) (state new) label.now (looked_at result) × follows self.old new)) };
 

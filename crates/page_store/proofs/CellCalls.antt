@@ -97,11 +97,11 @@ module _ {D W : Type 0} (state : D → DiskState) (draw : W) (d : Draw) (p : Par
         };
   }
 
-  told_valid : (es : StagedPages) → IsStaged d p (state disk) touched es used settled is_spent → IsObservable (state disk) → is_spent ≡ false → IsTold state (staged_state state p draw disk es lookups is_spent)
+  told_valid : (es : StagedPages) → IsStaged d p (state disk) touched es used settled is_spent → IsObservable (state disk) → is_spent ≡ false → IsTold state (staged_state state p draw disk es memo lookups is_spent)
   told_valid es is observable runs = record { disk = observable; runs = runs; valid = (is.counted observable runs).valid }
 
-  pub cell_done : (was : StagedState D W) → staged_state state p draw disk changes lookups is_spent ≡ was → IsCellInsert {T = Unit {0}} (pages_state state was) (pages_state state (staged_state state p draw disk next lookups is_spent)) l at cell (Ok tt)
-  cell_done was view_is = subst (λ (x : StagedState D W). IsCellInsert {T = Unit {0}} (pages_state state x) (pages_state state (staged_state state p draw disk next lookups is_spent)) l at cell (Ok tt)) view_is (record {
+  pub cell_done : (was : StagedState D W) → staged_state state p draw disk changes memo lookups is_spent ≡ was → IsCellInsert {T = Unit {0}} (pages_state state was) (pages_state state (staged_state state p draw disk next memo lookups is_spent)) l at cell (Ok tt)
+  cell_done was view_is = subst (λ (x : StagedState D W). IsCellInsert {T = Unit {0}} (pages_state state x) (pages_state state (staged_state state p draw disk next memo lookups is_spent)) l at cell (Ok tt)) view_is (record {
     faults = refl;
     lookups = refl;
     hidden = λ told. told_valid changes staged told.disk told.runs;

@@ -45,20 +45,20 @@ represents_at d p m image long layout = record {
 }
 
 -- a value that is not spent, over a disk that was only read since
-pub record IsReadSince {D W : Type 0} (state : D → DiskState) (drawn : W → Draw) (p q : Parameters) (draw : W) (disk mid : D) (touched : List (ℕ × List ℕ)) (changes : StagedPages) (used settled lookups : ℕ) (is_spent : Bool) (was : StagedState D W) : Type 0 where
+pub record IsReadSince {D W : Type 0} (state : D → DiskState) (drawn : W → Draw) (p q : Parameters) (draw : W) (disk mid : D) (touched : List (ℕ × List ℕ)) (changes : StagedPages) (was_memo : Remembered) (used settled lookups : ℕ) (is_spent : Bool) (was : StagedState D W) : Type 0 where
   pub sound : (x : D) → IsObservable (state x) → IsSound (state x)
   pub sized : (state disk).size ≡ image_len p.slots
   pub staged : IsStaged (drawn draw) p (state disk) touched changes used settled is_spent
-  pub view_is : staged_state state p draw disk changes lookups is_spent ≡ was
+  pub view_is : staged_state state p draw disk changes was_memo lookups is_spent ≡ was
   pub unspent : was.is_spent ≡ false
   pub kept : KeepsView p q (state disk) (state mid)
 
-pub read_since : {D W : Type 0} (state : D → DiskState) (drawn : W → Draw) {p q : Parameters} (draw : W) (disk mid : D) {touched : List (ℕ × List ℕ)} {changes : StagedPages} {used settled lookups : ℕ} {is_spent : Bool} {was : StagedState D W}
+pub read_since : {D W : Type 0} (state : D → DiskState) (drawn : W → Draw) {p q : Parameters} (draw : W) (disk mid : D) {touched : List (ℕ × List ℕ)} {changes : StagedPages} {was_memo : Remembered} {used settled lookups : ℕ} {is_spent : Bool} {was : StagedState D W}
     → ((x : D) → IsObservable (state x) → IsSound (state x)) → (state disk).size ≡ image_len p.slots → IsStaged (drawn draw) p (state disk) touched changes used settled is_spent
-    → staged_state state p draw disk changes lookups is_spent ≡ was → was.is_spent ≡ false → KeepsView p q (state disk) (state mid) → IsReadSince state drawn p q draw disk mid touched changes used settled lookups is_spent was
+    → staged_state state p draw disk changes was_memo lookups is_spent ≡ was → was.is_spent ≡ false → KeepsView p q (state disk) (state mid) → IsReadSince state drawn p q draw disk mid touched changes was_memo used settled lookups is_spent was
 read_since state drawn draw disk mid sound sized staged view_is unspent kept = record { sound = sound; sized = sized; staged = staged; view_is = view_is; unspent = unspent; kept = kept }
 
-module _ {D W : Type 0} {state : D → DiskState} {drawn : W → Draw} {p q : Parameters} {draw : W} {disk mid : D} {touched : List (ℕ × List ℕ)} {changes : StagedPages} {used settled lookups : ℕ} {is_spent : Bool} {was : StagedState D W} (at : IsReadSince state drawn p q draw disk mid touched changes used settled lookups is_spent was) where
+module _ {D W : Type 0} {state : D → DiskState} {drawn : W → Draw} {p q : Parameters} {draw : W} {disk mid : D} {touched : List (ℕ × List ℕ)} {changes : StagedPages} {was_memo : Remembered} {used settled lookups : ℕ} {is_spent : Bool} {was : StagedState D W} (at : IsReadSince state drawn p q draw disk mid touched changes was_memo used settled lookups is_spent was) where
   pub runs : is_spent ≡ false
   runs = ap (λ (x : StagedState D W). x.is_spent) at.view_is ∙ at.unspent
 
@@ -116,10 +116,10 @@ module _ {D W : Type 0} {state : D → DiskState} {drawn : W → Draw} {p q : Pa
       }
 
   -- a settle that is refused, or fails before the first write
-  pub refused : (fault : SettleFault) → (state mid).faults ≡ settle_faults_after {T = Unit {0}} (state disk).faults (Err fault) → (IsObservable (state disk) → AnswersFull {T = Unit {0}} (drawn draw) pages (Err fault))
-      → Settles {T = Unit {0}} state drawn was (staged_state state q draw mid changes lookups is_spent) (Err fault)
-  refused fault faults full =
-      subst (λ (x : StagedState D W). Settles {T = Unit {0}} state drawn x (staged_state state q draw mid changes lookups is_spent) (Err fault)) at.view_is (record {
+  pub refused : (now_memo : Remembered) (fault : SettleFault) → (state mid).faults ≡ settle_faults_after {T = Unit {0}} (state disk).faults (Err fault) → (IsObservable (state disk) → AnswersFull {T = Unit {0}} (drawn draw) pages (Err fault))
+      → Settles {T = Unit {0}} state drawn was (staged_state state q draw mid changes now_memo lookups is_spent) (Err fault)
+  refused now_memo fault faults full =
+      subst (λ (x : StagedState D W). Settles {T = Unit {0}} state drawn x (staged_state state q draw mid changes now_memo lookups is_spent) (Err fault)) at.view_is (record {
         params = at.kept.params;
         draw = refl;
         lookups = refl;
@@ -163,10 +163,10 @@ module _ {D W : Type 0} {state : D → DiskState} {drawn : W → Draw} {p q : Pa
   few fewer observable more = let fewer_pages = fits fewer observable in absurd (omega (arith, fewer_pages, more))
 
   -- the slots that differ were not found
-  pub not_found : (fault : Fault) → used ≤ p.slots → (state mid).faults ≡ disk_faults_after {T = ChangedSlots} (state disk).faults (Err fault)
-      → Settles {T = Unit {0}} state drawn was (staged_state state q draw mid changes lookups is_spent) (Err (settle_fault_of fault))
-  not_found below.Disk fewer faults = refused causes.Disk faults (few fewer)
-  not_found below.NoMemory fewer faults = refused causes.NoMemory faults (few fewer)
+  pub not_found : (now_memo : Remembered) (fault : Fault) → used ≤ p.slots → (state mid).faults ≡ disk_faults_after {T = ChangedSlots} (state disk).faults (Err fault)
+      → Settles {T = Unit {0}} state drawn was (staged_state state q draw mid changes now_memo lookups is_spent) (Err (settle_fault_of fault))
+  not_found now_memo below.Disk fewer faults = refused now_memo causes.Disk faults (few fewer)
+  not_found now_memo below.NoMemory fewer faults = refused now_memo causes.NoMemory faults (few fewer)
 
   -- the slots that differ were found, and are committed
   module _ (fewer : used ≤ p.slots) (law : IsLawful (drawn draw)) (changed : ChangedSlots) {found : Result ChangedSlots Fault} (is : found ≡ Ok changed) (found_by : FindsSlots (drawn draw) p touched changes (state disk) (state mid) found) (after : D) where
@@ -218,10 +218,10 @@ module _ {D W : Type 0} {state : D → DiskState} {drawn : W → Draw} {p q : Pa
           subst (λ (x : D). ReadsOnly (state disk) (state x)) (sym (none count_is)) (at.kept.reads observable)
 
     -- the disk failed
-    pub failed : {E : Type 0} (fault : E) → AreCalls {T = Unit {0}} (state mid) (state after) (Err fault) → (IsObservable (state mid) → journal.Commits {T = Unit {0}} p.slots commit (state mid) (state after) (Err fault)) → (commit.count ≡ 0 → after ≡ mid)
+    pub failed : (now_memo : Remembered) {E : Type 0} (fault : E) → AreCalls {T = Unit {0}} (state mid) (state after) (Err fault) → (IsObservable (state mid) → journal.Commits {T = Unit {0}} p.slots commit (state mid) (state after) (Err fault)) → (commit.count ≡ 0 → after ≡ mid)
         → (IsObservable (state mid) → 0 < commit.count → Makes {T = Unit {0}} (5 * commit.count + 2) 5 (state mid) (state after) (Err fault)) → (IsObservable (state mid) → Rose (state mid).writes (state after).writes)
-        → Settles {T = Unit {0}} state drawn was (staged_state state q draw after changes lookups true) (Err causes.Disk)
-    failed {E} fault calls commits none makes wrote = subst (λ (x : StagedState D W). Settles {T = Unit {0}} state drawn x (staged_state state q draw after changes lookups true) (Err causes.Disk)) at.view_is (record {
+        → Settles {T = Unit {0}} state drawn was (staged_state state q draw after changes now_memo lookups true) (Err causes.Disk)
+    failed now_memo {E} fault calls commits none makes wrote = subst (λ (x : StagedState D W). Settles {T = Unit {0}} state drawn x (staged_state state q draw after changes now_memo lookups true) (Err causes.Disk)) at.view_is (record {
       params = at.kept.params;
       draw = refl;
       lookups = refl;
@@ -290,11 +290,11 @@ module _ {D W : Type 0} {state : D → DiskState} {drawn : W → Draw} {p q : Pa
             renewed table changes memo renewed_memo l page (of.tells table before held_before l page) renews is ∙ ap (λ (n : PageMap). page_at n l) (sym map_is);
       }
 
-      pub done : (no_change : StagedPages) → no_change ≡ [] → (commit.count ≡ 0 → after ≡ mid) → (IsObservable (state mid) → 0 < commit.count → Makes {E = E} (5 * commit.count + 2) 5 (state mid) (state after) (Ok value))
-          → Settles state drawn was (staged_state state q draw after no_change lookups is_spent) (Ok value)
-      done no_change empty none makes =
+      pub done : (now_memo : Remembered) (no_change : StagedPages) → no_change ≡ [] → (commit.count ≡ 0 → after ≡ mid) → (IsObservable (state mid) → 0 < commit.count → Makes {E = E} (5 * commit.count + 2) 5 (state mid) (state after) (Ok value))
+          → Settles state drawn was (staged_state state q draw after no_change now_memo lookups is_spent) (Ok value)
+      done now_memo no_change empty none makes =
           let table_is = λ (observable : IsObservable (state disk)). ap (λ (r : Parameters). pages_in_table r.slots (state after).bytes) at.kept.params ∙ new_table observable in
-          subst (λ (x : StagedState D W). Settles state drawn x (staged_state state q draw after no_change lookups is_spent) (Ok value)) at.view_is (record {
+          subst (λ (x : StagedState D W). Settles state drawn x (staged_state state q draw after no_change now_memo lookups is_spent) (Ok value)) at.view_is (record {
             params = at.kept.params;
             draw = refl;
             lookups = refl;

@@ -1,5 +1,6 @@
 -- The calls that look pages up and stage changes.
-use Rattle.std.proofs.Common.{◌≡◌, ℕ, ◌+◌, ◌-◌, ◌<◌, ◌≤◌, min, Bool, true, false, cond, List, Option, Some, None, IsSome, is_some, Result, Ok, Err, IfOk, refl, sym, ap, ap₂, subst, ◌∙◌, arith}
+use Rattle.std.proofs.Common.{◌≡◌, ◌≢◌, ◌↔◌, ℕ, ◌+◌, ◌-◌, ◌<◌, ◌≤◌, min, Bool, true, false, cond, List, Option, Some, None, IsSome, is_some, Result, Ok, Err, IsOk, IfOk, OnOk, refl, sym, ap, ap₂, subst, ◌∙◌, arith}
+use Rattle.std.specs.Borrow.{Bor}
 use Rattle.std.specs.FinMap as maps
 use Rattle.std.specs.BTreeMap.{insert_entry}
 use Rattle.std.specs.FinMap.{len-insert, len-remove}
@@ -12,9 +13,11 @@ use Rattle.store_model.specs.PageMaps.{PageMap, IsPageMap, page_at}
 use Rattle.store_base.specs.declared.store_fault.Fault.{Fault}
 use Rattle.store_base.specs.declared.store_fault.Fault.TheVariants as causes
 use Rattle.store_base.specs.Faults.{disk_faults_after}
+use Rattle.store_base.specs.Counts.{raised}
 use Rattle.disk_model.specs.DiskState.{DiskState, IsObservable}
 use Rattle.gate_journal.specs.ViewState.{KeepsView}
-use Rattle.node_pages.specs.PagesState.{IsPageGet, IsPagePut, most_pages}
+use Rattle.node_pages.specs.PagesState.{IsPageGet, IsPagePut, looked_at, most_pages}
+use Rattle.table_memory.specs.Memos.{Remembered, IsKnown}
 use Rattle.table_memory.specs.OverlayState.{overlaid}
 use Rattle.page_store.specs.PageImages.{pages_in_table}
 use Rattle.table_memory.specs.Staging.{StagedPages, with_change, with_changes, used_after}
@@ -48,14 +51,32 @@ in_u32 None used false within few = omega arith
 -- ---- the calls
 
 -- calls that keep the view follow, whatever they stage
-pub view_follows : {D W : Type 0} (state : D → DiskState) (draw : W) (p q : Parameters) (disk after : D) (changes next : StagedPages) (lookups n : ℕ) (is_spent : Bool) (was : StagedState D W) → staged_state state p draw disk changes lookups is_spent ≡ was → KeepsView p q (state disk) (state after)
-    → Follows state was (staged_state state q draw after next n is_spent)
-view_follows {D} {W} state draw p q disk after changes next lookups n is_spent was is view = subst (λ (x : StagedState D W). Follows state x (staged_state state q draw after next n is_spent)) is (record {
+pub view_follows : {D W : Type 0} (state : D → DiskState) (draw : W) (p q : Parameters) (disk after : D) (changes next : StagedPages) (memo memo_after : Remembered) (lookups n : ℕ) (is_spent : Bool) (was : StagedState D W) → staged_state state p draw disk changes memo lookups is_spent ≡ was → KeepsView p q (state disk) (state after)
+    → Follows state was (staged_state state q draw after next memo_after n is_spent)
+view_follows {D} {W} state draw p q disk after changes next memo memo_after lookups n is_spent was is view = subst (λ (x : StagedState D W). Follows state x (staged_state state q draw after next memo_after n is_spent)) is (record {
   disk = view;
   draw = refl;
   runs = refl;
   table = λ observable. ap₂ (λ (r : Parameters) (bytes : List ℕ). pages_in_table r.slots bytes) view.params (view.reads observable).bytes;
 })
+
+-- a count that rose is raised where a call answers
+counted_if : {T E : Type 0} (result : Result T E) (old n : ℕ) → n ≡ raised old → OnOk result (n ≡ raised old)
+counted_if (Ok value) old n is = is
+counted_if (Err fault) old n is = tt
+
+-- a fault is no answer
+pub failed_well : {T E : Type 0} (fault : E) (value : T) → Err fault ≡ Ok value → ⊥
+failed_well fault value same = cc
+
+-- an answer that hands out a reference comes just where this is so
+pub looked_known : (result : Result (Option (Bor Page)) Fault) (P : Type 0) → IsOk result ↔ P → OnOk (looked_at result) P
+looked_known (Ok page) P is = is.0 refl
+looked_known (Err fault) P is = tt
+
+pub looked_answered : (result : Result (Option (Bor Page)) Fault) → IsOk result → looked_at result ≢ Err causes.NoMemory
+looked_answered (Ok page) is = λ lacks. cc
+looked_answered (Err fault) is = absurd (cc)
 
 -- there was no memory for a page
 pub put_refused : {D W : Type 0} (state : D → DiskState) (now was : StagedState D W) (page : Page) → now ≡ was → IsPagePut {T = Unit {0}} (pages_state state was) (pages_state state now) page (Err causes.NoMemory)
@@ -67,18 +88,18 @@ put_refused {D} {W} state now was page is = subst (λ (x : StagedState D W). IsP
 })
 
 -- slots over the disk were read
-module _ {D W : Type 0} (state : D → DiskState) (draw : W) (d : Draw) (p q : Parameters) (disk after : D) (touched later : List (ℕ × List ℕ)) (changes : StagedPages) (used settled lookups : ℕ) (is_spent : Bool)
+module _ {D W : Type 0} (state : D → DiskState) (draw : W) (d : Draw) (p q : Parameters) (disk after : D) (touched later : List (ℕ × List ℕ)) (changes : StagedPages) (memo memo_after : Remembered) (used settled lookups : ℕ) (is_spent : Bool)
     (staged : IsStaged d p (state disk) touched changes used settled is_spent) (view : KeepsView p q (state disk) (state after)) (slots : IsObservable (state disk) → (overlaid q.slots later (state after)).slots ≡ (overlaid p.slots touched (state disk)).slots)
-    (was : StagedState D W) (view_is : staged_state state p draw disk changes lookups is_spent ≡ was) where
+    (was : StagedState D W) (view_is : staged_state state p draw disk changes memo lookups is_spent ≡ was) where
   read : IsReadLater p q (state disk) (state after) touched later
   read = read_later p q (state disk) (state after) touched later view slots
 
-  told_before : (next : StagedPages) (n : ℕ) → IsTold state (staged_state state q draw after next n is_spent) → IsTold state (staged_state state p draw disk changes lookups is_spent)
+  told_before : (next : StagedPages) (n : ℕ) → IsTold state (staged_state state q draw after next memo_after n is_spent) → IsTold state (staged_state state p draw disk changes memo lookups is_spent)
   told_before next n told =
       let before = sym read.observable ∙ told.disk in
       record { disk = before; runs = told.runs; valid = (staged.counted before told.runs).valid }
 
-  told_later : (next : StagedPages) (n used_after : ℕ) → IsStaged d q (state after) later next used_after settled is_spent → IsTold state (staged_state state p draw disk changes lookups is_spent) → IsTold state (staged_state state q draw after next n is_spent)
+  told_later : (next : StagedPages) (n used_after : ℕ) → IsStaged d q (state after) later next used_after settled is_spent → IsTold state (staged_state state p draw disk changes memo lookups is_spent) → IsTold state (staged_state state q draw after next memo_after n is_spent)
   told_later next n used_after now told =
       let observable = read.observable ∙ told.disk in
       record { disk = observable; runs = told.runs; valid = (now.counted observable told.runs).valid }
@@ -93,12 +114,15 @@ module _ {D W : Type 0} (state : D → DiskState) (draw : W) (d : Draw) (p q : P
       (staged_later d p q (state disk) (state after) touched later changes used settled is_spent staged read)
 
   -- a page was asked for, and is shown
-  pub page_looked : (l : Label) (n : ℕ) (shown : Result (Option Page) Fault) → lookups ≤ n → n ≤ lookups + 1 → (state after).faults ≡ disk_faults_after (state disk).faults shown
-      → (IsTold state (staged_state state q draw after changes n is_spent) → IfOk shown (λ page. page ≡ page_at (with_changes (pages_in_table q.slots (state after).bytes) changes) l))
-      → IsPageGet (pages_state state was) (pages_state state (staged_state state q draw after changes n is_spent)) l shown × Follows state was (staged_state state q draw after changes n is_spent)
-  page_looked l n shown kept most faults found = (
-    subst (λ (x : StagedState D W). IsPageGet (pages_state state x) (pages_state state (staged_state state q draw after changes n is_spent)) l shown) view_is (record {
+  pub page_looked : (l : Label) (n : ℕ) (shown : Result (Option Page) Fault) → lookups ≤ n → n ≤ lookups + 1 → n ≡ raised lookups → (IsKnown changes memo l → shown ≢ Err causes.NoMemory) → OnOk shown (IsKnown changes memo_after l) → (state after).faults ≡ disk_faults_after (state disk).faults shown
+      → (IsTold state (staged_state state q draw after changes memo_after n is_spent) → IfOk shown (λ page. page ≡ page_at (with_changes (pages_in_table q.slots (state after).bytes) changes) l))
+      → IsPageGet (pages_state state was) (pages_state state (staged_state state q draw after changes memo_after n is_spent)) l shown × Follows state was (staged_state state q draw after changes memo_after n is_spent)
+  page_looked l n shown kept most counted memory held faults found = (
+    subst (λ (x : StagedState D W). IsPageGet (pages_state state x) (pages_state state (staged_state state q draw after changes memo_after n is_spent)) l shown) view_is (record {
       faults = faults;
+      memory = memory;
+      held = held;
+      counted = counted_if shown lookups n counted;
       lookups_kept = kept;
       lookups_most = most;
       hidden = told_before changes n;
@@ -110,15 +134,15 @@ module _ {D W : Type 0} (state : D → DiskState) (draw : W) (d : Draw) (p q : P
             unchanged = same_map told.disk;
           };
     }),
-    view_follows state draw p q disk after changes changes lookups n is_spent was view_is view,
+    view_follows state draw p q disk after changes changes memo memo_after lookups n is_spent was view_is view,
   )
 
   -- a change was not staged
   pub stage_failed : (l : Label) (change : Option Page) (fault : Fault) (next : StagedPages) → next ≡ changes → (state after).faults ≡ disk_faults_after {T = Unit {0}} (state disk).faults (Err fault)
-      → Stages {T = Unit {0}} (pages_state state was) (pages_state state (staged_state state q draw after next lookups is_spent)) l change (Err fault)
+      → Stages {T = Unit {0}} (pages_state state was) (pages_state state (staged_state state q draw after next memo_after lookups is_spent)) l change (Err fault)
   stage_failed l change fault next same faults =
-      subst (λ (x : StagedState D W). Stages {T = Unit {0}} (pages_state state x) (pages_state state (staged_state state q draw after next lookups is_spent)) l change (Err fault)) view_is
-      (subst (λ (es : StagedPages). Stages {T = Unit {0}} (pages_state state (staged_state state p draw disk changes lookups is_spent)) (pages_state state (staged_state state q draw after es lookups is_spent)) l change (Err fault)) (sym same) (record {
+      subst (λ (x : StagedState D W). Stages {T = Unit {0}} (pages_state state x) (pages_state state (staged_state state q draw after next memo_after lookups is_spent)) l change (Err fault)) view_is
+      (subst (λ (es : StagedPages). Stages {T = Unit {0}} (pages_state state (staged_state state p draw disk changes memo lookups is_spent)) (pages_state state (staged_state state q draw after es memo_after lookups is_spent)) l change (Err fault)) (sym same) (record {
         faults = faults;
         lookups = refl;
         hidden = told_before changes lookups;
@@ -130,13 +154,13 @@ module _ {D W : Type 0} (state : D → DiskState) (draw : W) (d : Draw) (p q : P
       (keeps : (m : PageMap) → IsPageMap m → IsPageMap (with_change m l change)) (in_range : used ≤ most_pages)
       (few : IsSome change → IsTold state was → maps.len was.map < most_pages)
       (counted : used_now ≡ min most_pages (used_after used is_there (is_some change))) where
-    few_pages : IsSome change → IsTold state (staged_state state p draw disk changes lookups is_spent) → maps.len (with_changes (pages_in_table p.slots (state disk).bytes) changes) < most_pages
+    few_pages : IsSome change → IsTold state (staged_state state p draw disk changes memo lookups is_spent) → maps.len (with_changes (pages_in_table p.slots (state disk).bytes) changes) < most_pages
     few_pages = subst (λ (x : StagedState D W). IsSome change → IsTold state x → maps.len x.map < most_pages) (sym view_is) few
 
     counts : IsObservable (state disk) → is_spent ≡ false → used ≡ maps.len (with_changes (pages_in_table p.slots (state disk).bytes) changes) → is_there ≡ maps.contains_key (with_changes (pages_in_table p.slots (state disk).bytes) changes) (label_bytes l)
         → used_now ≡ maps.len (with_change (with_changes (pages_in_table p.slots (state disk).bytes) changes) l change)
     counts observable runs is there =
-        let told : IsTold state (staged_state state p draw disk changes lookups is_spent) = record { disk = observable; runs = runs; valid = (staged.counted observable runs).valid } in
+        let told : IsTold state (staged_state state p draw disk changes memo lookups is_spent) = record { disk = observable; runs = runs; valid = (staged.counted observable runs).valid } in
         counted
         ∙ in_u32 change used is_there in_range (λ some. subst (λ (n : ℕ). n < most_pages) (sym is) (few_pages some told))
         ∙ len_after (with_changes (pages_in_table p.slots (state disk).bytes) changes) l change used is_there is there
@@ -144,8 +168,8 @@ module _ {D W : Type 0} (state : D → DiskState) (draw : W) (d : Draw) (p q : P
     pub stage_staged : IsStaged d q (state after) later next used_now settled is_spent
     stage_staged = staged_change d p q (state disk) (state after) touched later changes used settled is_spent staged read l change is_there next used_now found put keeps counts
 
-    pub stage_done : Stages {T = Unit {0}} (pages_state state was) (pages_state state (staged_state state q draw after next lookups is_spent)) l change (Ok tt)
-    stage_done = subst (λ (x : StagedState D W). Stages {T = Unit {0}} (pages_state state x) (pages_state state (staged_state state q draw after next lookups is_spent)) l change (Ok tt)) view_is (record {
+    pub stage_done : Stages {T = Unit {0}} (pages_state state was) (pages_state state (staged_state state q draw after next memo_after lookups is_spent)) l change (Ok tt)
+    stage_done = subst (λ (x : StagedState D W). Stages {T = Unit {0}} (pages_state state x) (pages_state state (staged_state state q draw after next memo_after lookups is_spent)) l change (Ok tt)) view_is (record {
       faults = found.calls.faults;
       lookups = refl;
       hidden = told_before next lookups;

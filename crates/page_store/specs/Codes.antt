@@ -1,12 +1,14 @@
 -- The codes of a map of pages and of staged pages, by which proofs tell them apart.
 use Rattle.std.specs.Prelude.{◌≡◌, ℕ, Bool, List, [], ◌∷◌, slice_index_or, refl}
-use Rattle.std.specs.Coded.{Coded, code_by, coded×, coded_ℕ, coded_bool, coded_list}
+use Rattle.std.specs.Coded.{Coded, code_by, coded×, coded_ℕ, coded_bool, coded_list, coded_option}
 use Rattle.std.specs.FinMap as maps
 use Rattle.store_model.specs.declared.draw_kind.DrawKind.{DrawKind}
 use Rattle.store_model.specs.declared.draw_kind.DrawKind.TheVariants.{Ruler, Sha256}
 use Rattle.store_model.specs.Parameters.{Parameters}
 use Rattle.store_model.specs.PageMaps.{PageMap}
-use Rattle.table_memory.specs.Codes.{page_code}
+use Rattle.table_memory.specs.Codes.{label_code, page_code, remembered_code}
+use Rattle.table_memory.specs.Memos.{Remembered}
+use Rattle.table_memory.specs.Staging.{StagedPages}
 use Rattle.page_store.specs.StagedState.{StagedState}
 
 abbrev pub page_map_code : Coded PageMap
@@ -35,8 +37,12 @@ parameters_code =
     code_by (ℕ × (ℕ × (DrawKind × List ℕ))) (coded× coded_ℕ (coded× coded_ℕ (coded× kind_code (coded_list coded_ℕ)))) (λ p. (p.slots, (p.height, (p.kind, p.seed))))
     (λ t. record { slots = t.0; height = t.1.0; kind = t.1.1.0; seed = t.1.1.1 }) (λ _. refl)
 
+abbrev pub staged_pages_code : Coded StagedPages
+staged_pages_code = coded_list (coded× label_code (coded_option page_code))
+
 abbrev pub staged_code : {D W : Type 0} → Coded D → Coded W → Coded (StagedState D W)
 staged_code {D} {W} disk draw =
-    code_by (Parameters × (W × (PageMap × (PageMap × (D × (Bool × ℕ)))))) (coded× parameters_code (coded× draw (coded× page_map_code (coded× page_map_code (coded× disk (coded× coded_bool coded_ℕ))))))
-    (λ s. (s.params, (s.draw, (s.map, (s.table, (s.disk, (s.is_spent, s.lookups)))))))
-    (λ t. record { params = t.0; draw = t.1.0; map = t.1.1.0; table = t.1.1.1.0; disk = t.1.1.1.1.0; is_spent = t.1.1.1.1.1.0; lookups = t.1.1.1.1.1.1 }) (λ _. refl)
+    code_by (Parameters × (W × (PageMap × (PageMap × (StagedPages × (Remembered × (D × (Bool × ℕ))))))))
+    (coded× parameters_code (coded× draw (coded× page_map_code (coded× page_map_code (coded× staged_pages_code (coded× remembered_code (coded× disk (coded× coded_bool coded_ℕ))))))))
+    (λ s. (s.params, (s.draw, (s.map, (s.table, (s.staged, (s.memo, (s.disk, (s.is_spent, s.lookups)))))))))
+    (λ t. record { params = t.0; draw = t.1.0; map = t.1.1.0; table = t.1.1.1.0; staged = t.1.1.1.1.0; memo = t.1.1.1.1.1.0; disk = t.1.1.1.1.1.1.0; is_spent = t.1.1.1.1.1.1.1.0; lookups = t.1.1.1.1.1.1.1.1 }) (λ _. refl)

@@ -1,11 +1,11 @@
 //! What is staged: pages that were changed and are not settled yet.
 
-ghost use Rattle.std.specs.Prelude.{◌≡◌, ◌≢◌, ◌↔◌, [], true, false, None, Some, IfSome, IsNone, Ok, OnOk, OnErr};
+ghost use Rattle.std.specs.Prelude.{◌≡◌, ◌≢◌, ◌↔◌, [], true, false, None, Some, IfSome, IsSome, IsNone, IsTrue, Ok, OnOk, OnErr};
 ghost use Rattle.std.specs.BTreeMap.{insert_entry};
 ghost use Rattle.store_model.specs.Labels.{label_bytes, label_cmp};
 ghost use Rattle.store_model.specs.Pages as model;
 ghost use Rattle.node_pages.specs.Insertions.{TakesCell};
-ghost use Rattle.table_memory.specs.Memos.{Remembered, memo_place, staged_at, IsKnownPage, Renews};
+ghost use Rattle.table_memory.specs.Memos.{Remembered, memo_place, staged_at, IsKnownPage, IsKnown, Renews};
 ghost use Rattle.page_store.specs.Stagings.{InsertsCell, StagesCell};
 
 use node_pages::{Cell, Page};
@@ -91,12 +91,23 @@ impl Changes {
     ) -> Option<&'a Option<Boxed<Page>>>
         requires { place ≡ memo_place (label_bytes label.now) }
         ensures found { IfSome result (λ page. IsKnownPage self.now.pages.entries memo.now label.now page.now) }
+        ensures all { IsKnown self.now.pages.entries memo.now label.now → IsSome result }
         ensures unstaged { IsNone result → staged_at self.now.pages.entries label.now ≡ None }
     {
         match self.pages.get(label) {
             Some(change) => Some(change),
             None => memo.recall(place, label),
         }
+    }
+
+    /// Whether something is known of the label, whose place in the memo this is, by the changes or by the memo. It
+    /// takes no memory.
+    // The memo comes first, since to find a label among the changes takes comparisons of labels.
+    pub fn knows(&self, memo: &PageMemo, place: usize, label: &Label) -> bool
+        requires { place ≡ memo_place (label_bytes label.now) }
+        ensures { IsTrue result ↔ IsKnown self.now.pages.entries memo.now label.now }
+    {
+        memo.recall(place, label).is_some() || self.pages.contains_key(label)
     }
 
     /// Inserts a cell into the page that is staged under the label, where it lies, and answers whether it did, or that

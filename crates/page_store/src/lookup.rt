@@ -4,7 +4,7 @@ ghost use Rattle.std.specs.Prelude.{◌≡◌, Some, Ok};
 ghost use Rattle.store_model.specs.Labels.{label_bytes};
 ghost use Rattle.page_store.specs.Lookups.{Consults, Locates, LooksUp};
 ghost use Rattle.page_store.specs.Overlays.{slots_seen, Views};
-ghost use Rattle.table_memory.specs.Memos.{memo_place, IsMemoOf};
+ghost use Rattle.table_memory.specs.Memos.{memo_place, IsMemoOf, IsKnown};
 ghost use Rattle.table_memory.specs.OverlayState.{overlaid};
 
 use crate::changes::Changes;
@@ -48,15 +48,16 @@ impl<D: Disk, W: Draw> Lookup<D, W> {
     }
 
     /// Reads and remembers the page of the label, whose place in the memo this is, unless it is known by the changes or
-    /// by the memo. It is not remembered where there is no memory for it.
+    /// by the memo. It is not remembered where there is no memory for it. Where it is known the call only answers.
     pub fn learn(&mut self, changes: &Changes, place: usize, label: &Label) -> Result<(), Fault>
         requires { place ≡ memo_place (label_bytes label.now) }
         ensures call { Consults (slots_seen D.state self.old.overlay) (slots_seen D.state self.new.overlay) result }
         ensures follows { Views D.state self.old.overlay self.new.overlay }
         ensures draw { self.new.finder.draw ≡ self.old.finder.draw }
+        ensures known { IsKnown changes.now.pages.entries self.old.memo label.now → result ≡ Ok tt }
+        ensures kept { IsKnown changes.now.pages.entries self.old.memo label.now → self.new.memo ≡ self.old.memo }
     {
-        // The memo comes first, since to find a label among the changes takes comparisons of labels.
-        if self.memo.recall(place, label).is_some() || changes.pages.contains_key(label) {
+        if changes.knows(&self.memo, place, label) {
             return Ok(());
         }
         let Some(at) = locate(&mut self.overlay, &mut self.finder, label)? else {

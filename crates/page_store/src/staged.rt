@@ -1,6 +1,6 @@
 //! The staged pages.
 
-ghost use Rattle.std.specs.Prelude.{[], ◌≡◌, ◌≢◌, ◌↔◌, ◌≤◌, ◌<◌, ℕ, Bool, true, false, min, None, Some, IsSome, IfOk, Ok, OnOk, OnErr};
+ghost use Rattle.std.specs.Prelude.{[], ◌≡◌, ◌≢◌, ◌↔◌, ◌≤◌, ◌<◌, ℕ, Bool, true, false, min, None, Some, IsSome, IsOk, IfOk, Ok, OnOk, OnErr};
 ghost use Rattle.std.specs.FinMap as maps;
 ghost use Rattle.store_base.specs.Faults.{disk_faults_after};
 ghost use Rattle.store_model.specs.Labels.{label_bytes};
@@ -10,7 +10,7 @@ ghost use Rattle.sha2.specs.Sha256.{sha256};
 ghost use Rattle.gate_journal.specs.Places.{AreCalls, ReadsOnly};
 ghost use Rattle.store_model.specs.PageMaps.{PageMap, IsPageMap, page_at};
 ghost use Rattle.node_pages.specs.PagesState.{IsPageGet, IsPagePut, IsPageDrop, looked_at, most_pages};
-ghost use Rattle.table_memory.specs.Memos.{memo_place};
+ghost use Rattle.table_memory.specs.Memos.{memo_place, IsKnown};
 ghost use Rattle.page_store.specs.PageImages.{pages_in_table, SlotStandsAt};
 ghost use Rattle.table_memory.specs.Staging.{with_change, used_after};
 ghost use Rattle.page_store.specs.Settling.{Settles};
@@ -53,7 +53,7 @@ impl<D: Disk, W: Draw> Model for Staged<D, W> {
 
     ghost coded = { staged_code D.code W.code };
 
-    ghost view = { λ s. staged_state D.state s.lookup.overlay.params s.lookup.finder.draw s.lookup.overlay.disk s.changes.pages.entries s.lookups s.is_spent };
+    ghost view = { λ s. staged_state D.state s.lookup.overlay.params s.lookup.finder.draw s.lookup.overlay.disk s.changes.pages.entries s.lookup.memo s.lookups s.is_spent };
 
     ghost invariant = { λ s. IsStaged (W.drawn s.lookup.finder.draw) s.lookup.overlay.params (D.state s.lookup.overlay.disk) s.lookup.overlay.touched.entries s.changes.pages.entries s.used s.settled s.is_spent };
 }
@@ -78,7 +78,7 @@ fn not_remembered() -> Fault
 }
 
 impl<D: Disk, W: Draw> Staged<D, W> {
-    ghost use Rattle.page_store.specs.StagedState.{IsTold, pages_state, Follows};
+    ghost use Rattle.page_store.specs.StagedState.{IsTold, pages_state, Follows, without_changes};
     ghost use Rattle.page_store.specs.Stagings.{Stages};
 
     /// The pages in the table of a disk, so many of them, and no change. It takes no memory.
@@ -165,7 +165,7 @@ impl<D: Disk, W: Draw> Staged<D, W> {
 
     /// Takes all changes back: the pages are those of the table. It takes no memory.
     pub fn discard(&mut self)
-        ensures { self.new ≡ record self.old { map = self.old.table } }
+        ensures { self.new ≡ without_changes self.old }
     {
         self.changes.clear();
         self.used = self.settled;
@@ -190,6 +190,7 @@ impl<D: Disk, W: Draw> Staged<D, W> {
         requires { place ≡ memo_place (label_bytes label.now) }
         ensures found { IsTold D.state self.now → IfOk (looked_at result) (λ page. page ≡ page_at self.now.map label.now) }
         ensures faults { (count : ℕ) → disk_faults_after count (looked_at result) ≡ count }
+        ensures known { IsOk result ↔ IsKnown self.now.staged self.now.memo label.now }
     {
         match self.changes.known(&self.lookup.memo, place, label) {
             Some(page) => Ok(behind(page)),

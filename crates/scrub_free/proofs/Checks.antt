@@ -1,5 +1,5 @@
 -- What is found of an image, by the slots that scrubbing would leave, and what comes of it.
-use Rattle.std.proofs.Common.{◌≡◌, ◌⊎◌, ℕ, zero, suc, ◌+◌, ◌<◌, List, ◌∷◌, map, length, Result, Ok, Err, OnOk, MatchResult, refl, sym, ap, ◌∙◌, subst, inl, inr, ⊎_elim, arith}
+use Rattle.std.proofs.Common.{◌≡◌, ◌⊎◌, ℕ, zero, suc, ◌+◌, ◌<◌, List, ◌∷◌, map, length, Result, Ok, Err, OnOk, IfErr, IsErrOf, MatchResult, refl, sym, ap, ◌∙◌, subst, inl, inr, ⊎_elim, arith}
 use Rattle.store_model.specs.Lists.{numbers_from}
 use Rattle.store_model.specs.Parameters.{Parameters, table_at, image_len}
 use Rattle.store_model.specs.Trees.{Tree}
@@ -9,6 +9,8 @@ use Rattle.store_model.proofs.ImagesLemmasScrubbed.{slot_of_recovered, slot_of_s
 use Rattle.store_base.specs.declared.fault.DiskFault.{DiskFault}
 use Rattle.store_base.specs.declared.store_fault.Fault.{Fault}
 use Rattle.store_base.specs.declared.store_fault.Fault.TheVariants.{Disk}
+use Rattle.store_base.specs.declared.store_fault.Fault.TheVariants as causes
+use Rattle.store_base.specs.SlotsState.{HasCause}
 use Rattle.disk_model.specs.DiskState.{DiskState, IsObservable}
 use Rattle.disk_model.specs.DiskCalls.{raised}
 use Rattle.disk_model.proofs.Crashes.{LeavesOnly-trans, LeavesOnly-weaken}
@@ -16,14 +18,17 @@ use Rattle.gate_journal.specs.Costs.{opening_syncs, MadeAtMost}
 use Rattle.gate_journal.specs.Disks.{KeepsDisk}
 use Rattle.gate_journal.specs.Places.{AreCalls, Made, ReadsOnly}
 use Rattle.gate_journal.specs.ReadingLaws.{ReadsOnly-trans}
+use Rattle.gate_journal.specs.ViewState.{viewed, KeepsView}
 use Rattle.gate_journal.proofs.Stages.{on_ok_map}
 use Rattle.image_check.specs.declared.verdict.Verdict.{Verdict}
 use Rattle.image_check.specs.declared.verdict.Verdict.TheVariants.{Clean, NotImage, Damaged}
 use Rattle.layout_conditions.specs.Layouts.{HaveLayout}
 use Rattle.layout_conditions.proofs.LawLemmas.{layout_meets, conditions_tell}
 use Rattle.image_check.specs.ImageCalls.{ReadsDisk}
+use Rattle.image_check.specs.SlotCalls.{ChecksSlots}
 use Rattle.image_check.specs.Verdicts.{clean_of, IsSlotsVerdict, IsImageWith, HasParameters}
 use Rattle.image_check.proofs.Images.{slots_in, represents_tree, represented_layout}
+use Rattle.scrub_free.specs.ScrubbedSlots.{scrubbed_slots}
 use Rattle.scrub_free.specs.Scrubbing.{ScrubsAs, ScrubsImage, writes_to_scrub, CountsScrub}
 use Rattle.scrub_free.specs.ScrubCalls.{ScrubsTo, ScrubsWith, IsScrubVerdict, slots_after, ChecksScrubbed, Scrubs}
 use Rattle.scrub_free.proofs.Phases.{header-scrubbed}
@@ -115,6 +120,43 @@ counts_after_reads slots old mid new result reads counts =
           subst (λ (bytes : List ℕ). MadeAtMost (W bytes) (S bytes) old new) reads.bytes
           (record { write_limit = omega (arith, counts.limit.write_limit, reads.write_count); sync_limit = omega (arith, counts.limit.sync_limit, reads.sync_count) });
     }
+
+-- ---- the check of the slots that scrubbing would leave
+
+-- a check through a view on a disk
+pub record ChecksView (p seen left : Parameters) (at back : DiskState) (result : Result Verdict Fault) : Type 0 where
+  pub keeps : KeepsView seen left at back
+  pub call : ChecksSlots p (scrubbed_slots (viewed seen.slots at)) (scrubbed_slots (viewed left.slots back)) result
+
+-- calls of a view take no memory
+in_memory : (result : Result Verdict Fault) (slots : ℕ) (disk : DiskState) → IfErr result (HasCause (scrubbed_slots (viewed slots disk))) → IsErrOf result causes.NoMemory → ⊥
+in_memory (Ok verdict) slots disk cause is = absurd (cc)
+in_memory (Err causes.Disk) slots disk cause is = absurd (cc)
+in_memory (Err causes.NoMemory) slots disk cause is = cause refl
+
+checked_view : (p left : Parameters) (mid new : DiskState) (result : Result Verdict Fault) → ChecksView p p left mid new result → ChecksScrubbed p mid new result
+checked_view p left mid new result view = record {
+  reads = record {
+    size = view.keeps.size;
+    observable = view.keeps.observable;
+    faults = view.call.reads.calls.faults;
+    rise = view.keeps.rise;
+    writes = view.keeps.writes;
+    syncs = view.keeps.syncs;
+    reads = view.keeps.reads;
+  };
+  memory = in_memory result p.slots mid view.call.reads.calls.cause;
+  never = view.call.never;
+  verdict = view.call.verdict;
+  clean = view.call.clean;
+}
+
+-- a view on this disk, handed back as that one
+pub checks_disk : (p seen left : Parameters) (at mid back new : DiskState) (result : Result Verdict Fault) → seen ≡ p → at ≡ mid → back ≡ new → ChecksView p seen left at back result → ChecksScrubbed p mid new result
+checks_disk p seen left at mid back new result named disk handed view =
+    checked_view p left mid new result
+    (subst (λ (d : DiskState). ChecksView p p left mid d result) handed
+    (subst (λ (d : DiskState). ChecksView p p left d back result) disk (subst (λ (q : Parameters). ChecksView p q left at back result) named view)))
 
 -- ---- what a check of the scrubbed slots tells
 

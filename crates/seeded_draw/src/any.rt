@@ -66,6 +66,13 @@ impl Draw for AnyDraw {
         }
     }
 
+    fn start_from(&self, front: &mut Front, label: &Label) -> u32 {
+        match self {
+            AnyDraw::Ruler(draw) => draw.start_from(front, label),
+            AnyDraw::Sha256(draw) => draw.start_from(front, label),
+        }
+    }
+
     fn level_from(&self, front: &mut Front, key: &Key) -> u8 {
         match self {
             AnyDraw::Ruler(draw) => draw.level_from(front, key),

@@ -30,7 +30,18 @@ pub trait Draw {
     fn level(&self, key: &Key) -> u8
         ensures { result ≡ (drawn self.now).level key.now };
 
-    /// As `level`, by what is kept of the key that was drawn for last: of keys that begin alike less is digested.
+    /// As `start`, by what the front keeps of the label that was drawn for last. It helps where labels of one group
+    /// follow each other: they begin alike, so from the second on less is digested. Any front gives the same start.
+    fn start_from(&self, front: &mut Front, label: &Label) -> u32
+        ensures value { result ≡ (drawn self.now).start label.now }
+        ensures valid { IsLabel label.now }
+    {
+        let _ = front;
+        self.start(label)
+    }
+
+    /// As `level`, by what the front keeps of the key that was drawn for last. It helps where keys of one file follow
+    /// each other: they begin alike, so from the second on less is digested. Any front gives the same level.
     fn level_from(&self, front: &mut Front, key: &Key) -> u8
         ensures { result ≡ (drawn self.now).level key.now }
     {

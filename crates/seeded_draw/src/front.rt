@@ -11,7 +11,8 @@ use sha2::{Digest, Sha256};
 const FRONT_LEN: usize = 128;
 
 /// What SHA-256 made of the first 128 bytes of a message, so that a message that begins like it is digested
-/// from there on. The keys of one file differ in their last bytes alone.
+/// from there on. The keys of one file differ in their last bytes alone, and so do the labels of the pages of
+/// one group.
 #[derive(Drop)]
 pub struct Front {
     bytes: [u8; FRONT_LEN],

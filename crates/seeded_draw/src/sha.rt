@@ -133,6 +133,12 @@ impl Draw for ShaDraw {
         level_of_digest(&Sha256::digest(message.as_slice()), self.height)
     }
 
+    #[tactic(auto, unfolding(store_model::specs::Draws::sha256_start))]
+    fn start_from(&self, front: &mut Front, label: &Label) -> u32 {
+        let message = self.message(START_BYTE, &label.to_bytes());
+        start_of_digest(&front.digest(message.as_slice()), self.slots)
+    }
+
     #[tactic(auto, unfolding(store_model::specs::Draws::sha256_level))]
     fn level_from(&self, front: &mut Front, key: &Key) -> u8 {
         let message = self.message(LEVEL_BYTE, key.as_bytes());

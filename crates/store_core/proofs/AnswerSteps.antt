@@ -18,7 +18,7 @@ use Rattle.script_lines.specs.Replies.{reply_of}
 use Rattle.skip_levels.specs.Descent.{HoldsPairs}
 use Rattle.ordered_pairs.specs.PairsState.{PairsState}
 use Rattle.tree_pairs.specs.TreeCalls.{uncounted_step}
-use Rattle.page_store.specs.StagedState.{StagedState, IsTold, Follows}
+use Rattle.page_store.specs.StagedState.{StagedState, IsTold, Follows, without_changes}
 use Rattle.image_check.specs.declared.fault.ApplyFault.{ApplyFault}
 use Rattle.image_check.specs.declared.fault.ApplyFault.TheVariants as apply
 use Rattle.tree_commands.specs.Answers.{IsReplyOf}
@@ -72,37 +72,37 @@ module _ {D : Type 0} (state : D → DiskState) (t : Tree) (c : Command) (p : Pa
       told_as state t (counted_step t next p) (step t c p) p old new result (λ observable. sym (acked_step t c p fit.tree fit.fits (sym (answers.answered observable).reply_is)))
       (behind_reads state t (counted_step t next p) p old mid new result fit at runs answers.follows answers.faults (settles t next p (acked_staged answers)))
 
-  taken_back : Follows state old mid → Follows state old (record mid { map = mid.table })
+  taken_back : Follows state old mid → Follows state old (without_changes mid)
   taken_back follows = record { disk = follows.disk; draw = follows.draw; runs = follows.runs; table = follows.table }
 
   -- it is answered otherwise
-  answered : (reply : Reply) → (reply_of reply ≡ (uncounted_step t c p).reply → reply_of reply ≡ Acknowledged → ⊥) → AnswersAt state c t p old mid (Ok reply) → EndsStep state t (step t c p) p old (record mid { map = mid.table }) (Ok reply)
+  answered : (reply : Reply) → (reply_of reply ≡ (uncounted_step t c p).reply → reply_of reply ≡ Acknowledged → ⊥) → AnswersAt state c t p old mid (Ok reply) → EndsStep state t (step t c p) p old (without_changes mid) (Ok reply)
   answered reply other answers =
       let is = λ (observable : IsObservable (state old.disk)). answered_step t c p (reply_of reply) (answers.answered observable).reply_is (other (answers.answered observable).reply_is) in
       record {
-        step = read_step state t (step t c p) p old (record mid { map = mid.table }) (Ok reply) fit at runs (taken_back answers.follows) answers.faults (λ e. cc) (λ observable. ap (λ (s : Step). s.tree) (is observable)) (λ observable. sym (ap (λ (s : Step). s.reply) (is observable)));
+        step = read_step state t (step t c p) p old (without_changes mid) (Ok reply) fit at runs (taken_back answers.follows) answers.faults (λ e. cc) (λ observable. ap (λ (s : Step). s.tree) (is observable)) (λ observable. sym (ap (λ (s : Step). s.reply) (is observable)));
         none_staged = λ observable still. refl;
       }
 
   -- it fails
-  failed : (fault : Fault) → AnswersAt state c t p old mid (Err fault) → EndsStep state t (step t c p) p old (record mid { map = mid.table }) (Err (apply_fault_of fault))
+  failed : (fault : Fault) → AnswersAt state c t p old mid (Err fault) → EndsStep state t (step t c p) p old (without_changes mid) (Err (apply_fault_of fault))
   failed causes.Disk answers = record {
-    step = read_step state t (step t c p) p old (record mid { map = mid.table }) (Err apply.Disk) fit at runs (taken_back answers.follows) answers.faults (λ e. cc) (λ observable. tt) (λ observable. tt);
+    step = read_step state t (step t c p) p old (without_changes mid) (Err apply.Disk) fit at runs (taken_back answers.follows) answers.faults (λ e. cc) (λ observable. tt) (λ observable. tt);
     none_staged = λ observable still. refl;
   }
   failed causes.NoMemory answers = record {
-    step = read_step state t (step t c p) p old (record mid { map = mid.table }) (Err apply.NoMemory) fit at runs (taken_back answers.follows) answers.faults (λ e. cc) (λ observable. tt) (λ observable. tt);
+    step = read_step state t (step t c p) p old (without_changes mid) (Err apply.NoMemory) fit at runs (taken_back answers.follows) answers.faults (λ e. cc) (λ observable. tt) (λ observable. tt);
     none_staged = λ observable still. refl;
   }
 
   -- what the answer is, and what stands once it is taken back
-  pub answered_at : (reply : Reply) (new : StagedState D AnyDraw) (result : Result Reply Fault) → result ≡ Ok reply → new ≡ record mid { map = mid.table } → (reply_of reply ≡ (uncounted_step t c p).reply → reply_of reply ≡ Acknowledged → ⊥) → AnswersAt state c t p old mid result
+  pub answered_at : (reply : Reply) (new : StagedState D AnyDraw) (result : Result Reply Fault) → result ≡ Ok reply → new ≡ without_changes mid → (reply_of reply ≡ (uncounted_step t c p).reply → reply_of reply ≡ Acknowledged → ⊥) → AnswersAt state c t p old mid result
       → EndsStep state t (step t c p) p old new (Ok reply)
   answered_at reply new result is back other answers =
       subst (λ (s : StagedState D AnyDraw). EndsStep state t (step t c p) p old s (Ok reply)) (sym back)
       (answered reply other (subst (λ (r : Result Reply Fault). AnswersAt state c t p old mid r) is answers))
 
-  pub failed_at : (fault : Fault) (end : ApplyFault) (new : StagedState D AnyDraw) (result : Result Reply Fault) → result ≡ Err fault → new ≡ record mid { map = mid.table } → end ≡ apply_fault_of fault → AnswersAt state c t p old mid result
+  pub failed_at : (fault : Fault) (end : ApplyFault) (new : StagedState D AnyDraw) (result : Result Reply Fault) → result ≡ Err fault → new ≡ without_changes mid → end ≡ apply_fault_of fault → AnswersAt state c t p old mid result
       → EndsStep state t (step t c p) p old new (Err end)
   failed_at fault end new result is back so answers =
       subst (λ (f : ApplyFault). EndsStep state t (step t c p) p old new (Err f)) (sym so)

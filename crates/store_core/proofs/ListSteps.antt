@@ -21,7 +21,7 @@ use Rattle.skip_levels.specs.PagePairs.{pairs_of_map, list_over, IsHeld, KeepsLi
 use Rattle.ordered_pairs.specs.PairsState.{PairsState}
 use Rattle.skip_levels.proofs.PagePairsLemmas.{holds_own, holds_its_pairs}
 use Rattle.tree_pairs.specs.TreeCalls.{pairs_limit, uncounted_step, CarriesOut}
-use Rattle.page_store.specs.StagedState.{StagedState, IsTold, Follows, pages_state}
+use Rattle.page_store.specs.StagedState.{StagedState, IsTold, Follows, pages_state, without_changes}
 use Rattle.page_store.specs.declared.fault.SettleFault.{SettleFault}
 use Rattle.page_store.specs.Settling.{Settles}
 use Rattle.tree_commands.specs.Answers.{AnswersBy, change_reply}
@@ -52,7 +52,7 @@ follows_stay state old new follows same told =
     (record { disk = before; runs = sym follows.runs ∙ told.runs; valid = subst IsPageMap (same before) told.valid }, same before)
 
 -- and where what is taken back changed nothing
-pub back_stays : {D : Type 0} (state : D → DiskState) (old : StagedState D AnyDraw) → (IsObservable (state old.disk) → old.map ≡ old.table) → Stay state old (record old { map = old.table })
+pub back_stays : {D : Type 0} (state : D → DiskState) (old : StagedState D AnyDraw) → (IsObservable (state old.disk) → old.map ≡ old.table) → Stay state old (without_changes old)
 back_stays state old same told =
     let is = same told.disk in
     (record { disk = told.disk; runs = told.runs; valid = subst IsPageMap (sym is) told.valid }, sym is)
@@ -135,14 +135,14 @@ module _ {D : Type 0} (state : D → DiskState) (old new : StagedState D AnyDraw
       (record { disk = seen; runs = runs; valid = subst IsPageMap same told.valid }, same)
 
   -- also once what is staged is taken back, where it ends well
-  pub settled_stays : {value : Unit {0}} → Settles state any_draw old new (Ok value) → Stay state old (record new { map = new.table })
+  pub settled_stays : {value : Unit {0}} → Settles state any_draw old new (Ok value) → Stay state old (without_changes new)
   settled_stays settles told =
       let seen = sym settles.kept.observable ∙ told.disk in
       let same = settles.table seen in
       (record { disk = seen; runs = runs; valid = subst IsPageMap same told.valid }, same)
 
   -- where it fails the pages in the table are those that they were
-  pub table_behind_settle : (t next : Tree) (p : Parameters) (draw : AnyDraw) {fault : SettleFault} → IsStagedFor state t next p old → any_draw draw ≡ draw_of p → Settles {T = Unit {0}} state any_draw old new (Err fault) → IsTold state (record new { map = new.table })
+  pub table_behind_settle : (t next : Tree) (p : Parameters) (draw : AnyDraw) {fault : SettleFault} → IsStagedFor state t next p old → any_draw draw ≡ draw_of p → Settles {T = Unit {0}} state any_draw old new (Err fault) → IsTold state (without_changes new)
       → (s : List Pair) × HoldsPairs (any_draw draw) s new.table
   table_behind_settle t next p draw staged drawn settles told =
       let seen = sym settles.kept.observable ∙ told.disk in

@@ -25,7 +25,7 @@ use Rattle.page_store.specs.declared.fault.SettleFault.TheVariants as causes
 use Rattle.page_store.specs.Faults.{settle_faults_after}
 use Rattle.page_store.specs.PageImages as images
 use Rattle.page_store.specs.Settling.{SettlesDisk, Settles}
-use Rattle.page_store.specs.StagedState.{StagedState, Follows}
+use Rattle.page_store.specs.StagedState.{StagedState, Follows, without_changes}
 use Rattle.page_store.proofs.TreeLayouts.{represents_tree}
 use Rattle.tree_commands.specs.Counted.{counted_step}
 use Rattle.tree_commands.proofs.StepLemmas.{counted_fits, counted_full}
@@ -247,7 +247,7 @@ settled_never (Err causes.NoMemory) is = cc
 
 -- a settle, behind which all is taken back that is staged
 pub settled : {D : Type 0} (state : D → DiskState) (t next : Tree) (p : Parameters) (old new : StagedState D AnyDraw) (r : Result (Unit {0}) SettleFault) → ((x : D) → IsObservable (state x) → IsSound (state x)) → IsStagedFor state t next p old → old.is_spent ≡ false
-    → Settles state any_draw old new r → EndsStep state t (counted_step t next p) p old (record new { map = new.table }) (settled_reply r)
+    → Settles state any_draw old new r → EndsStep state t (counted_step t next p) p old (without_changes new) (settled_reply r)
 settled state t next p old new r sound staged runs settles = record {
   step = record {
     params = settles.params;

@@ -11,7 +11,7 @@ use Rattle.seeded_draw.specs.declared.any.AnyDraw.{AnyDraw}
 use Rattle.seeded_draw.specs.AnyDrawn.{any_draw}
 use Rattle.skip_levels.specs.Descent.{HoldsPairs}
 use Rattle.skip_levels.specs.ListState.{ListState}
-use Rattle.page_store.specs.StagedState.{StagedState, IsTold}
+use Rattle.page_store.specs.StagedState.{StagedState, IsTold, without_changes}
 use Rattle.image_check.specs.Standing.{IsFitting, Stands}
 
 -- The disk stands at the tree, the pages in its table are the tree's, and nothing else is staged.
@@ -59,4 +59,4 @@ pub record GoesOn {D : Type 0} (state : D → DiskState) (old new : TreeList D) 
 
 -- with what is staged taken back, the pages hold a list under the draw
 abbrev pub HoldsTable : {D : Type 0} → (D → DiskState) → TreeList D → Type 0
-HoldsTable state list = IsTold state (record list.pages { map = list.pages.table }) → (s : List Pair) × HoldsPairs (any_draw list.draw) s list.pages.table
+HoldsTable state list = IsTold state (without_changes list.pages) → (s : List Pair) × HoldsPairs (any_draw list.draw) s list.pages.table

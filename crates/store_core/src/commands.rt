@@ -12,7 +12,7 @@ ghost use Rattle.seeded_draw.specs.AnyDrawn.{any_draw};
 ghost use Rattle.script_lines.specs.InPlace.{in_place};
 ghost use Rattle.script_lines.specs.Parsing.{command_of};
 ghost use Rattle.script_lines.specs.Replies.{reply_of};
-ghost use Rattle.page_store.specs.StagedState.{Follows};
+ghost use Rattle.page_store.specs.StagedState.{Follows, without_changes};
 ghost use Rattle.tree_commands.specs.Answers.{is_change, is_look, change_reply};
 ghost use Rattle.tree_commands.specs.Counted.{counted_step};
 ghost use Rattle.image_check.specs.Standing.{IsFitting};
@@ -166,7 +166,7 @@ fn end_change<D: Disk>(pairs: &mut TreeList<D>) -> Result<Answer<()>, ApplyFault
 /// Takes back what is staged, of a list that may not be whole any more. It then knows no place.
 fn give_up<D: Disk>(pairs: &mut TreeList<D>)
     requires { HoldsTable D.state pairs.old }
-    ensures pages { pairs.new.pages ≡ record pairs.old.pages { map = pairs.old.pages.table } }
+    ensures pages { pairs.new.pages ≡ without_changes pairs.old.pages }
     ensures list { GoesOn D.state pairs.old pairs.new }
 {
     pairs.forget();

@@ -11,7 +11,7 @@ ghost use Rattle.image_subcommands.specs.Outside.{KeepsOutside, outside_of};
 ghost use Rattle.store_top.specs.Runs.{IsReady};
 
 use crate::generated::Generated;
-use crate::run::status_of;
+use crate::run::ended_status;
 use crate::work::answer_all;
 use disk_model::Disk;
 use image_subcommands::{Outcome, Status};
@@ -97,7 +97,7 @@ pub fn big<D: Disk, R: Source, W: Sink>(
     let (mut sink, mut done) = (sink, 0);
     let ended = answer_generated(&mut store, &mut sink, &mut done, number, count);
     Outcome {
-        status: status_of(ended),
+        status: ended_status(ended),
         done,
         disk: store.into_disk(),
         source,

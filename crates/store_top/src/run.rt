@@ -14,7 +14,7 @@ use std::alloc::Global;
 use store_core::Store;
 
 /// How a call ends whose lines ended so.
-pub(crate) fn status_of(ended: Result<(), Status>) -> Status
+pub(crate) fn ended_status(ended: Result<(), Status>) -> Status
     ensures { result ≡ ended_status ended }
 {
     match ended {
@@ -47,7 +47,7 @@ pub fn run<D: Disk, R: Source, W: Sink>(
     let (mut script, mut done) = (Script { reader, sink }, 0);
     let ended = answer_all(&mut script, &mut store, &mut done);
     Outcome {
-        status: status_of(ended),
+        status: ended_status(ended),
         done,
         disk: store.into_disk(),
         source: script.reader.into_source(),

@@ -84,6 +84,11 @@ staged_at changes l = lookup (is_at (label_cmp l)) changes
 abbrev pub IsKnownPage : StagedPages → Remembered → Label → Option Page → Type 0
 IsKnownPage changes memo l page = (staged_at changes l ≡ Some page) ⊎ ((staged_at changes l ≡ None) × IsRemembered memo l page)
 
+-- something is known of the label: to look its page up takes no memory
+pub record IsKnown (changes : StagedPages) (memo : Remembered) (l : Label) : Type 0 where
+  pub found : Option Page
+  pub known : IsKnownPage changes memo l found
+
 -- behind changes that is remembered of a label which was known of it with them
 abbrev pub Renews : StagedPages → Remembered → Remembered → Type 0
 Renews changes old new = (l : Label) (page : Option Page) → IsRemembered new l page → IsKnownPage changes old l page

@@ -4,7 +4,7 @@ ghost use Rattle.std.specs.Prelude.{◌≡◌, ◌⊎◌, [], IfSome};
 ghost use Rattle.table_memory.specs.Starts.{AreStarts, IsKeptStart};
 
 use crate::memo::checksum_of_label;
-use seeded_draw::Draw;
+use seeded_draw::{Draw, Front};
 use std::alloc::Global;
 use store_base::Label;
 
@@ -20,15 +20,18 @@ const NO_SLOT: u32 = u32::MAX;
 const STARTS: usize = 8;
 
 /// A draw, and what helps to find a page in the slots that it lays out: the starts that were drawn last, each with its
-/// label, since a page that is new is looked for when it is staged, and once more when it is laid; and the slots where
-/// pages were found last, each at the place of its label. By now such a slot may hold another page or none, so whoever
-/// asks looks there, and contracts tell nothing of it.
+/// label, since a page that is new is looked for when it is staged, and once more when it is laid; what was digested
+/// last of a label's front, since the labels of a group begin alike; and the slots where pages were found last, each at
+/// the place of its label. By now such a slot may hold another page or none, so whoever asks looks there, and contracts
+/// tell nothing of it.
 #[derive(Drop)]
 pub struct Finder<W: Draw> {
     /// The draw.
     pub draw: W,
     /// The starts that were drawn last.
     pub starts: Vec<(Label, u32)>,
+    /// What was digested last of a label's front.
+    pub front: Front,
     /// The slots where pages were found last.
     pub slots: Vec<u32>,
     pub ghost started: { AreStarts (W.drawn draw) starts.items },
@@ -48,6 +51,7 @@ impl<W: Draw> Finder<W> {
         Finder {
             draw,
             starts: Vec::new(alloc),
+            front: Front::new(),
             slots: Vec::new(alloc),
         }
     }
@@ -108,7 +112,7 @@ impl<W: Draw> Finder<W> {
             return start;
         }
         self.make_room();
-        let start = self.draw.start(label);
+        let start = self.draw.start_from(&mut self.front, label);
         let _ = self.starts.push((*label, start));
         start
     }

@@ -1,8 +1,9 @@
 //! What was found under labels of a table, kept in memory.
 
-ghost use Rattle.std.specs.Prelude.{◌≡◌, ◌<◌, ◌≤◌, [], IfSome, OnOk, length};
+ghost use Rattle.std.specs.Prelude.{◌≡◌, ◌<◌, ◌≤◌, [], Option, IsSome, IfSome, OnOk, length};
 ghost use Rattle.store_model.specs.Labels.{label_bytes};
 ghost use Rattle.store_model.specs.Labels.Lead.{Leader};
+ghost use Rattle.store_model.specs.Pages as model;
 ghost use Rattle.table_memory.specs.Memos.{checksum_from, checksum, memo_place, IsRemembered, KeepsPlaces, Remembers, RemembersMore, Renews};
 
 use crate::boxed::{Boxed, on_heap};
@@ -107,7 +108,8 @@ impl PageMemo {
     /// memory.
     pub fn recall(&self, place: usize, label: &Label) -> Option<&Option<Boxed<Page>>>
         requires { place ≡ memo_place (label_bytes label.now) }
-        ensures { IfSome result (λ found. IsRemembered self.now label.now found.now) }
+        ensures found { IfSome result (λ found. IsRemembered self.now label.now found.now) }
+        ensures all { (found : Option model.Page) → IsRemembered self.now label.now found → IsSome result }
     {
         let Some((kept, found)) = self.places.get(place)? else {
             return None;

@@ -80,9 +80,9 @@ static TEXT: &str = "\
 Keeps directories and files in one file, the image. Its bytes tell what it holds now, and nothing of
 what it held before or of how it came to be.
 
-Usage: ./hstore IMAGE <WORD>
+Usage: ./hstore IMAGE <SUBCOMMAND>
 
-Words:
+Subcommands:
   format  Makes an image with nothing in it.
   run     Answers the script on standard input, with a reply for each line.
   check   Tells what the file is, and changes nothing.
@@ -90,7 +90,7 @@ Words:
   wipe    Makes every byte of the file zero, whatever the file is.
   big     Carries out generated commands, and prints what came of them.
 
-IMAGE is the path of the image's file. `format` makes the file; every other word wants it there.
+IMAGE is the path of the image's file. `format` makes the file; every other subcommand wants it there.
 Numbers are decimal digits, with no sign and no leading zero.
 == format
 Makes an image with nothing in it.

@@ -17,12 +17,9 @@ pub count_pages-requires-clause-most : goal.count_pages-requires-clause-most
 unfolding draw_of
 count_pages-requires-clause-most g c = omega (arith, c.height.ensures.valid.slots_in_range, ap (λ (d : Draw). d.slots) c.new-draw.ensures)
 
-pub walk_groups-requires-clause-stub : goal.walk_groups-requires-clause-stub
-walk_groups-requires-clause-stub g c = ?
-
-pub walk_groups-requires-clause-count : goal.walk_groups-requires-clause-count
+pub walk_groups-requires : goal.walk_groups-requires
 unfolding draw_of
-walk_groups-requires-clause-count g c = c.in_ok-used.ensures.call.reads.calls.count ∙ c.requires ∙ sym (ap (λ (d : Draw). d.slots) c.new-draw.ensures)
+walk_groups-requires g c = c.in_ok-used.ensures.call.reads.calls.count ∙ c.requires ∙ sym (ap (λ (d : Draw). d.slots) c.new-draw.ensures)
 
 pub returns-in_default-clause-call : goal.returns-in_default-clause-call
 unfolding draw_of
@@ -46,7 +43,7 @@ returns-then-not-branch-clause-call g c =
     let whole = c.in_ok-walk_groups.field-0 in
     let used = c.in-Some.used in
     let Took : List Pair → Type 0 = TookPairs c.new-pairs.result in
-    let TookNow : List Pair → Type 0 = TookPairs c.walk_groups.new.pairs in
+    let TookNow : List Pair → Type 0 = TookPairs c.walk_groups.new.sink in
     let finds : FindsOrder (draw_of p) (draw_of p).height old mid (Ok found) =
     subst (λ h. FindsOrder (draw_of p) h old mid (Ok found)) c.height.ensures.value (subst (λ d. FindsOrder d c.height.result old mid (Ok found)) c.new-draw.ensures c.in_ok-used.ensures.call) in
     let walks : WalksTable (draw_of p) mid new used Took TookNow (Ok whole) = subst (λ d. WalksTable d mid new used Took TookNow (Ok whole)) c.new-draw.ensures c.in_ok-walk_groups.ensures.call in
@@ -63,7 +60,7 @@ returns-in_default-counts-clause-call g c =
     let whole = c.in_ok-walk_groups.field-0 in
     let used = c.in-Some.used in
     let Took : List Pair → Type 0 = TookPairs c.new-pairs.result in
-    let TookNow : List Pair → Type 0 = TookPairs c.walk_groups.new.pairs in
+    let TookNow : List Pair → Type 0 = TookPairs c.walk_groups.new.sink in
     let finds : FindsOrder (draw_of p) (draw_of p).height old mid (Ok found) =
     subst (λ h. FindsOrder (draw_of p) h old mid (Ok found)) c.height.ensures.value (subst (λ d. FindsOrder d c.height.result old mid (Ok found)) c.new-draw.ensures c.in_ok-used.ensures.call) in
     let walks : WalksTable (draw_of p) mid new used Took TookNow (Ok whole) = subst (λ d. WalksTable d mid new used Took TookNow (Ok whole)) c.new-draw.ensures c.in_ok-walk_groups.ensures.call in
@@ -81,7 +78,7 @@ returns-clause-call g c =
     let whole = c.in_ok-walk_groups.field-0 in
     let used = c.in-Some.used in
     let Took : List Pair → Type 0 = TookPairs c.new-pairs.result in
-    let TookNow : List Pair → Type 0 = TookPairs c.walk_groups.new.pairs in
+    let TookNow : List Pair → Type 0 = TookPairs c.walk_groups.new.sink in
     let finds : FindsOrder (draw_of p) (draw_of p).height old mid (Ok found) =
     subst (λ h. FindsOrder (draw_of p) h old mid (Ok found)) c.height.ensures.value (subst (λ d. FindsOrder d c.height.result old mid (Ok found)) c.new-draw.ensures c.in_ok-used.ensures.call) in
     let walks : WalksTable (draw_of p) mid new used Took TookNow (Ok whole) = subst (λ d. WalksTable d mid new used Took TookNow (Ok whole)) c.new-draw.ensures c.in_ok-walk_groups.ensures.call in

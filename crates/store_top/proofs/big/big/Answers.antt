@@ -24,17 +24,17 @@ pub returns-clause-big : goal.returns-clause-big
 returns-clause-big g c =
     let st = g.D.Disk.state in
     let answered = subst (λ (status : Status). AnswersGenerated st g.W.Sink.state c.args.number c.args.count status c.answer_generated-ended.new.done c.in-Ok.store c.answer_generated-ended.new.store c.args.sink c.answer_generated-ended.new.sink)
-    (sym c.status_of.ensures) c.answer_generated-ended.ensures in
+    (sym c.ended_status.ensures) c.answer_generated-ended.ensures in
     let big = big_answered st g.W.Sink.state g.met.D.Disk.sound c.args.number c.args.count c.args.disk c.in-Ok.store c.answer_generated-ended.new.store c.args.source c.args.sink c.answer_generated-ended.new.sink
-    c.status_of.result c.answer_generated-ended.new.done c.in-Ok.ensures.call.attached answered in
-    subst (λ disk. IsBig st g.W.Sink.state c.args.number c.args.count (outside_of c.args.disk c.args.source c.args.sink) (record { status = c.status_of.result; done = c.answer_generated-ended.new.done; disk = disk; source = c.args.source; sink = c.answer_generated-ended.new.sink }))
+    c.ended_status.result c.answer_generated-ended.new.done c.in-Ok.ensures.call.attached answered in
+    subst (λ disk. IsBig st g.W.Sink.state c.args.number c.args.count (outside_of c.args.disk c.args.source c.args.sink) (record { status = c.ended_status.result; done = c.answer_generated-ended.new.done; disk = disk; source = c.args.source; sink = c.answer_generated-ended.new.sink }))
     (sym c.into_disk.ensures) big
 
 pub returns-clause-outside : goal.returns-clause-outside
 returns-clause-outside g c =
     let st = g.D.Disk.state in
     let answered = subst (λ (status : Status). AnswersGenerated st g.W.Sink.state c.args.number c.args.count status c.answer_generated-ended.new.done c.in-Ok.store c.answer_generated-ended.new.store c.args.sink c.answer_generated-ended.new.sink)
-    (sym c.status_of.ensures) c.answer_generated-ended.ensures in
-    subst (λ disk. KeepsOutside c.status_of.result (st c.args.disk) (st disk) (g.R.Source.state c.args.source) (g.R.Source.state c.args.source) (g.W.Sink.state c.args.sink) (g.W.Sink.state c.answer_generated-ended.new.sink)) (sym c.into_disk.ensures)
+    (sym c.ended_status.ensures) c.answer_generated-ended.ensures in
+    subst (λ disk. KeepsOutside c.ended_status.result (st c.args.disk) (st disk) (g.R.Source.state c.args.source) (g.R.Source.state c.args.source) (g.W.Sink.state c.args.sink) (g.W.Sink.state c.answer_generated-ended.new.sink)) (sym c.into_disk.ensures)
     (big_outside st g.W.Sink.state g.met.D.Disk.sound c.args.number c.args.count c.args.disk c.in-Ok.store c.answer_generated-ended.new.store c.args.source c.args.sink c.answer_generated-ended.new.sink
-    c.status_of.result c.answer_generated-ended.new.done c.in-Ok.ensures.call.attached answered (g.R.Source.state c.args.source))
+    c.ended_status.result c.answer_generated-ended.new.done c.in-Ok.ensures.call.attached answered (g.R.Source.state c.args.source))

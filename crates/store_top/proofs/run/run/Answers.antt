@@ -34,11 +34,11 @@ pub returns-clause-run : goal.returns-clause-run
 returns-clause-run g c =
     let old_source = ap (λ (r : LineState g.row.R.Denot). r.source) c.in-Ok.ensures.ok in
     let run = run_answered g.D.Disk.state g.R.Source.state g.W.Sink.state g.met.D.Disk.sound c.args.disk c.in-Ok-attach.store c.answer_all-ended.new.store c.in-Ok.reader c.answer_all-ended.new.work.reader c.args.sink c.answer_all-ended.new.work.sink
-    c.status_of.result c.answer_all-ended.new.done c.in-Ok-attach.ensures.call.attached (subst (λ (status : Status). AnswersLines g.D.Disk.state g.R.Source.state g.W.Sink.state status c.answer_all-ended.new.done c.in-Ok-attach.store c.answer_all-ended.new.store c.in-Ok.reader c.answer_all-ended.new.work.reader c.args.sink c.answer_all-ended.new.work.sink) (sym c.status_of.ensures)
+    c.ended_status.result c.answer_all-ended.new.done c.in-Ok-attach.ensures.call.attached (subst (λ (status : Status). AnswersLines g.D.Disk.state g.R.Source.state g.W.Sink.state status c.answer_all-ended.new.done c.in-Ok-attach.store c.answer_all-ended.new.store c.in-Ok.reader c.answer_all-ended.new.work.reader c.args.sink c.answer_all-ended.new.work.sink) (sym c.ended_status.ensures)
     (script_answered g.D.Disk.state g.R.Source.state g.W.Sink.state c.answer_all-ended.result c.answer_all-ended.new.done c.in-Ok-attach.store c.answer_all-ended.new.store (record { reader = c.in-Ok.reader; sink = c.args.sink }) c.answer_all-ended.new.work c.answer_all-ended.ensures)) in
-    subst (λ disk. IsRun g.D.Disk.state g.R.Source.state g.W.Sink.state (outside_of c.args.disk c.args.source c.args.sink) (record { status = c.status_of.result; done = c.answer_all-ended.new.done; disk = disk; source = c.into_source-2.result; sink = c.answer_all-ended.new.work.sink })) (sym c.into_disk.ensures)
-    (subst (λ source. IsRun g.D.Disk.state g.R.Source.state g.W.Sink.state (outside_of c.args.disk c.args.source c.args.sink) (record { status = c.status_of.result; done = c.answer_all-ended.new.done; disk = c.answer_all-ended.new.store.disk; source = source; sink = c.answer_all-ended.new.work.sink })) (sym c.into_source-2.ensures)
-    (subst (λ source. IsRun g.D.Disk.state g.R.Source.state g.W.Sink.state (outside_of c.args.disk source c.args.sink) (record { status = c.status_of.result; done = c.answer_all-ended.new.done; disk = c.answer_all-ended.new.store.disk; source = c.answer_all-ended.new.work.reader.source; sink = c.answer_all-ended.new.work.sink })) old_source run))
+    subst (λ disk. IsRun g.D.Disk.state g.R.Source.state g.W.Sink.state (outside_of c.args.disk c.args.source c.args.sink) (record { status = c.ended_status.result; done = c.answer_all-ended.new.done; disk = disk; source = c.into_source-2.result; sink = c.answer_all-ended.new.work.sink })) (sym c.into_disk.ensures)
+    (subst (λ source. IsRun g.D.Disk.state g.R.Source.state g.W.Sink.state (outside_of c.args.disk c.args.source c.args.sink) (record { status = c.ended_status.result; done = c.answer_all-ended.new.done; disk = c.answer_all-ended.new.store.disk; source = source; sink = c.answer_all-ended.new.work.sink })) (sym c.into_source-2.ensures)
+    (subst (λ source. IsRun g.D.Disk.state g.R.Source.state g.W.Sink.state (outside_of c.args.disk source c.args.sink) (record { status = c.ended_status.result; done = c.answer_all-ended.new.done; disk = c.answer_all-ended.new.store.disk; source = c.answer_all-ended.new.work.reader.source; sink = c.answer_all-ended.new.work.sink })) old_source run))
 
 -- a search for what is not so takes long, and a planted bug has it made
 pub returns-clause-outside : goal.returns-clause-outside
@@ -48,8 +48,8 @@ returns-clause-outside g c =
     let sink_of = g.W.Sink.state in
     let old_source = ap (λ (r : LineState g.row.R.Denot). r.source) c.in-Ok.ensures.ok in
     let outside = run_outside disk_of source_of sink_of g.met.D.Disk.sound c.args.disk c.in-Ok-attach.store c.answer_all-ended.new.store c.in-Ok.reader c.answer_all-ended.new.work.reader c.args.sink c.answer_all-ended.new.work.sink
-    c.status_of.result c.answer_all-ended.new.done c.in-Ok-attach.ensures.call.attached (subst (λ (status : Status). AnswersLines disk_of source_of sink_of status c.answer_all-ended.new.done c.in-Ok-attach.store c.answer_all-ended.new.store c.in-Ok.reader c.answer_all-ended.new.work.reader c.args.sink c.answer_all-ended.new.work.sink) (sym c.status_of.ensures)
+    c.ended_status.result c.answer_all-ended.new.done c.in-Ok-attach.ensures.call.attached (subst (λ (status : Status). AnswersLines disk_of source_of sink_of status c.answer_all-ended.new.done c.in-Ok-attach.store c.answer_all-ended.new.store c.in-Ok.reader c.answer_all-ended.new.work.reader c.args.sink c.answer_all-ended.new.work.sink) (sym c.ended_status.ensures)
     (script_answered disk_of source_of sink_of c.answer_all-ended.result c.answer_all-ended.new.done c.in-Ok-attach.store c.answer_all-ended.new.store (record { reader = c.in-Ok.reader; sink = c.args.sink }) c.answer_all-ended.new.work c.answer_all-ended.ensures)) in
-    subst (λ disk. KeepsOutside c.status_of.result (disk_of c.args.disk) (disk_of disk) (source_of c.args.source) (source_of c.into_source-2.result) (sink_of c.args.sink) (sink_of c.answer_all-ended.new.work.sink)) (sym c.into_disk.ensures)
-    (subst (λ source. KeepsOutside c.status_of.result (disk_of c.args.disk) (disk_of c.answer_all-ended.new.store.disk) (source_of c.args.source) (source_of source) (sink_of c.args.sink) (sink_of c.answer_all-ended.new.work.sink)) (sym c.into_source-2.ensures)
-    (subst (λ source. KeepsOutside c.status_of.result (disk_of c.args.disk) (disk_of c.answer_all-ended.new.store.disk) (source_of source) (source_of c.answer_all-ended.new.work.reader.source) (sink_of c.args.sink) (sink_of c.answer_all-ended.new.work.sink)) old_source outside))
+    subst (λ disk. KeepsOutside c.ended_status.result (disk_of c.args.disk) (disk_of disk) (source_of c.args.source) (source_of c.into_source-2.result) (sink_of c.args.sink) (sink_of c.answer_all-ended.new.work.sink)) (sym c.into_disk.ensures)
+    (subst (λ source. KeepsOutside c.ended_status.result (disk_of c.args.disk) (disk_of c.answer_all-ended.new.store.disk) (source_of c.args.source) (source_of source) (sink_of c.args.sink) (sink_of c.answer_all-ended.new.work.sink)) (sym c.into_source-2.ensures)
+    (subst (λ source. KeepsOutside c.ended_status.result (disk_of c.args.disk) (disk_of c.answer_all-ended.new.store.disk) (source_of source) (source_of c.answer_all-ended.new.work.reader.source) (sink_of c.args.sink) (sink_of c.answer_all-ended.new.work.sink)) old_source outside))

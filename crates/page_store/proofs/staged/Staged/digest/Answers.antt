@@ -25,4 +25,4 @@ returns-clause-follows g c =
     let s = c.self.inside in
     let state = g.D.Disk.state in
     let view = view_read s.lookup.overlay.params (state s.lookup.overlay.disk) (state c.digest.new.disk) c.digest.result c.digest.ensures.calls c.digest.ensures.reads in
-    view_follows state s.lookup.finder.draw s.lookup.overlay.params s.lookup.overlay.params s.lookup.overlay.disk c.digest.new.disk s.changes.pages.entries s.changes.pages.entries s.lookups s.lookups s.is_spent _ c.self.view_is view
+    view_follows state s.lookup.finder.draw s.lookup.overlay.params s.lookup.overlay.params s.lookup.overlay.disk c.digest.new.disk s.changes.pages.entries s.changes.pages.entries s.lookup.memo s.lookup.memo s.lookups s.lookups s.is_spent _ c.self.view_is view

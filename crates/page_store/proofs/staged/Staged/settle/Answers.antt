@@ -17,7 +17,7 @@ returns-then-self-slots g c =
     let state = g.D.Disk.state in
     let at = read_since state g.W.Draw.drawn s.lookup.finder.draw s.lookup.overlay.disk s.lookup.overlay.disk g.met.D.Disk.sound s.lookup.overlay.sized c.self.invariant c.self.view_is c.requires (KeepsView-refl s.lookup.overlay.params (state s.lookup.overlay.disk) (g.met.D.Disk.sound s.lookup.overlay.disk)) in
     let fault = causes.Full s.used c.slots-slots.result in
-    let full = refused at fault refl (λ observable. record { need_is = (c.self.invariant.counted observable (runs at)).used_is; slots_are = c.slots-slots.ensures.value ∙ sym c.self.invariant.drawn; more = c.if-self-slots.true }) in
+    let full = refused at s.lookup.memo fault refl (λ observable. record { need_is = (c.self.invariant.counted observable (runs at)).used_is; slots_are = c.slots-slots.ensures.value ∙ sym c.self.invariant.drawn; more = c.if-self-slots.true }) in
     record { call = subst (λ (x : StagedState g.row.D.Denot g.row.W.Denot). Settles {T = Unit {0}} state g.W.Draw.drawn c.args.self.now x (Err fault)) c.self.view_is full }
 
 pub invariant_of-self : goal.invariant_of-self
@@ -41,9 +41,9 @@ returns-in_err-changed g c =
     let at = read_since g.D.Disk.state g.W.Draw.drawn s.lookup.finder.draw s.lookup.overlay.disk mid.disk g.met.D.Disk.sound s.lookup.overlay.sized c.self.invariant c.self.view_is c.requires c.find_slots-found.ensures.follows in
     let finds = subst (FindsSlots (g.W.Draw.drawn s.lookup.finder.draw) s.lookup.overlay.params s.lookup.overlay.touched.entries s.changes.pages.entries (g.D.Disk.state s.lookup.overlay.disk) (g.D.Disk.state mid.disk)) c.in_err-changed.was c.find_slots-found.ensures.call in
     let fails = err_from_is_err_and c.from_residual.result c.from_residual.ensures.1 in
-    let new = staged_state g.D.Disk.state mid.params s.lookup.finder.draw mid.disk s.changes.pages.entries s.lookups s.is_spent in
+    let new = staged_state g.D.Disk.state mid.params s.lookup.finder.draw mid.disk s.changes.pages.entries s.lookup.memo s.lookups s.is_spent in
     record {
-      call = rw c.find_slots-found.ensures.draw (subst (λ (r : Result (Unit {0}) SettleFault). Settles g.D.Disk.state g.W.Draw.drawn c.args.self.now new r) (sym (fails.1 ∙ ap Err fails.2)) (not_found at c.in_err-changed.field-0.0 (omega (arith, c.if-self-slots.false, c.slots-slots.ensures.value)) finds.faults));
+      call = rw c.find_slots-found.ensures.draw (subst (λ (r : Result (Unit {0}) SettleFault). Settles g.D.Disk.state g.W.Draw.drawn c.args.self.now new r) (sym (fails.1 ∙ ap Err fails.2)) (not_found at s.lookup.memo c.in_err-changed.field-0.0 (omega (arith, c.if-self-slots.false, c.slots-slots.ensures.value)) finds.faults));
     }
 
 pub commit_slots-requires-clause-size : goal.commit_slots-requires-clause-size
@@ -89,7 +89,7 @@ returns-in-Ok g c =
     let s = c.self.inside in
     let mid = c.find_slots-found.new.overlay in
     let at = read_since g.D.Disk.state g.W.Draw.drawn s.lookup.finder.draw s.lookup.overlay.disk mid.disk g.met.D.Disk.sound s.lookup.overlay.sized c.self.invariant c.self.view_is c.requires c.find_slots-found.ensures.follows in
-    record { call = rw c.find_slots-found.ensures.draw (done at (omega (arith, c.if-self-slots.false, c.slots-slots.ensures.value)) (g.met.W.Draw.lawful s.lookup.finder.draw) c.in_ok-changed.changed c.in_ok-changed.was c.find_slots-found.ensures.call c.commit_slots.new.disk c.in-Ok.field-0 c.in-Ok.ensures.call.calls c.in-Ok.ensures.call.commits c.hand_to.new.self.pages.entries c.hand_to.ensures.emptied c.commit_slots.ensures.call.none c.in-Ok.ensures.call.makes) }
+    record { call = rw c.find_slots-found.ensures.draw (done at (omega (arith, c.if-self-slots.false, c.slots-slots.ensures.value)) (g.met.W.Draw.lawful s.lookup.finder.draw) c.in_ok-changed.changed c.in_ok-changed.was c.find_slots-found.ensures.call c.commit_slots.new.disk c.in-Ok.field-0 c.in-Ok.ensures.call.calls c.in-Ok.ensures.call.commits c.hand_to.new.memo c.hand_to.new.self.pages.entries c.hand_to.ensures.emptied c.commit_slots.ensures.call.none c.in-Ok.ensures.call.makes) }
 
 pub invariant_of-self-in-Err : goal.invariant_of-self-in-Err
 invariant_of-self-in-Err g c =
@@ -103,7 +103,7 @@ returns-in-Err g c =
     let s = c.self.inside in
     let mid = c.find_slots-found.new.overlay in
     let at = read_since g.D.Disk.state g.W.Draw.drawn s.lookup.finder.draw s.lookup.overlay.disk mid.disk g.met.D.Disk.sound s.lookup.overlay.sized c.self.invariant c.self.view_is c.requires c.find_slots-found.ensures.follows in
-    record { call = rw c.find_slots-found.ensures.draw (failed at (omega (arith, c.if-self-slots.false, c.slots-slots.ensures.value)) (g.met.W.Draw.lawful s.lookup.finder.draw) c.in_ok-changed.changed c.in_ok-changed.was c.find_slots-found.ensures.call c.commit_slots.new.disk c.in-Err.field-0 c.in-Err.ensures.call.calls c.in-Err.ensures.call.commits c.commit_slots.ensures.call.none c.in-Err.ensures.call.makes c.in-Err.ensures.call.wrote) }
+    record { call = rw c.find_slots-found.ensures.draw (failed at (omega (arith, c.if-self-slots.false, c.slots-slots.ensures.value)) (g.met.W.Draw.lawful s.lookup.finder.draw) c.in_ok-changed.changed c.in_ok-changed.was c.find_slots-found.ensures.call c.commit_slots.new.disk c.clear.new.self c.in-Err.field-0 c.in-Err.ensures.call.calls c.in-Err.ensures.call.commits c.commit_slots.ensures.call.none c.in-Err.ensures.call.makes c.in-Err.ensures.call.wrote) }
 
 pub commit_slots-requires-clause-cached : goal.commit_slots-requires-clause-cached
 commit_slots-requires-clause-cached g c =

@@ -19,4 +19,4 @@ pub returns-in_err-insert_cell-clause-follows : goal.returns-in_err-insert_cell-
 returns-in_err-insert_cell-clause-follows g c =
     let s = c.self.inside in
     let next = c.insert_cell.new.self.pages.entries in
-    view_follows g.D.Disk.state s.lookup.finder.draw s.lookup.overlay.params s.lookup.overlay.params s.lookup.overlay.disk s.lookup.overlay.disk s.changes.pages.entries next s.lookups s.lookups s.is_spent _ c.self.view_is (KeepsView-refl s.lookup.overlay.params (g.D.Disk.state s.lookup.overlay.disk) (g.met.D.Disk.sound s.lookup.overlay.disk))
+    view_follows g.D.Disk.state s.lookup.finder.draw s.lookup.overlay.params s.lookup.overlay.params s.lookup.overlay.disk s.lookup.overlay.disk s.changes.pages.entries next s.lookup.memo s.lookup.memo s.lookups s.lookups s.is_spent _ c.self.view_is (KeepsView-refl s.lookup.overlay.params (g.D.Disk.state s.lookup.overlay.disk) (g.met.D.Disk.sound s.lookup.overlay.disk))

@@ -18,11 +18,11 @@ stage-requires-clause-fits g c = λ m is.
 pub returns-in_err-kept-clause-call : goal.returns-in_err-kept-clause-call
 returns-in_err-kept-clause-call g c =
     let s = c.self.inside in
-    let now = staged_state g.D.Disk.state s.lookup.overlay.params s.lookup.finder.draw s.lookup.overlay.disk s.changes.pages.entries s.lookups s.is_spent in
+    let now = staged_state g.D.Disk.state s.lookup.overlay.params s.lookup.finder.draw s.lookup.overlay.disk s.changes.pages.entries s.lookup.memo s.lookups s.is_spent in
     let p = err_from_is_err_and c.from_residual.result c.from_residual.ensures.1 in
     rw (p.1, p.2) (put_refused g.D.Disk.state now c.args.self.now (record { label = c.args.label.now; cells = cells_in c.args.label.now.level c.args.count c.args.run.now }) c.self.view_is)
 
 pub returns-in_err-kept-clause-follows : goal.returns-in_err-kept-clause-follows
 returns-in_err-kept-clause-follows g c =
     let s = c.self.inside in
-    view_follows g.D.Disk.state s.lookup.finder.draw s.lookup.overlay.params s.lookup.overlay.params s.lookup.overlay.disk s.lookup.overlay.disk s.changes.pages.entries s.changes.pages.entries s.lookups s.lookups s.is_spent _ c.self.view_is (KeepsView-refl s.lookup.overlay.params (g.D.Disk.state s.lookup.overlay.disk) (g.met.D.Disk.sound s.lookup.overlay.disk))
+    view_follows g.D.Disk.state s.lookup.finder.draw s.lookup.overlay.params s.lookup.overlay.params s.lookup.overlay.disk s.lookup.overlay.disk s.changes.pages.entries s.changes.pages.entries s.lookup.memo s.lookup.memo s.lookups s.lookups s.is_spent _ c.self.view_is (KeepsView-refl s.lookup.overlay.params (g.D.Disk.state s.lookup.overlay.disk) (g.met.D.Disk.sound s.lookup.overlay.disk))

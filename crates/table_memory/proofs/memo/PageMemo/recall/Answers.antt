@@ -3,8 +3,8 @@ use Rattle.std.proofs.lemmas.Option.{slice_get_read}
 use Rattle.table_memory.proofs.MemoLemmas.{recalled_at}
 use Rattle.table_memory.proofs.memo.PageMemo.recall.Goals as goal
 
-pub returns-then-eq : goal.returns-then-eq
-returns-then-eq c =
+pub returns-then-eq-clause-found : goal.returns-then-eq-clause-found
+returns-then-eq-clause-found c =
     let shown = c.deref.result.now in
     let what = c.in_ok-kept.field-0.now in
     let looked = c.in_ok-kept.ensures.lookup in
