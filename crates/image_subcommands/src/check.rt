@@ -12,11 +12,7 @@ use image_check::check;
 use script_lines::{Sink, Source};
 
 /// Checks the image of a disk, and prints the line of the verdict.
-pub fn check_disk<D: Disk, R: Source, W: Sink>(
-    disk: D,
-    source: R,
-    sink: W,
-) -> Outcome<D, R, W>
+pub fn check_disk<D: Disk, R: Source, W: Sink>(disk: D, source: R, sink: W) -> Outcome<D, R, W>
     ensures check { IsCheck D.state W.state (outside_of disk source sink) result }
     ensures memory { result.status ≢ Status.NoMemory }
     ensures outside { KeepsOutside result.status (D.state disk) (D.state result.disk) (R.state source) (R.state result.source) (W.state sink) (W.state result.sink) }

@@ -134,7 +134,12 @@ fn walk_in<L: Ledger>(
 }
 
 /// As `walk_in`, with a ledger for steps that nobody counts.
-fn walk(slots: &mut MemSlots, draw: &RulerDraw, used: u32, fronts: &mut Fronts) -> Result<bool, Fault>
+fn walk(
+    slots: &mut MemSlots,
+    draw: &RulerDraw,
+    used: u32,
+    fronts: &mut Fronts,
+) -> Result<bool, Fault>
     requires count { (mem_state slots.old).count ≡ draw.now.slots }
     requires most { draw.now.slots ≤ 16 }
 {
@@ -163,7 +168,12 @@ fn walk_over(
 static WORKED: [Sample; 8] = [
     (2, None, 0, &[*b"UU\0"]),
     (1, None, 0, &[*b"U\0\0"]),
-    (1, Some(*b"UU\0"), 0, &[*b"UU\0", *b"aU\0", *b"aaU", *b"bU\0"]),
+    (
+        1,
+        Some(*b"UU\0"),
+        0,
+        &[*b"UU\0", *b"aU\0", *b"aaU", *b"bU\0"],
+    ),
     (0, Some(*b"U\0\0"), 0, &[*b"U\0\0"]),
     (0, Some(*b"UU\0"), 0, &[*b"UU\0"]),
     (0, Some(*b"aU\0"), 0, &[*b"aU\0"]),
@@ -181,16 +191,7 @@ fn the_pages_of_a_list_are_walked_over(rt: HostRuntime) {
 
 /// The keys of a full page of level 0, and of the page behind it.
 const TEN: [Front; 10] = [
-    [1; 3],
-    [2; 3],
-    [3; 3],
-    [4; 3],
-    [5; 3],
-    [6; 3],
-    [7; 3],
-    [8; 3],
-    [9; 3],
-    [10; 3],
+    [1; 3], [2; 3], [3; 3], [4; 3], [5; 3], [6; 3], [7; 3], [8; 3], [9; 3], [10; 3],
 ];
 
 /// Tables of the height 2 with the pages of a list, and how many pages there are.
