@@ -3,7 +3,6 @@
 
 ghost use Rattle.std.specs.Prelude.{◌≡◌, length};
 
-use super::layouts::layout;
 use super::unseen_disk::{FailingPages, TestedPages, settle, stage, stage_failing};
 use disk_model::StopChoice;
 use layout_scratch::Layout;
@@ -14,7 +13,7 @@ use std::process::Abort;
 use store_base::{
     BLOCK, DrawKind, Fault, Key, Label, NoMemory, Params, Slot, table_at, write_header,
 };
-use test_samples::{key, led};
+use test_samples::{key, layout, led};
 
 /// A table with some pages: its parameters, the pages in the order of their slots, and the image that it makes with an
 /// empty journal.

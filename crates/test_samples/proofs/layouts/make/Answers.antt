@@ -7,7 +7,7 @@ use Rattle.std.proofs.lemmas.Map.Keys.{IsDistinct-push}
 use Rattle.store_model.specs.Paths.{key_cmp}
 use Rattle.store_model.specs.Pairs.{Pair}
 use Rattle.layout_scratch.specs.Sorting.{HasDistinctKeys}
-use Rattle.layer_tests.proofs.tests.layouts.make.Goals as goal
+use Rattle.test_samples.proofs.layouts.make.Goals as goal
 
 -- a search through the keys of pairs
 list_any-keys : (test : List ℕ → Bool) (pairs : List Pair) → list_any test (map (λ p. p.0) pairs) ≡ list_any (λ p. test p.0) pairs

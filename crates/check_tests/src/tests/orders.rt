@@ -17,13 +17,13 @@ use table_order::check_order;
 use test_samples::{key, slot_with, start_label};
 
 /// What a slot holds: a page of this rank that starts in this slot, or nothing.
-type Entry = Option<(u16, u32)>;
+pub(super) type Entry = Option<(u16, u32)>;
 
 /// A draw that counts the starts that it draws.
 #[derive(Drop)]
-struct CountedDraw {
-    draw: AnyDraw,
-    starts: std::cell::Cell<u64>,
+pub(super) struct CountedDraw {
+    pub(super) draw: AnyDraw,
+    pub(super) starts: std::cell::Cell<u64>,
 }
 
 impl Draw for CountedDraw {
@@ -96,15 +96,22 @@ fn used_in<L: Ledger>(
     requires parts { blank.parts ≡ L.parts }
     requires some { 0 < L.parts }
     requires count { (mem_state slots.old).count ≡ (any_draw draw.now.draw).slots }
-    requires most { (any_draw draw.now.draw).slots ≤ 16384 }
+    requires most { (any_draw draw.now.draw).slots ≤ 1024 }
 {
-    check_order(slots, draw, draw.height(), &mut Steps::<L>::new(blank))
+    let mut entries = [label_index::Entry::BLANK; MANY as usize];
+    check_order(
+        slots,
+        draw,
+        draw.height(),
+        &mut entries,
+        &mut Steps::<L>::new(blank),
+    )
 }
 
 /// As `used_in`, with a ledger for the steps.
 fn used(slots: &mut MemSlots, draw: &CountedDraw) -> Result<Option<u32>, Fault>
     requires count { (mem_state slots.old).count ≡ (any_draw draw.now.draw).slots }
-    requires most { (any_draw draw.now.draw).slots ≤ 16384 }
+    requires most { (any_draw draw.now.draw).slots ≤ 1024 }
 {
     used_in::<Brand>(slots, draw, Blank::new(1))
 }
@@ -113,7 +120,7 @@ fn used(slots: &mut MemSlots, draw: &CountedDraw) -> Result<Option<u32>, Fault>
 fn check_slots(rt: &impl Abort, mut slots: MemSlots, draw: AnyDraw) -> Checked
     requires { (mem_state slots).count ≡ (any_draw draw).slots }
 {
-    assert!(rt; draw.slots() <= 16_384);
+    assert!(rt; draw.slots() <= MANY);
     let counted = CountedDraw {
         draw,
         starts: std::cell::Cell::new(0),
@@ -127,17 +134,25 @@ fn check_slots(rt: &impl Abort, mut slots: MemSlots, draw: AnyDraw) -> Checked
     }
 }
 
-/// A check of a table with these entries, of two levels under `ruler`.
-fn check_entries(rt: &impl Abort, alloc: Global, count: u32, entries: &[Entry]) -> Checked {
-    let params = Params::new(count, 2, DrawKind::Ruler, [0; 32]).expect(rt, "parameters");
-    let draw = AnyDraw::new(&params);
-    let mut slots = MemSlots::new(alloc, draw.slots(), Vec::new(alloc)).expect(rt, "memory");
-    for at in 0..draw.slots() {
+/// So many slots, with these entries.
+pub(super) fn slots_with(rt: &impl Abort, alloc: Global, count: u32, entries: &[Entry]) -> MemSlots
+    ensures { (mem_state result).count ≡ count }
+{
+    let mut slots = MemSlots::new(alloc, count, Vec::new(alloc)).expect(rt, "memory");
+    for at in 0..count {
         if let Some(Some((rank, start))) = entries.get(at as usize) {
             let page = page_of(label_of(*rank, *start));
             slots.set(at, page.as_slot()).expect(rt, "a write");
         }
     }
+    slots
+}
+
+/// A check of a table with these entries, of two levels under `ruler`.
+fn check_entries(rt: &impl Abort, alloc: Global, count: u32, entries: &[Entry]) -> Checked {
+    let params = Params::new(count, 2, DrawKind::Ruler, [0; 32]).expect(rt, "parameters");
+    let draw = AnyDraw::new(&params);
+    let slots = slots_with(rt, alloc, draw.slots(), entries);
     check_slots(rt, slots, draw)
 }
 
@@ -208,12 +223,12 @@ fn all_tables_of_four_slots(rt: HostRuntime) {
 }
 
 /// How many slots the tables have that are made to take work.
-const MANY: u32 = 1024;
+pub(super) const MANY: u32 = 1024;
 
 /// A table that takes a square of its slots where a check jumps back over pages alone whose own way is known. Half of the
 /// pages stand where they start, and of the others one by turns starts before all and one just behind that half. It is
 /// turned by so many slots; where it is marred, the last two pages stand in each other's place.
-fn jumps(alloc: Global, turn: u32, is_marred: bool) -> Result<Vec<Entry>, AllocError> {
+pub(super) fn jumps(alloc: Global, turn: u32, is_marred: bool) -> Result<Vec<Entry>, AllocError> {
     let mut entries: Vec<Entry> = vec![in alloc; None; 1024]?;
     for rank in 0..MANY {
         let place = if is_marred && rank >= MANY - 2 {

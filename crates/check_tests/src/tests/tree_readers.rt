@@ -1,11 +1,16 @@
 //! Pairs that are read one after another: those of trees, and others. What each list of pairs is was worked out by hand.
 
-use super::paths::path;
+use path_keys::Path;
 use std::alloc::{AllocError, Global};
 use std::process::Abort;
 use store_base::{Key, Value};
 use tree_pairs::{directory_value, file_value};
 use tree_reader::{Counts, TreeReader, count_tree};
+
+/// The path that a text spells.
+fn path(rt: &impl Abort, text: &str) -> Path {
+    Path::parse(text.as_bytes()).expect(rt, "a path")
+}
 
 /// What a pair has as its value.
 #[derive(Clone, Copy)]

@@ -5,7 +5,7 @@ use Rattle.std.specs.List.{IsDistinct}
 use Rattle.store_model.specs.Placement.{Table, place}
 use Rattle.store_model.proofs.PlacementLemmas.{length-place}
 use Rattle.layout_scratch.specs.Sorting.{HasDistinctKeys}
-use Rattle.layer_tests.proofs.tests.layouts.layout.Goals as goal
+use Rattle.test_samples.proofs.layouts.layout.Goals as goal
 
 -- what is a placement has all slots
 placed_len : {E : Type 0} (d : Draw) (pages : List Page) (r : Result Table E) → IfOk r (λ table. table ≡ place d pages) → IfOk r (λ table. length table ≡ d.slots)

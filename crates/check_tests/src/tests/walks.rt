@@ -1,0 +1,202 @@
+//! The check of a table's order, and the walk over its groups behind it: their reads of slots and the starts that they
+//! draw, on full tables of 1,024 slots, also such as are made to take work. The limits are eight reads and four starts for
+//! each slot; what is held here is half of the one and a quarter of the other.
+
+ghost use Rattle.std.specs.Prelude.{◌≡◌, ◌≤◌, ◌<◌};
+ghost use Rattle.seeded_draw.specs.AnyDrawn.{any_draw};
+ghost use Rattle.ordered_table.specs.MemSlots.{mem_state};
+
+use super::orders::{CountedDraw, MANY, jumps, slots_with};
+use group_walk::{TakesPairs, walk_groups};
+use label_index::Entry;
+use ordered_table::{MemSlots, Steps};
+use seeded_draw::{AnyDraw, Draw};
+use std::alloc::{AllocError, Global};
+use std::marker::Brand;
+use std::process::Abort;
+use std::sync::ledger::{Blank, Ledger};
+use store_base::{DrawKind, Fault, Key, Params, Slots, Value};
+use store_model::BLOCK;
+use table_order::check_order;
+use test_samples::{key, layout};
+
+/// Counts the pairs that a walk comes to.
+#[derive(Drop)]
+struct PairCount {
+    pairs: u32,
+}
+
+impl TakesPairs for PairCount {
+    ghost took = { λ _ _. Unit {0} };
+
+    fn take(&mut self, _key: &Key, _value: &Value) {
+        self.pairs = self.pairs.saturating_add(1);
+    }
+}
+
+/// What a check answered, the pairs that it came to, its reads, and the starts that it drew.
+#[derive(Clone, Copy)]
+struct Checked {
+    is_whole: bool,
+    pairs: u32,
+    reads: u64,
+    starts: u64,
+}
+
+/// Whether the slots are a table in order, and the walk comes to all of its pages.
+fn check_by<L: Ledger>(
+    slots: &mut MemSlots,
+    draw: &CountedDraw,
+    sink: &mut PairCount,
+    blank: Blank,
+) -> Result<bool, Fault>
+    requires name { blank.name ≡ L.name }
+    requires parts { blank.parts ≡ L.parts }
+    requires some { 0 < L.parts }
+    requires count { (mem_state slots.old).count ≡ (any_draw draw.now.draw).slots }
+    requires most { (any_draw draw.now.draw).slots ≤ 1024 }
+{
+    let mut entries = [Entry::BLANK; MANY as usize];
+    let mut steps = Steps::<L>::new(blank);
+    let Some(used) = check_order(slots, draw, draw.height(), &mut entries, &mut steps)? else {
+        return Ok(false);
+    };
+    walk_groups(slots, draw, &entries[..used as usize], used, sink)
+}
+
+/// As `check_by`, with a ledger for the steps.
+fn check(slots: &mut MemSlots, draw: &CountedDraw, sink: &mut PairCount) -> Result<bool, Fault>
+    requires count { (mem_state slots.old).count ≡ (any_draw draw.now.draw).slots }
+    requires most { (any_draw draw.now.draw).slots ≤ 1024 }
+{
+    check_by::<Brand>(slots, draw, sink, Blank::new(1))
+}
+
+/// A check of the slots, counted; a fault fails the test.
+fn count_check(rt: &impl Abort, mut slots: MemSlots, draw: AnyDraw) -> Checked
+    requires { (mem_state slots).count ≡ (any_draw draw).slots }
+{
+    assert!(rt; draw.slots() <= MANY);
+    let counted = CountedDraw {
+        draw,
+        starts: std::cell::Cell::new(0),
+    };
+    let mut sink = PairCount { pairs: 0 };
+    let before = slots.calls();
+    let is_whole = check(&mut slots, &counted, &mut sink).expect(rt, "a check");
+    Checked {
+        is_whole,
+        pairs: sink.pairs,
+        reads: slots.calls().saturating_sub(before),
+        starts: counted.starts.get(),
+    }
+}
+
+/// The table of pairs with these keys.
+fn table_of(rt: &impl Abort, alloc: Global, params: &Params, keys: &[Key]) -> MemSlots
+    ensures { (mem_state result).count ≡ params.now.slots }
+{
+    let table = layout(rt, alloc, params, keys).expect(rt, "a layout");
+    assert!(rt; table.used() == params.slots(), "{} pages", table.used());
+    let mut slots = MemSlots::new(alloc, params.slots(), Vec::new(alloc)).expect(rt, "memory");
+    let mut slot = [0; BLOCK];
+    for at in 0..params.slots() {
+        table.slot(at, &mut slot);
+        slots.set(at, &slot).expect(rt, "a write");
+    }
+    slots
+}
+
+/// Holds the check of a full table of pairs with these keys to the limits.
+fn hold_full_table(rt: &impl Abort, alloc: Global, kind: DrawKind, height: u8, keys: &[Key]) {
+    let params = Params::new(MANY, height, kind, [0; 32]).expect(rt, "parameters");
+    let slots = table_of(rt, alloc, &params, keys);
+    let Checked {
+        is_whole,
+        pairs,
+        reads,
+        starts,
+    } = count_check(rt, slots, AnyDraw::new(&params));
+    assert!(rt; is_whole && pairs as usize == keys.len(), "{pairs} pairs");
+    assert!(rt;
+        reads <= 4 * 1024 && starts <= 1024,
+        "{reads} reads and {starts} starts"
+    );
+}
+
+/// So many keys of three letters below `@`, in their order.
+fn plain_keys(alloc: Global, count: u32) -> Result<Vec<Key>, AllocError> {
+    let mut keys = Vec::new(alloc);
+    for number in 0..count {
+        let front = [
+            (number / 4096 % 64) as u8,
+            (number / 64 % 64) as u8,
+            (number % 64) as u8,
+        ];
+        keys.push(key(&front))?;
+    }
+    Ok(keys)
+}
+
+#[test]
+fn one_group_fills_the_table(rt: HostRuntime) {
+    let keys = plain_keys(rt.alloc(), 10 * MANY).expect(&rt, "memory");
+    hold_full_table(&rt, rt.alloc(), DrawKind::Ruler, 1, &keys);
+}
+
+#[test]
+fn groups_by_digests_fill_the_table(rt: HostRuntime) {
+    // Of so many keys the pages were counted by another program: they are 1,024.
+    let keys = plain_keys(rt.alloc(), 7386).expect(&rt, "memory");
+    hold_full_table(&rt, rt.alloc(), DrawKind::Sha256, 4, &keys);
+}
+
+/// The keys of 991 groups behind one that the start leads, each of ten, so that its one page is full and has no next one.
+/// With the 32 pages of the leaders above them they fill 1,024 slots. Where the sums are the same, those of the leaders'
+/// bytes are, and so the pages of all groups start in one slot under `ruler`.
+fn keys_of_full_groups(alloc: Global, have_one_sum: bool) -> Result<Vec<Key>, AllocError> {
+    let mut keys = plain_keys(alloc, 10)?;
+    for number in 0..991u32 {
+        let [high, low] = [1 + (number / 64 % 64) as u8, (number % 64) as u8];
+        let rest = if have_one_sum { 127 - high - low } else { 0 };
+        keys.push(key(&[high, low, b'U', rest]))?;
+        for more in 0..9u8 {
+            keys.push(key(&[high, low, b'V' + more, 0]))?;
+        }
+    }
+    Ok(keys)
+}
+
+#[test]
+fn last_runs_are_full(rt: HostRuntime) {
+    let keys = keys_of_full_groups(rt.alloc(), false).expect(&rt, "memory");
+    hold_full_table(&rt, rt.alloc(), DrawKind::Ruler, 2, &keys);
+}
+
+#[test]
+fn all_groups_start_in_one_slot(rt: HostRuntime) {
+    let keys = keys_of_full_groups(rt.alloc(), true).expect(&rt, "memory");
+    hold_full_table(&rt, rt.alloc(), DrawKind::Ruler, 2, &keys);
+}
+
+#[test]
+fn ways_made_for_jumping_back(rt: HostRuntime) {
+    for (turn, is_marred) in [(0, false), (700, false), (0, true), (700, true)] {
+        let entries = jumps(rt.alloc(), turn, is_marred).expect(&rt, "memory");
+        let params = Params::new(MANY, 2, DrawKind::Ruler, [0; 32]).expect(&rt, "parameters");
+        let draw = AnyDraw::new(&params);
+        let slots = slots_with(&rt, rt.alloc(), draw.slots(), &entries);
+        let Checked {
+            is_whole,
+            reads,
+            starts,
+            ..
+        } = count_check(&rt, slots, draw);
+        // No start leads to its groups, so the walk comes to none of its pages.
+        assert!(&rt; !is_whole);
+        assert!(&rt;
+            reads <= 4 * 1024 && starts <= 1024,
+            "{reads} reads and {starts} starts at {turn}"
+        );
+    }
+}
