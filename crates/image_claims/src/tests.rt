@@ -6,9 +6,9 @@
 //! at 258 that it is a directory.
 
 use crate::{
-    call_anything, call_counted, call_unserved, check, check_at_cost, check_behind_runs,
-    check_then_run, format, format_at_cost, format_cut_short, number_of, scrub, scrub_at_cost,
-    scrub_cut_short, wipe, wipe_at_cost, wipe_cut_short, wipe_then_format,
+    Judged, Remade, Scrubs, call_anything, call_counted, call_unserved, check, check_at_cost,
+    check_behind_runs, check_then_run, format, format_at_cost, format_cut_short, number_of, scrub,
+    scrub_at_cost, scrub_cut_short, wipe, wipe_at_cost, wipe_cut_short, wipe_then_format,
 };
 use disk_model::{FailingDisk, MemDisk, StopChoice};
 use script_claims::{Machine, Making};
@@ -152,8 +152,12 @@ fn a_disk_is_wiped(rt: HostRuntime) {
         &least,
         machine(&rt, alloc, &image, NEVER, ""),
     );
-    assert!(rt; (remade.wipe == Status::Done) & (remade.format.status == Status::Done));
-    assert!(rt; remade.format.disk.into_disk().bytes() == empty(&rt, alloc).as_slice());
+    let Remade {
+        wipe: wiped,
+        format: made,
+    } = remade;
+    assert!(rt; (wiped == Status::Done) & (made.status == Status::Done));
+    assert!(rt; made.disk.into_disk().bytes() == empty(&rt, alloc).as_slice());
 }
 
 /// Looks whether a check of these bytes ends so and prints this.
@@ -187,11 +191,15 @@ fn a_check_and_a_run_agree(rt: HostRuntime) {
     let (checking, running) = (words(&rt, alloc, "check"), words(&rt, alloc, "run"));
     let image = one_directory(&rt, alloc);
     let this = machine(&rt, alloc, &image, NEVER, "list /\n");
-    let judged = check_then_run(alloc, &checking, &running, this, sink(&rt, alloc));
-    assert!(rt; (judged.check == Status::Done) & (judged.run.status == Status::Done));
-    assert!(rt; judged.line.written() == "clean 1 1 0 0\n".as_bytes());
-    assert!(rt; judged.run.sink.written() == "d a\nend\n".as_bytes());
-    assert!(rt; judged.run.disk.into_disk().bytes() == image.as_slice());
+    let Judged {
+        check: checked,
+        line,
+        run,
+    } = check_then_run(alloc, &checking, &running, this, sink(&rt, alloc));
+    assert!(rt; (checked == Status::Done) & (run.status == Status::Done));
+    assert!(rt; line.written() == "clean 1 1 0 0\n".as_bytes());
+    assert!(rt; run.sink.written() == "d a\nend\n".as_bytes());
+    assert!(rt; run.disk.into_disk().bytes() == image.as_slice());
 
     let this = machine(&rt, alloc, &unclean(&rt, alloc), NEVER, "list /\n");
     let judged = check_then_run(alloc, &checking, &running, this, sink(&rt, alloc));
@@ -216,8 +224,9 @@ fn an_image_is_scrubbed(rt: HostRuntime) {
     let left = machine(&rt, alloc, &bytes, NEVER, "");
     let twin = machine(&rt, alloc, &bytes, NEVER, "");
     let scrubs = scrub_cut_short(alloc, &scrubbing, cut, left, twin);
-    assert!(rt; (scrubs.again.status == Status::Done) & (scrubs.whole.status == Status::Done));
-    assert!(rt; scrubs.again.disk.into_disk().bytes() == empty(&rt, alloc).as_slice());
+    let Scrubs { again, whole, .. } = scrubs;
+    assert!(rt; (again.status == Status::Done) & (whole.status == Status::Done));
+    assert!(rt; again.disk.into_disk().bytes() == empty(&rt, alloc).as_slice());
 }
 
 #[test]

@@ -1,6 +1,6 @@
 //! The layout of directories by their keys.
 
-ghost use Rattle.std.specs.Prelude.{◌≡◌, length, IfOk};
+ghost use Rattle.std.specs.Prelude.{◌≡◌, length, IfOk, IfSome};
 ghost use Rattle.std.specs.List.{list_any};
 ghost use Rattle.std.specs.Ordering.{is_eq};
 ghost use Rattle.store_model.specs.Paths.{key_cmp};
@@ -9,7 +9,6 @@ ghost use Rattle.layout_scratch.specs.Sorting.{HasDistinctKeys};
 use layout_scratch::{Layout, ScratchFault, build};
 use node_pages::PairList;
 use std::alloc::Global;
-use std::process::Abort;
 use store_base::{Key, NoMemory, Params, Value};
 
 /// Whether a pair has the key.
@@ -19,29 +18,32 @@ fn is_there(pairs: &PairList, key: &Key) -> bool
     pairs.as_slice().iter().any(|pair| key.cmp(&pair.0).is_eq())
 }
 
-/// Adds the pair of a directory with the key, which no pair has.
-fn make(rt: &impl Abort, pairs: &mut PairList, key: Key) -> Result<(), NoMemory>
+/// Adds the pair of a directory with the key, and says so. Where a pair has the key already, and without the memory for it,
+/// all stays as it was.
+fn make(pairs: &mut PairList, key: Key) -> Result<bool, NoMemory>
     requires { HasDistinctKeys pairs.old }
     ensures { HasDistinctKeys pairs.new }
 {
-    assert!(rt; !is_there(pairs, &key));
+    if is_there(pairs, &key) {
+        return Ok(false);
+    }
     pairs.push((key, Value::new(&[1])))?;
-    Ok(())
+    Ok(true)
 }
 
-/// The layout of directories with these keys, at most 16,384.
-pub fn layout(
-    rt: &impl Abort,
-    alloc: Global,
-    params: &Params,
-    keys: &[Key],
-) -> Result<Layout, ScratchFault>
-    ensures { IfOk result (λ layout. length layout ≡ params.now.slots) }
+/// The layout of directories with these keys, or why they have none; nothing for more than 16,384 keys, for two equal ones,
+/// and without the memory for their pairs.
+pub fn layout(alloc: Global, params: &Params, keys: &[Key]) -> Option<Result<Layout, ScratchFault>>
+    ensures { IfSome result (λ answer. IfOk answer (λ layout. length layout ≡ params.now.slots)) }
 {
     let mut pairs = PairList::new(alloc);
     for key in keys {
-        make(rt, &mut pairs, *key).expect(rt, "memory");
+        if !make(&mut pairs, *key).ok()? {
+            return None;
+        }
     }
-    assert!(rt; pairs.len() <= 16384);
-    build(alloc, params, &pairs)
+    if pairs.len() > 16384 {
+        return None;
+    }
+    Some(build(alloc, params, &pairs))
 }

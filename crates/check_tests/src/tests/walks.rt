@@ -96,7 +96,8 @@ fn count_check(rt: &impl Abort, mut slots: MemSlots, draw: AnyDraw) -> Checked
 fn table_of(rt: &impl Abort, alloc: Global, params: &Params, keys: &[Key]) -> MemSlots
     ensures { (mem_state result).count ≡ params.now.slots }
 {
-    let table = layout(rt, alloc, params, keys).expect(rt, "a layout");
+    let table = layout(alloc, params, keys).expect(rt, "distinct keys");
+    let table = table.expect(rt, "a layout");
     assert!(rt; table.used() == params.slots(), "{} pages", table.used());
     let mut slots = MemSlots::new(alloc, params.slots(), Vec::new(alloc)).expect(rt, "memory");
     let mut slot = [0; BLOCK];

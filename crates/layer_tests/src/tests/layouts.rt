@@ -21,7 +21,7 @@ fn tall_keys(rt: &impl Abort, alloc: Global, count: u16) -> Vec<Key> {
 /// own on seven levels, with one page; the highest level has a page for 31 of them.
 fn tall(rt: &impl Abort, alloc: Global, count: u16) -> Result<u32, ScratchFault> {
     let params = Params::new(16384, 8, DrawKind::Ruler, [0; 32]).expect(rt, "parameters");
-    match layout(rt, alloc, &params, &tall_keys(rt, alloc, count)) {
+    match layout(alloc, &params, &tall_keys(rt, alloc, count)).expect(rt, "distinct keys") {
         Ok(layout) => Ok(layout.used()),
         Err(fault) => Err(fault),
     }

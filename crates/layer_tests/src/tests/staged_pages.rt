@@ -84,7 +84,8 @@ fn keys_of(rt: &impl Abort, alloc: Global, letters: &[u8]) -> Vec<Key> {
 fn table_of(rt: &impl Abort, alloc: Global, letters: &[u8]) -> Table {
     let params = Params::new(8, 2, DrawKind::Ruler, [0; 32]).expect(rt, "parameters");
     let keys = keys_of(rt, alloc, letters);
-    let layout = layout(rt, alloc, &params, &keys).expect(rt, "a layout");
+    let layout = layout(alloc, &params, &keys).expect(rt, "distinct keys");
+    let layout = layout.expect(rt, "a layout");
     table_from(rt, alloc, &params, &layout)
 }
 

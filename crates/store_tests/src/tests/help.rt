@@ -90,7 +90,7 @@ Subcommands:
   wipe    Makes every byte of the file zero, whatever the file is.
   big     Carries out generated commands, and prints what came of them.
 
-IMAGE is the path of the image's file. `format` makes the file; every other subcommand wants it there.
+IMAGE is the path of the image's file. `format` makes the file; every other word wants it there.
 Numbers are decimal digits, with no sign and no leading zero.
 == format
 Makes an image with nothing in it.

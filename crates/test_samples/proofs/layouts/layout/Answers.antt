@@ -14,8 +14,8 @@ placed_len d pages (Err fault) is = tt
 
 pub loop-key-init : goal.loop-key-init
 unfolding IsDistinct
-loop-key-init g c = subst HasDistinctKeys (sym c.new-pairs.ensures) tt
+loop-key-init c = subst HasDistinctKeys (sym c.new-pairs.ensures) tt
 
 pub returns : goal.returns
 unfolding draw_of
-returns g c = placed_len (draw_of c.args.params.now) _ c.build.result c.build.ensures.value
+returns c = placed_len (draw_of c.args.params.now) _ c.build.result c.build.ensures.value

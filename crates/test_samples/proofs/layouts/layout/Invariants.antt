@@ -2,4 +2,4 @@ use Rattle.layout_scratch.specs.Sorting.{HasDistinctKeys}
 use Rattle.test_samples.proofs.layouts.layout.Given as goal
 
 abbrev pub invariant-loop-key : goal.invariant-loop-key
-invariant-loop-key g l = HasDistinctKeys l.pairs
+invariant-loop-key l = HasDistinctKeys l.pairs

@@ -21,6 +21,6 @@ distinct_push pairs more pair there there_is is_new more_is distinct =
     (IsDistinct-push (eq_by_cmp_equiv nat_list_cmp_total) (map (λ p. p.0) pairs) pair.0 distinct (list_any-keys (eq_by_cmp key_cmp pair.0) pairs ∙ sym there_is ∙ is_new))
 
 pub returns : goal.returns
-returns g c =
+returns c =
     let is_new : c.is_there.result ≡ false = search rules in
     distinct_push c.args.pairs.now c.push.new.self _ c.is_there.result c.is_there.ensures is_new c.in_ok-push.ensures.ok c.requires
