@@ -3,7 +3,7 @@
 use layout_scratch::ScratchFault;
 use std::alloc::Global;
 use std::process::Abort;
-use store_base::{DrawKind, Params};
+use store_base::{DrawKind, Key, Params};
 use test_samples::{key, layout};
 
 /// So many keys of seven letters `U` and a number: with the draw `ruler` they stand on all of eight levels.
