@@ -152,8 +152,9 @@ fn a_disk_is_wiped(rt: HostRuntime) {
         &least,
         machine(&rt, alloc, &image, NEVER, ""),
     );
-    assert!(rt; (remade.wipe == Status::Done) & (remade.format.status == Status::Done));
-    assert!(rt; remade.format.disk.into_disk().bytes() == empty(&rt, alloc).as_slice());
+    let made = remade.format;
+    assert!(rt; (remade.wipe == Status::Done) & (made.status == Status::Done));
+    assert!(rt; made.disk.into_disk().bytes() == empty(&rt, alloc).as_slice());
 }
 
 /// Looks whether a check of these bytes ends so and prints this.
@@ -188,15 +189,17 @@ fn a_check_and_a_run_agree(rt: HostRuntime) {
     let image = one_directory(&rt, alloc);
     let this = machine(&rt, alloc, &image, NEVER, "list /\n");
     let judged = check_then_run(alloc, &checking, &running, this, sink(&rt, alloc));
-    assert!(rt; (judged.check == Status::Done) & (judged.run.status == Status::Done));
     assert!(rt; judged.line.written() == "clean 1 1 0 0\n".as_bytes());
-    assert!(rt; judged.run.sink.written() == "d a\nend\n".as_bytes());
-    assert!(rt; judged.run.disk.into_disk().bytes() == image.as_slice());
+    let run = judged.run;
+    assert!(rt; (judged.check == Status::Done) & (run.status == Status::Done));
+    assert!(rt; run.sink.written() == "d a\nend\n".as_bytes());
+    assert!(rt; run.disk.into_disk().bytes() == image.as_slice());
 
     let this = machine(&rt, alloc, &unclean(&rt, alloc), NEVER, "list /\n");
     let judged = check_then_run(alloc, &checking, &running, this, sink(&rt, alloc));
-    assert!(rt; (judged.check == Status::Damaged) & (judged.run.status == Status::Damaged));
-    assert!(rt; judged.run.sink.written() == "".as_bytes());
+    let run = judged.run;
+    assert!(rt; (judged.check == Status::Damaged) & (run.status == Status::Damaged));
+    assert!(rt; run.sink.written() == "".as_bytes());
 }
 
 #[test]
@@ -216,8 +219,9 @@ fn an_image_is_scrubbed(rt: HostRuntime) {
     let left = machine(&rt, alloc, &bytes, NEVER, "");
     let twin = machine(&rt, alloc, &bytes, NEVER, "");
     let scrubs = scrub_cut_short(alloc, &scrubbing, cut, left, twin);
-    assert!(rt; (scrubs.again.status == Status::Done) & (scrubs.whole.status == Status::Done));
-    assert!(rt; scrubs.again.disk.into_disk().bytes() == empty(&rt, alloc).as_slice());
+    let again = scrubs.again;
+    assert!(rt; (again.status == Status::Done) & (scrubs.whole.status == Status::Done));
+    assert!(rt; again.disk.into_disk().bytes() == empty(&rt, alloc).as_slice());
 }
 
 #[test]
