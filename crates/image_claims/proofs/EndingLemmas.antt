@@ -2,8 +2,7 @@
 use Rattle.std.proofs.Common.{◌≡◌, ◌⊎◌, List, [], ◌∷◌, ℕ, false, IsTrue, refl, sym, subst, ◌∙◌, inl, inr, ⊎_elim}
 use Rattle.std.specs.List.{AllByRecursion}
 use Rattle.std.proofs.lemmas.Bool.{false≢true}
-use Rattle.store_model.specs.Parameters.{Parameters}
-use Rattle.store_model.specs.Words.Request.{Format, Run, Check, Scrub, Wipe, Big}
+use Rattle.store_model.specs.Words.Request.{Run, Check, Scrub, Wipe}
 use Rattle.image_subcommands.specs.declared.status.Status.{Status}
 use Rattle.image_subcommands.specs.declared.status.Status.TheVariants.{Done, Usage, SourceFault, SinkFault, DiskFault, TooLong, NotImage, Damaged, NoMemory, AlreadyImage, WrongLength}
 use Rattle.image_subcommands.specs.Statuses.{row, IsFormatStatus, IsRunStatus, IsCheckStatus, IsScrubStatus, IsWipeStatus, IsBigStatus, IsJudged, IsRefusedImage, IsRefusedDisk, IsPastHeader, IsSummed, IsBetweenLines, MayComeFirst, done_of_work, done_of_verdict}
