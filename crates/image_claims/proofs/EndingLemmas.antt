@@ -114,20 +114,6 @@ comes_first NoMemory h = inr (inl refl)
 comes_first AlreadyImage h = absurd (false≢true h)
 comes_first WrongLength h = absurd (false≢true h)
 
--- that a verdict was come to
-pub judged : (status : Status) → IsJudged status → IsOneOf status (Done ∷ SinkFault ∷ NotImage ∷ Damaged ∷ [])
-judged Done h = inl refl
-judged Usage h = absurd (false≢true h)
-judged SourceFault h = absurd (false≢true h)
-judged SinkFault h = inr (inl refl)
-judged DiskFault h = absurd (false≢true h)
-judged TooLong h = absurd (false≢true h)
-judged NotImage h = inr (inr (inl refl))
-judged Damaged h = inr (inr (inr (inl refl)))
-judged NoMemory h = absurd (false≢true h)
-judged AlreadyImage h = absurd (false≢true h)
-judged WrongLength h = absurd (false≢true h)
-
 -- a call ends as is expected, or for what may come before
 pub reported : (expected status : Status) → (status ≡ expected) ⊎ IsUnreported status → IsOneOf status (expected ∷ SinkFault ∷ DiskFault ∷ NoMemory ∷ [])
 reported expected status (inl e) = inl e
