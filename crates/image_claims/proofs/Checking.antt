@@ -1,11 +1,11 @@
 -- What a check says of the bytes on a disk, and what a run of the same bytes does.
-use Rattle.std.proofs.Common.{◌≡◌, ◌⊎◌, ℕ, List, [], ◌∷◌, ◌++◌, length, take, codes, IsTrue, refl, sym, ap, subst, ◌∙◌, inl, inr, ⊎_elim, arith}
+use Rattle.std.proofs.Common.{◌≡◌, ◌⊎◌, ℕ, List, [], ◌∷◌, ◌++◌, length, take, codes, refl, sym, ap, subst, ◌∙◌, inl, inr, arith}
 use Rattle.std.proofs.Math.Seq.{take-length}
 use Rattle.store_model.specs.Parameters.{Parameters}
 use Rattle.store_model.specs.Trees.{Tree}
 use Rattle.store_model.specs.Commands.{line}
 use Rattle.store_model.specs.Images.{layout, Represents}
-use Rattle.store_model.specs.Scripts.{lines, replies, tree_after, replies_text}
+use Rattle.store_model.specs.Scripts.{lines, tree_after}
 use Rattle.store_model.proofs.TreesLemmasLayouts.{images_tell}
 use Rattle.disk_model.specs.DiskState.{DiskState, IsObservable, IsSound}
 use Rattle.disk_model.proofs.Crashes.{LeavesOnly-weaken, LeavesOnly-trans}
@@ -19,14 +19,14 @@ use Rattle.script_lines.specs.SinkState.{SinkState}
 use Rattle.script_lines.specs.SinkState as sinks
 use Rattle.image_subcommands.specs.declared.outcome.Outcome.{Outcome}
 use Rattle.image_subcommands.specs.declared.status.Status.{Status}
-use Rattle.image_subcommands.specs.declared.status.Status.TheVariants.{Done, Usage, SourceFault, SinkFault, DiskFault, TooLong, NotImage, Damaged, NoMemory, AlreadyImage, WrongLength}
+use Rattle.image_subcommands.specs.declared.status.Status.TheVariants.{Done, SourceFault, SinkFault, DiskFault, TooLong, NotImage, Damaged, NoMemory}
 use Rattle.image_subcommands.specs.CheckCall.{IsCheck}
 use Rattle.image_subcommands.specs.Outside.{Outside}
 use Rattle.image_subcommands.specs.Reports.{report_text, verdict_status, Reports, EndsByVerdict}
 use Rattle.image_subcommands.specs.Statuses.{IsJudged}
 use Rattle.store_top.specs.RunCall.{IsRun}
 use Rattle.store_top.proofs.RunLemmas.{length-replies}
-use Rattle.image_claims.specs.Endings.{IsOneOf, EndsExactly}
+use Rattle.image_claims.specs.Endings.{IsOneOf}
 use Rattle.image_claims.specs.Checks.{clean_line, IsNone, IsBroken, IsSome, IsLineOn, JudgesExactly, ChecksExactly, AgreesWithRun, AnswersByOneTree, LeavesAlone}
 use Rattle.image_claims.proofs.EndingLemmas.{reported, found, run_ends, is_verdict, is_unjudged, is_between_lines}
 

@@ -1,5 +1,5 @@
 -- How many writes and syncs a call makes.
-use Rattle.std.proofs.Common.{◌≡◌, ◌≢◌, ◌+◌, ◌/◌, ◌<◌, ◌==◌, ◌&&◌, ℕ, Bool, true, false, not, List, [], ◌∷◌, slice_index, refl, sym, ap, subst, ◌∙◌, inl, inr, ⊎_elim, arith}
+use Rattle.std.proofs.Common.{◌≡◌, ◌≢◌, ◌+◌, ◌/◌, ◌<◌, ◌==◌, ◌&&◌, ℕ, true, false, not, List, [], ◌∷◌, slice_index, sym, ap, subst, ◌∙◌, inl, inr, ⊎_elim, arith}
 use Rattle.std.proofs.lemmas.Bool.{cases_eq, ne_eqb}
 use Rattle.std.specs.Cmp.Lexicographic.{bytes_decides}
 use Rattle.store_model.specs.Lists.{same_bytes, zeros}
@@ -10,7 +10,6 @@ use Rattle.store_model.proofs.ImagesLemmas.{recovered-layout, length-layout}
 use Rattle.store_model.proofs.ImagesLemmasScrubbed.{scrubbed-layout, slot_of_recovered, slot_of_scrubbed}
 use Rattle.disk_model.specs.DiskState.{DiskState, IsObservable}
 use Rattle.gate_journal.specs.Costs.{opening_writes, opening_syncs, MadeAtMost}
-use Rattle.gate_journal.specs.Phases.{HasEmptyJournal}
 use Rattle.gate_journal.specs.Places.{Made}
 use Rattle.gate_journal.specs.Wipes.{block_count}
 use Rattle.gate_journal.proofs.Layouts.{layout-has-empty-journal}

@@ -1,28 +1,24 @@
 -- What a crash leaves of an image that is made, wiped or scrubbed.
-use Rattle.std.proofs.Common.{◌≡◌, ◌≢◌, ◌⊎◌, ◌+◌, ◌≤◌, ℕ, zero, suc, List, [], ◌∷◌, length, take, slice_index, refl, sym, ap, subst, ◌∙◌, inl, inr, ⊎_elim, arith}
+use Rattle.std.proofs.Common.{◌≡◌, ◌≢◌, ℕ, zero, suc, List, length, take, slice_index, refl, sym, ap, subst, ◌∙◌, inl, inr, ⊎_elim, arith}
 use Rattle.std.proofs.lemmas.Bool.{cases_eq}
 use Rattle.store_model.specs.Parameters.{Parameters, image_len}
 use Rattle.store_model.specs.Trees.{Tree}
 use Rattle.store_model.specs.Images.{first_byte}
 use Rattle.disk_model.specs.DiskState.{DiskState, IsObservable, IsDurable}
-use Rattle.disk_model.specs.DiskCalls.{SameOutside}
 use Rattle.disk_model.proofs.Images.{SameOutside-empty}
 use Rattle.gate_journal.specs.Wipes.{IsWiping}
 use Rattle.gate_journal.proofs.Formatting.{no_image}
-use Rattle.image_check.specs.Verdicts.{IsImageWith}
 use Rattle.scrub_free.specs.Scrubbing.{ScrubsAs}
 use Rattle.scrub_free.specs.ScrubCalls.{ScrubsTo}
 use Rattle.scrub_free.proofs.Phases.{header-scrubbed}
 use Rattle.script_lines.specs.SinkState.{SinkState}
 use Rattle.image_subcommands.specs.declared.outcome.Outcome.{Outcome}
-use Rattle.image_subcommands.specs.declared.status.Status.{Status}
-use Rattle.image_subcommands.specs.declared.status.Status.TheVariants.{Done, SinkFault, DiskFault, NoMemory}
-use Rattle.image_subcommands.specs.FormatCall.{IsFormat, IsBlank}
+use Rattle.image_subcommands.specs.declared.status.Status.TheVariants.{Done}
+use Rattle.image_subcommands.specs.FormatCall.{IsFormat}
 use Rattle.image_subcommands.specs.Outside.{Outside}
-use Rattle.image_subcommands.specs.ScrubCall.{IsScrub, ScrubsDisk}
+use Rattle.image_subcommands.specs.ScrubCall.{IsScrub}
 use Rattle.image_subcommands.specs.Statuses.{IsJudged}
 use Rattle.image_subcommands.specs.WipeCall.{IsWipe}
-use Rattle.image_claims.specs.Endings.{IsOneOf}
 use Rattle.image_claims.specs.Crashes.{MightLeave, MakesAllOrNone, IsGoneOrWhole, WipesAllOrNone, ScrubsAgain}
 use Rattle.image_claims.proofs.EndingLemmas.{reported, is_judged}
 

@@ -2,8 +2,7 @@
 use Rattle.std.proofs.Common.{◌≡◌, ◌⊎◌, List, [], ◌∷◌, ℕ, false, IsTrue, refl, sym, subst, ◌∙◌, inl, inr, ⊎_elim}
 use Rattle.std.specs.List.{AllByRecursion}
 use Rattle.std.proofs.lemmas.Bool.{false≢true}
-use Rattle.store_model.specs.Parameters.{Parameters}
-use Rattle.store_model.specs.Words.Request.{Format, Run, Check, Scrub, Wipe, Big}
+use Rattle.store_model.specs.Words.Request.{Run, Check, Scrub, Wipe}
 use Rattle.image_subcommands.specs.declared.status.Status.{Status}
 use Rattle.image_subcommands.specs.declared.status.Status.TheVariants.{Done, Usage, SourceFault, SinkFault, DiskFault, TooLong, NotImage, Damaged, NoMemory, AlreadyImage, WrongLength}
 use Rattle.image_subcommands.specs.Statuses.{row, IsFormatStatus, IsRunStatus, IsCheckStatus, IsScrubStatus, IsWipeStatus, IsBigStatus, IsJudged, IsRefusedImage, IsRefusedDisk, IsPastHeader, IsSummed, IsBetweenLines, MayComeFirst, done_of_work, done_of_verdict}
@@ -114,20 +113,6 @@ comes_first Damaged h = absurd (false≢true h)
 comes_first NoMemory h = inr (inl refl)
 comes_first AlreadyImage h = absurd (false≢true h)
 comes_first WrongLength h = absurd (false≢true h)
-
--- that a verdict was come to
-pub judged : (status : Status) → IsJudged status → IsOneOf status (Done ∷ SinkFault ∷ NotImage ∷ Damaged ∷ [])
-judged Done h = inl refl
-judged Usage h = absurd (false≢true h)
-judged SourceFault h = absurd (false≢true h)
-judged SinkFault h = inr (inl refl)
-judged DiskFault h = absurd (false≢true h)
-judged TooLong h = absurd (false≢true h)
-judged NotImage h = inr (inr (inl refl))
-judged Damaged h = inr (inr (inr (inl refl)))
-judged NoMemory h = absurd (false≢true h)
-judged AlreadyImage h = absurd (false≢true h)
-judged WrongLength h = absurd (false≢true h)
 
 -- a call ends as is expected, or for what may come before
 pub reported : (expected status : Status) → (status ≡ expected) ⊎ IsUnreported status → IsOneOf status (expected ∷ SinkFault ∷ DiskFault ∷ NoMemory ∷ [])

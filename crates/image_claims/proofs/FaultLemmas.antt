@@ -1,5 +1,5 @@
 -- Which failed call a status tells, and when a call is done.
-use Rattle.std.proofs.Common.{◌≡◌, ◌⊎◌, ◌≤◌, ℕ, List, [], ◌∷◌, refl, inl, inr, ⊎_elim}
+use Rattle.std.proofs.Common.{◌≡◌, ◌⊎◌, ℕ, refl, inl, inr, ⊎_elim}
 use Rattle.store_model.specs.Parameters.{Parameters}
 use Rattle.store_model.specs.Words.Request.{Format, Run, Check, Scrub, Wipe, Big}
 use Rattle.disk_model.specs.DiskState.{DiskState}

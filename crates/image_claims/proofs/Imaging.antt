@@ -1,31 +1,30 @@
 -- What making, scrubbing and wiping an image leaves.
-use Rattle.std.proofs.Common.{◌≡◌, ◌≢◌, ◌⊎◌, ℕ, zero, suc, List, [], ◌∷◌, length, slice_index, refl, sym, ap, subst, ◌∙◌, inl, inr, ⊎_elim, arith}
+use Rattle.std.proofs.Common.{◌≡◌, ◌≢◌, ℕ, zero, suc, List, [], ◌∷◌, length, slice_index, refl, sym, ap, ◌∙◌, inl, inr, ⊎_elim, arith}
 use Rattle.store_model.specs.Lists.{zeros}
-use Rattle.store_model.specs.Parameters.{Parameters, image_len}
-use Rattle.store_model.specs.Trees.{Tree, empty_tree}
+use Rattle.store_model.specs.Parameters.{Parameters}
+use Rattle.store_model.specs.Trees.{Tree}
 use Rattle.store_model.specs.Images.{first_byte, Represents, scrubbed}
 use Rattle.store_model.proofs.ImagesLemmasScrubbed.{scrubbed-recovered, scrubbed-layout}
 use Rattle.store_model.proofs.TreesLemmasBytes.{headers_same}
 use Rattle.store_model.proofs.TreesLemmasLayouts.{layouts_tell}
-use Rattle.store_base.specs.Counts.{raised, Rose}
+use Rattle.store_base.specs.Counts.{Rose}
 use Rattle.disk_model.specs.DiskState.{DiskState, IsObservable, IsSound}
 use Rattle.gate_journal.proofs.Formatting.{no_image}
 use Rattle.image_check.specs.declared.verdict.Verdict.TheVariants as verdicts
-use Rattle.image_check.specs.Verdicts.{IsNoImage}
 use Rattle.scrub_free.specs.ScrubCalls.{ScrubsTo, IsScrubVerdict, IsBeyondScrubbing}
 use Rattle.script_lines.specs.SourceState.{SourceState}
 use Rattle.script_lines.specs.SinkState.{SinkState}
 use Rattle.script_lines.specs.SinkState as sinks
 use Rattle.image_subcommands.specs.declared.outcome.Outcome.{Outcome}
 use Rattle.image_subcommands.specs.declared.status.Status.{Status}
-use Rattle.image_subcommands.specs.declared.status.Status.TheVariants.{Done, SinkFault, DiskFault, NoMemory, AlreadyImage, WrongLength}
-use Rattle.image_subcommands.specs.FormatCall.{IsFormat, IsBlank, BeginsAsImage}
+use Rattle.image_subcommands.specs.declared.status.Status.TheVariants.{Done, DiskFault, NoMemory, AlreadyImage, WrongLength}
+use Rattle.image_subcommands.specs.FormatCall.{IsFormat}
 use Rattle.image_subcommands.specs.Outside.{Outside, KeepsOutside}
 use Rattle.image_subcommands.specs.ScrubCall.{IsScrub, ScrubsToSome}
 use Rattle.image_subcommands.specs.WipeCall.{IsWipe}
 use Rattle.image_claims.specs.Endings.{IsOneOf}
-use Rattle.image_claims.specs.Checks.{IsNone, IsBroken, IsSome}
-use Rattle.image_claims.specs.Images.{SparesAllElse, HasImageAlready, MakesImage, ScrubsExactly, WipesAll, MakesBehindWipe}
+use Rattle.image_claims.specs.Checks.{IsBroken, IsSome}
+use Rattle.image_claims.specs.Images.{SparesAllElse, MakesImage, ScrubsExactly, WipesAll, MakesBehindWipe}
 use Rattle.image_claims.proofs.Checking.{TellsTree, judges_exactly}
 use Rattle.image_claims.proofs.CutShort.{scrubs_alike}
 use Rattle.image_claims.proofs.EndingLemmas.{found, format_ends, is_judged, is_refused_disk}

@@ -1,9 +1,8 @@
 -- The trees that images are made of.
-use Rattle.std.proofs.Common.{◌≡◌, ℕ, List, subst, sym, refl}
+use Rattle.std.proofs.Common.{ℕ, List, subst, sym, refl}
 use Rattle.std.specs.List.{flat_map}
 use Rattle.store_model.specs.Parameters.{Parameters, IsParameters}
 use Rattle.store_model.specs.Trees.{Tree, IsTree, empty_tree}
-use Rattle.store_model.specs.Pages.{Fits}
 use Rattle.store_model.specs.Images.{Represents}
 use Rattle.store_model.specs.Scripts.{lines}
 use Rattle.store_model.proofs.ImagesLemmas.{Represents-layout}

@@ -1,12 +1,11 @@
 -- What words ask for is in its range.
-use Rattle.std.proofs.Common.{◌≡◌, ℕ, ◌<◌, ◌≤◌, ◌*◌, ◌&&◌, ◌==◌, List, [], ◌∷◌, length, Bool, true, false, Option, Some, None, IfSome, Result, Ok, Err, refl, subst, cond, codes, nat_le, leb-true, arith}
+use Rattle.std.proofs.Common.{◌≡◌, ℕ, ◌≤◌, ◌&&◌, ◌==◌, List, [], ◌∷◌, length, Bool, true, false, Option, Some, None, IfSome, Result, Ok, Err, refl, subst, cond, codes, nat_le, leb-true, arith}
 use Rattle.std.proofs.lemmas.Bool.{and_parts, eqb-true}
 use Rattle.hex.specs.Hex.{decode_of}
 use Rattle.hex.specs.declared.error.FromHexError.{FromHexError}
 use Rattle.hex.proofs.HexLemmas.{decode_of-ok}
-use Rattle.store_model.specs.declared.draw_kind.DrawKind.{DrawKind}
 use Rattle.store_model.specs.Lists.{IsBytes, same_bytes}
-use Rattle.store_model.specs.Parameters.{Parameters, IsParameters, slots_limit, height_limit, seed_len}
+use Rattle.store_model.specs.Parameters.{Parameters, IsParameters, slots_limit, height_limit}
 use Rattle.store_model.specs.Grammar.{number_of, ok_value, ◌>>=◌}
 use Rattle.store_model.specs.Words.{Request, number_in, kind_of_word, seed_of_word, request_of, commands_limit}
 use Rattle.store_model.specs.Words.Request.{Format, Run, Check, Scrub, Wipe, Big}

@@ -1,5 +1,5 @@
 -- What making, scrubbing and wiping an image leaves.
-use Rattle.std.specs.Prelude.{◌≡◌, ◌≢◌, ◌⊎◌, ℕ, List, [], ◌∷◌, length, slice_index}
+use Rattle.std.specs.Prelude.{◌≡◌, ◌≢◌, ◌⊎◌, [], ◌∷◌, length, slice_index}
 use Rattle.store_model.specs.Lists.{zeros}
 use Rattle.store_model.specs.Parameters.{Parameters, image_len}
 use Rattle.store_model.specs.Trees.{Tree, empty_tree}

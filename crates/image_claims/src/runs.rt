@@ -1,6 +1,6 @@
 //! A check behind any runs.
 
-ghost use Rattle.std.specs.Prelude.{◌≡◌, Some, IfOk};
+ghost use Rattle.std.specs.Prelude.{◌≡◌, ◌≢◌, Some, IfOk, IfErr};
 ghost use Rattle.store_model.specs.Parameters.{Parameters};
 ghost use Rattle.store_model.specs.Words.{request_of};
 ghost use Rattle.store_model.specs.Words.Request.{Format, Check};
@@ -24,8 +24,9 @@ pub fn check_behind_runs(
     making: Making,
     line: MemSink,
 ) -> Result<Ended, Status>
-    ensures { (p : Parameters) → request_of format.now ≡ Some (Format p) → request_of check.now ≡ Some Check →
+    ensures checks { (p : Parameters) → request_of format.now ≡ Some (Format p) → request_of check.now ≡ Some Check →
         IfOk result (λ ended. ChecksTree (made_tree making.scripts.items p) p ended.status line.written ended.sink.written) }
+    ensures ended { IfErr result (λ status. status ≢ Status.Done) }
 {
     let disk = make_image(alloc, format, making)?;
     let source = MemSource::new(Vec::new(alloc), Vec::new(alloc), Vec::new(alloc));

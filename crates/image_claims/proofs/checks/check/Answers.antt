@@ -1,5 +1,5 @@
 use Rattle.std.proofs.Common.{refl}
-use Rattle.script_lines.specs.Memory.{source_state, sink_state}
+use Rattle.script_lines.specs.Memory.{sink_state}
 use Rattle.image_subcommands.specs.Outside.{outside_of}
 use Rattle.script_claims.specs.Machines.{meaning}
 use Rattle.image_claims.proofs.Checking.{check_exact, check_takes_nothing, check_unchecked}

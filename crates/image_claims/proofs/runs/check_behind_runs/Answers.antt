@@ -1,5 +1,5 @@
 use Rattle.std.proofs.Common.{refl}
-use Rattle.script_lines.specs.Memory.{source_state, sink_state}
+use Rattle.script_lines.specs.Memory.{sink_state}
 use Rattle.image_subcommands.specs.Outside.{outside_of}
 use Rattle.script_claims.specs.Machines.{meaning}
 use Rattle.script_claims.specs.Makings.{made_tree}
@@ -9,8 +9,8 @@ use Rattle.image_claims.proofs.MadeTrees.{made_represents, check_of_tree}
 use Rattle.image_claims.proofs.RequestedParameters.{requested_in_range}
 use Rattle.image_claims.proofs.runs.check_behind_runs.Goals as goal
 
-pub returns : goal.returns
-returns c p is checking =
+pub returns-clause-checks : goal.returns-clause-checks
+returns-clause-checks c p is checking =
     let scripts = c.args.making.scripts.items in
     let valid = requested_in_range c.args.format.now p is in
     let exact = check_exact meaning sink_state (outside_of c.in_ok-disk.disk c.new-source.result c.args.line) c.call-checked.result (c.call-checked.ensures.check checking) refl (meaning_sound c.in_ok-disk.disk refl) refl in
