@@ -9,7 +9,7 @@ _hstore() {
         '2 --install '* | '2 --uninstall '*) files=-d ;;
         '2 -h '* | '2 --help '* | '2 --version '*) ;;
         '2 '*) choices="$words" ;;
-        '3 '*' format') choices='64 256 1024 4096 16384' ;;
+        '3 '*' format') choices='64 256 1024 4096 16384 65536' ;;
         '4 '*' format') choices='1 2 3 4 5 6 7 8' ;;
         '5 '*' format') choices='sha256 ruler' ;;
     esac

@@ -14,7 +14,7 @@ case $CURRENT in
             *) compadd -a its ;;
         esac
         ;;
-    4) [[ $words[3] != format ]] || compadd 64 256 1024 4096 16384 ;;
+    4) [[ $words[3] != format ]] || compadd 64 256 1024 4096 16384 65536 ;;
     5) [[ $words[3] != format ]] || compadd 1 2 3 4 5 6 7 8 ;;
     6) [[ $words[3] != format ]] || compadd sha256 ruler ;;
 esac

@@ -45,7 +45,7 @@ struct Argument {
 static FORMAT: [Argument; 4] = [
     Argument {
         name: "SLOTS",
-        help: "How many pages of 4096 bytes it has room for, 1 to 16384",
+        help: "How many pages of 4096 bytes it has room for, 1 to 65536",
         parser: ValueParser::Unsigned(1, MAX_SLOTS as u64),
     },
     Argument {
@@ -201,7 +201,7 @@ fn without_subcommands<'a>(alloc: Global) -> Command<'a>
         "hstore",
         "Keeps directories and files in one file, the image. Its bytes tell what it holds now, and nothing of\n\
          what it held before or of how it came to be.",
-        "IMAGE is the path of the image's file. `format` makes the file; every other word wants it there.\n\
+        "IMAGE is the path of the image's file. `format` makes the file; every other subcommand wants it there.\n\
          Numbers are decimal digits, with no sign and no leading zero.",
     )
     .subcommand_value_name("SUBCOMMAND")

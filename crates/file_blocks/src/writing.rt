@@ -22,7 +22,7 @@ use tree_pairs::{FILE_BLOCK, FILE_LIMIT, Kind, file_value, kind_of};
 /// length does.
 ///
 /// It is refused, in this order: `Kind` where a directory stands there, `Gap` where the place is greater than the
-/// file's length (0 where it is absent), `Big` where the file would pass 1,048,576 bytes. A refusal changes nothing. A
+/// file's length (0 where it is absent), `Big` where the file would pass `FILE_LIMIT` bytes. A refusal changes nothing. A
 /// fault of the pairs is handed on; nothing is promised of the pairs after it.
 pub fn write_at<P: OrderedPairs>(
     pairs: &mut P,
@@ -78,6 +78,7 @@ fn put_bytes<P: OrderedPairs>(
     at: u32,
     bytes: &[u8],
 ) -> Result<(), Fault>
+    requires few { length bytes.now ≤ Bytes.MAX_LEN }
     requires fits { at + length bytes.now ≤ file_limit }
     requires ends { at + length bytes.now ≤ len }
     requires room { HasRoom (P.state pairs.old) }

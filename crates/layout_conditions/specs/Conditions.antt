@@ -21,8 +21,8 @@ pub record IsSound (d : Draw) (table : Table) : Type 0 where
   pub levels : (page : Page) → StandsIn table page → page.label.level < d.height
 
 module _ (d : Draw) (There : Page → Type 0) where
-  -- The runs of a group are numbered from 0, all but the last are full, and keys rise over them. The first key of a
-  -- group that a key leads is that key, and stands on a higher level; every other key ends on the level.
+  -- Within a group a page comes behind another one only where that is full and all its keys are smaller; the first has
+  -- index 0. Where a key leads the group, its own cell is the very first, and it alone goes beyond this level.
   pub record AreRuns : Type 0 where
     pub levels : (page : Page) → There page → AreRunOf d page.label.level page.label.lead page.label.index page.cells
     pub numbered : (page : Page) → There page → 0 < page.label.index → FollowsFull There page

@@ -4,7 +4,7 @@
 //! The marks take as many whole blocks as a byte for each slot and one reserved byte need; shadow and
 //! table have a block for each slot. All places and lengths are in bytes.
 
-ghost use Rattle.std.specs.Prelude.{◌≡◌, ℕ, ◌+◌, ◌*◌, ◌<◌, ◌≤◌};
+ghost use Rattle.std.specs.Prelude.{◌≡◌, ℕ, ◌+◌, ◌*◌, ◌/◌, ◌<◌, ◌≤◌};
 ghost use Rattle.store_model.specs.Parameters as model;
 ghost use Rattle.store_model.specs.Parameters.{slots_limit, block_len};
 ghost use Rattle.store_base.specs.Areas.{AreasFill};
@@ -18,12 +18,12 @@ const BLOCK_LEN: u64 = BLOCK as u64;
 fn mark_blocks(slots: u32) -> u64
     requires { slots ≤ slots_limit }
     ensures value { result ≡ model.mark_blocks slots }
-    ensures few { result ≤ 5 }
+    ensures few { result ≤ slots_limit / block_len + 1 }
 {
     (u64::from(slots) + 1).div_ceil(BLOCK_LEN)
 }
 
-/// The length of an image of so many slots, from 1 to 16,384.
+/// The length of an image of so many slots, from 1 to `MAX_SLOTS`.
 #[tactic(auto, unfolding(store_model::specs::Parameters::image_len))]
 pub fn image_len(slots: u32) -> u64
     requires some { 1 ≤ slots }
@@ -40,7 +40,7 @@ pub fn gate_at() -> u64
     BLOCK_LEN
 }
 
-/// Where mark `i` lies: slots 0 to 16,383 have a mark each, and the one behind the last slot's is reserved.
+/// Where mark `i` lies: each slot has the one of its number, and the one behind the last slot's is reserved.
 pub fn mark_at(i: u32) -> u64
     requires { i ≤ slots_limit }
     ensures { result ≡ model.mark_at i }

@@ -33,7 +33,7 @@ pub use value::{Bytes, Value};
 pub type Answer<T> = Result<T, Refusal>;
 
 /// The most slots that a table has.
-pub const MAX_SLOTS: u32 = 16_384;
+pub const MAX_SLOTS: u32 = 65_536;
 
 /// The most levels that a list has.
 pub const MAX_HEIGHT: u8 = 8;

@@ -5,12 +5,12 @@ use std::marker::Model;
 use store_model::DrawKind;
 use thiserror::Error;
 
-/// The parameters are out of their range: the slots are not 1 to 16,384, or the height is not 1 to 8.
+/// The parameters are out of their range: the slots are not 1 to `MAX_SLOTS`, or the height is not 1 to 8.
 #[derive(Clone, Copy, Debug, PartialEq, Eq, Error)]
 #[error("the parameters are out of range")]
 pub struct BadParams;
 
-/// What an image is made with: 1 to 16,384 slots, a height of 1 to 8 levels, the kind of draw, and a seed
+/// What an image is made with: 1 to `MAX_SLOTS` slots, a height of 1 to 8 levels, the kind of draw, and a seed
 /// of 32 bytes. A tree has one image under its parameters.
 #[derive(Clone, Copy, Debug)]
 pub struct Params {
@@ -55,7 +55,7 @@ impl Params {
         })
     }
 
-    /// The number of slots of the table, 1 to 16,384.
+    /// The number of slots of the table, 1 to `MAX_SLOTS`.
     pub fn slots(&self) -> u32
         ensures value { result ≡ self.now.slots }
         ensures valid { IsParameters self.now }

@@ -13,7 +13,7 @@ use node_pages::PairList;
 use std::alloc::Global;
 use std::cmp::Ordering;
 use std::io::Write;
-use store_base::{BLOCK, DrawKind, Key, Params, Value, table_at, write_header};
+use store_base::{BLOCK, DrawKind, Key, MAX_SLOTS, Params, Value, table_at, write_header};
 
 /// The most cells on a page of level 0.
 const PAGE_ROOM: u64 = 10;
@@ -99,9 +99,9 @@ fn measure_draw(rt: &HostRuntime, slots: u32, kind: DrawKind, pairs: &PairList) 
     tell(rt, used, "pages are laid out under", name_of(kind))
 }
 
-/// Lays out the pairs of so many full pages, at most 16,384 of them, in just as many slots, under both draws.
+/// Lays out the pairs of so many full pages, at most `MAX_SLOTS` of them, in just as many slots, under both draws.
 pub fn measure(rt: &HostRuntime, pages: u32) -> Option<()> {
-    let pages = pages.clamp(1, 16_384);
+    let pages = pages.clamp(1, MAX_SLOTS);
     let pairs = make_pairs(rt.alloc(), pages)?;
     for kind in [DrawKind::Ruler, DrawKind::Sha256] {
         measure_draw(rt, pages, kind, &pairs)?;
@@ -126,9 +126,9 @@ fn write_blocks(rt: &HostRuntime, params: &Params, layout: &Layout) -> Option<()
     Some(())
 }
 
-/// Writes the image of directories in the root that fill so many slots, 1 to 16,384, to standard output.
+/// Writes the image of directories in the root that fill so many slots, 1 to `MAX_SLOTS`, to standard output.
 pub fn write_image(rt: &HostRuntime, slots: u32) -> Option<()> {
-    let params = params_of(slots.clamp(1, 16_384), 1, DrawKind::Ruler)?;
+    let params = params_of(slots.clamp(1, MAX_SLOTS), 1, DrawKind::Ruler)?;
     let pairs = make_pairs(rt.alloc(), params.slots())?;
     let layout = lay_out(rt, &params, &pairs)?;
     write_blocks(rt, &params, &layout)

@@ -12,7 +12,7 @@ use Rattle.std.proofs.lemmas.List.Sorted.{IsPermutation-sym, IsPermutation-trans
 use Rattle.store_model.specs.Lists.{zeros, run_count, runs, numbers_from, numbers_below}
 use Rattle.store_model.specs.Parameters.{Parameters, IsParameters}
 use Rattle.store_model.specs.Paths.{Path, is_path, path_cmp, key, key_cmp}
-use Rattle.store_model.specs.Trees.{Tree, Node, IsNode, IsEntry, IsTree}
+use Rattle.store_model.specs.Trees.{Tree, Node, file_limit, IsNode, IsEntry, IsTree}
 use Rattle.store_model.specs.Trees.Node.{Directory, File}
 use Rattle.store_model.specs.Pairs.{Pair, file_block, file_value, node_pairs, pairs}
 use Rattle.store_model.specs.Draws.{Draw, IsLawful, draw_of}
@@ -104,7 +104,7 @@ pages_tell_pairs d r s h e =
 -- ---- the pairs of a tree tell it
 
 -- the key of a path tells it
-keys_tell_paths : (x y : Path) → IsTrue (is_path x) → IsTrue (is_path y) → key x 0 ≡ key y 0 → x ≡ y
+pub keys_tell_paths : (x y : Path) → IsTrue (is_path x) → IsTrue (is_path y) → key x 0 ≡ key y 0 → x ≡ y
 keys_tell_paths x y hx hy e =
     same_from_tie x y
     (sym (then-Equal (path_cmp x y)) ∙ ap (ordering_then (path_cmp x y)) (sym (nat_cmp-eq 0)) ∙ sym (order_of_keys x y 0 0 hx hy (omega arith) (omega arith))
@@ -124,7 +124,7 @@ length-blocks_of : (x : Path) (bytes : List ℕ) → length (blocks_of x bytes) 
 length-blocks_of x bytes = length-map (enumerate_from 1 (runs file_block bytes)) _ ∙ length-enumerate_from 1 (runs file_block bytes)
 
 -- files whose first values and blocks are the same, in front of other pairs
-files_same : (x y : Path) (a b : List ℕ) (u v : List Pair) → length a ≤ 1048576 → length b ≤ 1048576 → file_value (length a) ≡ file_value (length b) → blocks_of x a ++ u ≡ blocks_of y b ++ v → (a ≡ b) × (u ≡ v)
+files_same : (x y : Path) (a b : List ℕ) (u v : List Pair) → length a ≤ file_limit → length b ≤ file_limit → file_value (length a) ≡ file_value (length b) → blocks_of x a ++ u ≡ blocks_of y b ++ v → (a ≡ b) × (u ≡ v)
 files_same x y a b u v la lb first e =
     let size : length a ≡ length b = four_bytes_same (length a) (length b) (omega arith) (omega arith) (tails_same first) in
     let count : length (blocks_of x a) ≡ length (blocks_of y b) = length-blocks_of x a ∙ length-runs file_block a ∙ ap (λ n. run_count file_block n) size ∙ sym (length-runs file_block b) ∙ sym (length-blocks_of y b) in
@@ -133,11 +133,11 @@ files_same x y a b u v la lb first e =
     (sym (flat_map-runs file_block a (omega arith)) ∙ ap (flat_map (λ run. run)) blocks ∙ flat_map-runs file_block b (omega arith), whole.1)
 
 -- a key and a value in a pair
-pair_parts : {p q : Pair} → p ≡ q → (p.0 ≡ q.0) × (p.1 ≡ q.1)
+pub pair_parts : {p q : Pair} → p ≡ q → (p.0 ≡ q.0) × (p.1 ≡ q.1)
 pair_parts e = (ap (λ (p : Pair). p.0) e, ap (λ (p : Pair). p.1) e)
 
 -- the pairs of what stands at a path tell it, in front of other pairs
-nodes_same : (x y : Path) (a b : Node) (p : Parameters) (u v : List Pair) → IsTrue (is_path x) → IsTrue (is_path y) → IsNode a → IsNode b → node_pairs x a p ++ u ≡ node_pairs y b p ++ v → (x ≡ y) × (a ≡ b) × (u ≡ v)
+pub nodes_same : (x y : Path) (a b : Node) (p : Parameters) (u v : List Pair) → IsTrue (is_path x) → IsTrue (is_path y) → IsNode a → IsNode b → node_pairs x a p ++ u ≡ node_pairs y b p ++ v → (x ≡ y) × (a ≡ b) × (u ≡ v)
 unfolding node_pairs
 nodes_same x y Directory Directory p u v hx hy ha hb e = (keys_tell_paths x y hx hy (pair_parts (heads_same e)).0, refl, tails_same e)
 nodes_same x y Directory (File b) p u v hx hy ha hb e = let first : ◌≡◌ {A = ℕ} 1 2 = heads_same (pair_parts (heads_same e)).1 in absurd (omega arith)
@@ -148,7 +148,7 @@ nodes_same x y (File a) (File b) p u v hx hy ha hb e =
     (keys_tell_paths x y hx hy first.0, ap File rest.0, rest.1)
 
 -- there is a pair of what stands at a path
-some_pair : (x : Path) (a : Node) (p : Parameters) (u : List Pair) → [] ≡ node_pairs x a p ++ u → ⊥
+pub some_pair : (x : Path) (a : Node) (p : Parameters) (u : List Pair) → [] ≡ node_pairs x a p ++ u → ⊥
 unfolding node_pairs
 some_pair x Directory p u e = cc
 some_pair x (File bytes) p u e = cc

@@ -12,7 +12,7 @@ pub record Parameters : Type 0 where
 
 -- the most slots, the greatest height, and the length of a seed
 abbrev pub slots_limit : ℕ
-slots_limit = 16384
+slots_limit = 65536
 
 abbrev pub height_limit : ℕ
 height_limit = 8

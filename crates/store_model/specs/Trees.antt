@@ -18,7 +18,7 @@ empty_tree = []
 
 -- the longest file
 abbrev pub file_limit : ℕ
-file_limit = 1048576
+file_limit = 16777216
 
 -- what stands at a path; the root is a directory
 abbrev pub node_at : Tree → Path → Option Node

@@ -23,7 +23,7 @@ pub enum Refusal {
     Kind,
     /// The place or length is greater than the file's length.
     Gap,
-    /// The file would pass 1,048,576 bytes, or a read asks for more than 4,096.
+    /// The file would pass 16,777,216 bytes, or a read asks for more than 4,096.
     Big,
     /// The directory has a child.
     NotEmpty,

@@ -13,7 +13,7 @@ use path_keys::Path;
 use store_base::{Fault, Value};
 
 /// The most bytes of a file.
-pub const FILE_LIMIT: u32 = 1_048_576;
+pub const FILE_LIMIT: u32 = 16_777_216;
 
 /// The bytes of a file in one pair; its last pair has the rest.
 pub const FILE_BLOCK: u32 = Value::MAX_LEN as u32;

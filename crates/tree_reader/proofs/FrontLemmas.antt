@@ -1,23 +1,18 @@
 -- The pairs of a tree at the front of others: its entries are the first ones of any tree whose pairs begin so.
-use Rattle.std.proofs.Common.{◌≡◌, ℕ, ◌+◌, ◌≤◌, List, [], ◌∷◌, ◌++◌, map, length, IsTrue, refl, sym, ap, ◌∙◌, arith}
-use Rattle.std.specs.Ordering.{ordering_then}
-use Rattle.std.specs.Cmp.{tied_itself}
-use Rattle.std.specs.Cmp.Lexicographic.{nat_list_cmp_total}
-use Rattle.std.specs.List.{AllByRecursion, flat_map, enumerate_from}
+use Rattle.std.proofs.Common.{◌≡◌, ℕ, List, [], ◌∷◌, ◌++◌, length, IsTrue, refl, sym, ap, ◌∙◌}
+use Rattle.std.specs.List.{AllByRecursion, enumerate_from}
 use Rattle.std.proofs.lemmas.Grind.{flat_map-append}
 use Rattle.std.proofs.lemmas.List.{append-nil, append_assoc, length-map}
 use Rattle.std.proofs.lemmas.List.FromFn.{length-enumerate_from}
 use Rattle.store_model.specs.Lists.{run_count, runs}
 use Rattle.store_model.specs.Parameters.{Parameters}
-use Rattle.store_model.specs.Paths.{Path, is_path, path_cmp, key, key_cmp}
-use Rattle.store_model.specs.Pairs.{Pair, file_block, file_value, node_pairs, pairs}
-use Rattle.store_model.specs.Trees.{Tree, Node, file_limit, IsNode, IsEntry, IsTree}
+use Rattle.store_model.specs.Paths.{Path, is_path, key}
+use Rattle.store_model.specs.Pairs.{Pair, file_block, node_pairs, pairs}
+use Rattle.store_model.specs.Trees.{Tree, Node, IsNode, IsEntry, IsTree}
 use Rattle.store_model.specs.Trees.Node.{Directory, File}
-use Rattle.store_model.proofs.ListsLemmas.{all_weaker, then-Equal, nat_cmp-eq, length-runs}
-use Rattle.store_model.proofs.ListsLemmasCuts.{flat_map-runs}
-use Rattle.store_model.proofs.PathsLemmas.{order_of_keys}
-use Rattle.store_model.proofs.TreesLemmasPaths.{same_from_tie}
-use Rattle.store_model.proofs.TreesLemmasBytes.{fronts_same, heads_same, tails_same, four_bytes_same}
+use Rattle.store_model.proofs.ListsLemmas.{all_weaker, length-runs}
+use Rattle.store_model.proofs.TreesLemmasBytes.{heads_same, tails_same}
+use Rattle.store_model.proofs.TreesLemmasLayouts.{pair_parts, nodes_same, some_pair}
 use Rattle.tree_pairs.specs.Kinds.{kind_of, value_of, IsKind}
 use Rattle.tree_reader.specs.Fronts.{block_pairs}
 
@@ -37,48 +32,6 @@ first_of_node path (File bytes) p is = record { behind = block_pairs path bytes;
 -- how many blocks there are
 pub length-block_pairs : (x : Path) (bytes : List ℕ) → length (block_pairs x bytes) ≡ run_count file_block (length bytes)
 length-block_pairs x bytes = length-map (enumerate_from 1 (runs file_block bytes)) _ ∙ length-enumerate_from 1 (runs file_block bytes) ∙ length-runs file_block bytes
-
--- the key of a path tells it
-pub keys_tell_paths : (x y : Path) → IsTrue (is_path x) → IsTrue (is_path y) → key x 0 ≡ key y 0 → x ≡ y
-keys_tell_paths x y hx hy e =
-    same_from_tie x y
-    (sym (then-Equal (path_cmp x y)) ∙ ap (ordering_then (path_cmp x y)) (sym (nat_cmp-eq 0)) ∙ sym (order_of_keys x y 0 0 hx hy (omega arith) (omega arith))
-    ∙ ap (key_cmp (key x 0)) (sym e) ∙ tied_itself nat_list_cmp_total (key x 0))
-
--- the values of numbered blocks are the blocks
-values_of_blocks : (x : Path) (n : ℕ) (blocks : List (List ℕ)) → map (λ (pair : Pair). pair.1) (map (λ b. (key x b.0, b.1)) (enumerate_from n blocks)) ≡ blocks
-values_of_blocks x n [] = refl
-values_of_blocks x n (block ∷ blocks) = ap (λ rest. block ∷ rest) (values_of_blocks x (n + 1) blocks)
-
--- files whose first values and blocks are the same, in front of other pairs
-files_same : (x y : Path) (a b : List ℕ) (u v : List Pair) → length a ≤ file_limit → length b ≤ file_limit → file_value (length a) ≡ file_value (length b) → block_pairs x a ++ u ≡ block_pairs y b ++ v → (a ≡ b) × (u ≡ v)
-files_same x y a b u v la lb first e =
-    let size : length a ≡ length b = four_bytes_same (length a) (length b) (omega arith) (omega arith) (tails_same first) in
-    let count : length (block_pairs x a) ≡ length (block_pairs y b) = length-block_pairs x a ∙ ap (λ n. run_count file_block n) size ∙ sym (length-block_pairs y b) in
-    let whole = fronts_same (block_pairs x a) (block_pairs y b) u v count e in
-    let blocks : runs file_block a ≡ runs file_block b = sym (values_of_blocks x 1 (runs file_block a)) ∙ ap (map (λ (pair : Pair). pair.1)) whole.0 ∙ values_of_blocks y 1 (runs file_block b) in
-    (sym (flat_map-runs file_block a (omega arith)) ∙ ap (flat_map (λ run. run)) blocks ∙ flat_map-runs file_block b (omega arith), whole.1)
-
--- a key and a value in a pair
-pair_parts : {p q : Pair} → p ≡ q → (p.0 ≡ q.0) × (p.1 ≡ q.1)
-pair_parts e = (ap (λ (p : Pair). p.0) e, ap (λ (p : Pair). p.1) e)
-
--- the pairs of what stands at a path tell it, in front of other pairs
-nodes_same : (x y : Path) (a b : Node) (p : Parameters) (u v : List Pair) → IsTrue (is_path x) → IsTrue (is_path y) → IsNode a → IsNode b → node_pairs x a p ++ u ≡ node_pairs y b p ++ v → (x ≡ y) × (a ≡ b) × (u ≡ v)
-unfolding node_pairs
-nodes_same x y Directory Directory p u v hx hy ha hb e = (keys_tell_paths x y hx hy (pair_parts (heads_same e)).0, refl, tails_same e)
-nodes_same x y Directory (File b) p u v hx hy ha hb e = let first : ◌≡◌ {A = ℕ} 1 2 = heads_same (pair_parts (heads_same e)).1 in absurd (omega arith)
-nodes_same x y (File a) Directory p u v hx hy ha hb e = let first : ◌≡◌ {A = ℕ} 2 1 = heads_same (pair_parts (heads_same e)).1 in absurd (omega arith)
-nodes_same x y (File a) (File b) p u v hx hy ha hb e =
-    let first = pair_parts (heads_same e) in
-    let rest = files_same x y a b u v ha.0 hb.0 first.1 (tails_same e) in
-    (keys_tell_paths x y hx hy first.0, ap File rest.0, rest.1)
-
--- there is a pair of what stands at a path
-pub some_pair : (x : Path) (a : Node) (p : Parameters) (u : List Pair) → [] ≡ node_pairs x a p ++ u → ⊥
-unfolding node_pairs
-some_pair x Directory p u e = cc
-some_pair x (File bytes) p u e = cc
 
 -- ---- the pairs of entries, one behind the others
 

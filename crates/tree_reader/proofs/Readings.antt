@@ -23,7 +23,7 @@ use Rattle.tree_reader.specs.Fronts.{AreOfTree, BeginTree, IsFirst, block_pairs}
 use Rattle.tree_reader.specs.Seen.{IsLast, MayFollow, IsNextBlock, size_of, IsBetweenEntries, IsInFile, HasSeen}
 use Rattle.tree_reader.proofs.BlockLemmas.{pairs_behind, blocks-append, blocks_more, no_blocks, block_is}
 use Rattle.tree_reader.proofs.CountLemmas.{counts_more, in_range}
-use Rattle.tree_reader.proofs.FrontLemmas.{length-block_pairs, keys_tell_paths, pairs_more, tree_first, next_of_pair}
+use Rattle.tree_reader.proofs.FrontLemmas.{length-block_pairs, pairs_more, tree_first, next_of_pair}
 use Rattle.tree_reader.proofs.NextLemmas.{tree_more, last_more, next_stands, next_from_last, last_from_next}
 
 -- ---- where a reader stands

@@ -70,7 +70,7 @@ static FRONTS: [(&[Row], Outcome); 6] = [
         &[("/f", 0, Says::File(257)), ("/f", 1, Says::Block(256))],
         Outcome::Front,
     ),
-    (&[("/f", 0, Says::File(1_048_576))], Outcome::Front),
+    (&[("/f", 0, Says::File(16_777_216))], Outcome::Front),
 ];
 
 /// Entries that may not stand where they do, or not in this order.

@@ -40,13 +40,13 @@ fn a_crash_leaves_these_images(rt: HostRuntime) {
     }
 }
 
-// The largest image, of 16,384 slots.
+// An image of 16,384 slots.
 #[test]
-fn the_largest_image_has_room(rt: HostRuntime) {
-    const LARGEST: u64 = 134_246_400;
-    let image = vec![in rt.alloc(); 7; LARGEST as usize].expect(&rt, "memory");
+fn a_large_image_has_room(rt: HostRuntime) {
+    const LARGE: u64 = 134_246_400;
+    let image = vec![in rt.alloc(); 7; LARGE as usize].expect(&rt, "memory");
     let mut disk = MemDisk::new(rt.alloc(), &image, 1_048_576).expect(&rt, "memory");
-    disk.write_at(LARGEST - 1, b"Z").expect(&rt, "a write");
+    disk.write_at(LARGE - 1, b"Z").expect(&rt, "a write");
     disk.sync().expect(&rt, "a sync");
     let left = disk.stopped(StopChoice::Old);
     assert!(rt; left.bytes().starts_with(&[7]) && left.bytes().ends_with(&[7, b'Z']));

@@ -16,7 +16,7 @@ fn bytes_of(bytes: &[u8]) -> Bytes {
 /// A change of a file.
 #[derive(Clone, Copy)]
 enum Change {
-    /// So many zeros, at most 2,048, are written from a place on.
+    /// So many zeros, as many as one write takes, are written from a place on.
     Fill(u32, usize),
     /// So many bytes are left.
     Cut(u32),
@@ -34,11 +34,17 @@ static ONE_BLOCK: [Counted; 3] = [
 
 /// Changes of a file of the greatest length.
 static LONGEST: [Counted; 5] = [
-    (Change::Fill(1_048_576, 1), Err(Refusal::Big), 1),
+    (Change::Fill(16_777_216, 1), Err(Refusal::Big), 1),
+    (Change::Fill(16_777_215, 1), Ok(()), 3),
+    (Change::Fill(0, 4096), Ok(()), 17),
+    (Change::Fill(16_773_120, 4096), Ok(()), 17),
+    (Change::Cut(16_776_640), Ok(()), 6),
+];
+
+/// Changes at the end of a file of 1 MiB, whose last block is full.
+static FULL_BLOCKS: [Counted; 2] = [
+    (Change::Fill(1_048_576, 1), Ok(()), 3),
     (Change::Fill(1_048_575, 1), Ok(()), 3),
-    (Change::Fill(0, 2048), Ok(()), 9),
-    (Change::Fill(1_046_528, 2048), Ok(()), 9),
-    (Change::Cut(1_048_000), Ok(()), 6),
 ];
 
 /// Whether the change of the file at the path is answered so, with so many calls.
@@ -47,7 +53,7 @@ fn is_made(list: &mut CountedPairs, path: &Path, row: &Counted) -> Result<bool, 
     list.calls();
     let made = match change {
         Change::Fill(at, count) => {
-            let zeros = bytes_of(&[0; 2048][..(*count).min(2048)]);
+            let zeros = bytes_of(&[0; Bytes::MAX_LEN][..(*count).min(Bytes::MAX_LEN)]);
             write_at(list, path, *at, &zeros)?
         }
         Change::Cut(len) => cut(list, path, *len)?,
@@ -69,19 +75,29 @@ fn file_of_one_block(rt: HostRuntime) {
     assert!(rt; list.len() == 2);
 }
 
-/// Fills a file that is absent to the greatest length.
-fn fill(rt: &impl Abort, list: &mut CountedPairs, path: &Path) {
-    for piece in 0..512 {
-        let filled = (Change::Fill(piece * 2048, 2048), Ok(()), 10);
+/// Fills a file that is absent by so many writes, each of so many whole blocks, at most 16.
+fn fill(rt: &impl Abort, list: &mut CountedPairs, path: &Path, writes: u16, blocks: u8) {
+    let len = u32::from(blocks.min(16)) * 256;
+    for piece in 0..u32::from(writes) {
+        let filled = (Change::Fill(piece * len, len as usize), Ok(()), u32::from(blocks) + 2);
         assert!(rt; is_made(list, path, &filled) == Ok(true), "piece {piece}");
     }
+}
+
+#[test]
+fn full_blocks(rt: HostRuntime) {
+    let mut list = CountedPairs::new(rt.alloc());
+    let file = path(&rt, "/f");
+    fill(&rt, &mut list, &file, 512, 8);
+    assert!(rt; list.len() == 4097);
+    are_made(&rt, &mut list, &file, &FULL_BLOCKS);
 }
 
 #[test]
 fn longest_file(rt: HostRuntime) {
     let mut list = CountedPairs::new(rt.alloc());
     let file = path(&rt, "/f");
-    fill(&rt, &mut list, &file);
-    assert!(rt; list.len() == 4097);
+    fill(&rt, &mut list, &file, 4096, 16);
+    assert!(rt; list.len() == 65_537);
     are_made(&rt, &mut list, &file, &LONGEST);
 }

@@ -1,4 +1,4 @@
-//! Tables of directories, and the largest one.
+//! Tables of directories, and a large one.
 
 use layout_scratch::ScratchFault;
 use std::alloc::Global;
@@ -28,7 +28,7 @@ fn tall(rt: &impl Abort, alloc: Global, count: u16) -> Result<u32, ScratchFault>
 }
 
 #[test]
-fn largest_table(rt: HostRuntime) {
+fn large_table(rt: HostRuntime) {
     assert!(rt; tall(&rt, rt.alloc(), 2329) == Ok(7 * 2329 + 76));
     let full = ScratchFault::Full {
         need: 7 * 2330 + 76,

@@ -179,9 +179,9 @@ fn has_room(rt: &impl Abort, alloc: Global, reply: &[u8]) -> bool {
     sink.put(reply).is_ok() && sink.written().len() == reply.len()
 }
 
-// The longest listing: 163,840 children, ten to a page and a page to each of 16,384 slots, in lines of 134 bytes.
+// The longest listing: 655,360 children, ten to a page and a page to each of 65,536 slots, in lines of 134 bytes.
 #[test]
 fn a_sink_has_room_for_the_longest_reply(rt: HostRuntime) {
-    let reply = vec![in rt.alloc(); b'x'; 163_840 * 134 + 4].expect(&rt, "memory");
+    let reply = vec![in rt.alloc(); b'x'; 655_360 * 134 + 4].expect(&rt, "memory");
     assert!(rt; has_room(&rt, rt.alloc(), &reply));
 }

@@ -134,17 +134,17 @@ pub fn first_refusals()
 
 /// A file of the greatest length takes no further byte; its last byte can be written over.
 pub fn full_file()
-    ensures one_byte_more { (old : List ℕ) → length old ≡ 1048576 → refusal_of ((codes "f" ∷ [], File old) ∷ []) (Write (codes "f" ∷ []) 1048576 (7 ∷ [])) ≡ Some refusals.Big }
-    ensures last_byte { (old : List ℕ) → length old ≡ 1048576 → refusal_of ((codes "f" ∷ [], File old) ∷ []) (Write (codes "f" ∷ []) 1048575 (7 ∷ [])) ≡ None }
-    ensures no_bytes { (old : List ℕ) → length old ≡ 1048576 → refusal_of ((codes "f" ∷ [], File old) ∷ []) (Write (codes "f" ∷ []) 1048576 []) ≡ None }
-    ensures past_the_end { (old : List ℕ) → length old ≡ 1048576 → refusal_of ((codes "f" ∷ [], File old) ∷ []) (Write (codes "f" ∷ []) 1048577 (7 ∷ [])) ≡ Some refusals.Gap }
+    ensures one_byte_more { (old : List ℕ) → length old ≡ 16777216 → refusal_of ((codes "f" ∷ [], File old) ∷ []) (Write (codes "f" ∷ []) 16777216 (7 ∷ [])) ≡ Some refusals.Big }
+    ensures last_byte { (old : List ℕ) → length old ≡ 16777216 → refusal_of ((codes "f" ∷ [], File old) ∷ []) (Write (codes "f" ∷ []) 16777215 (7 ∷ [])) ≡ None }
+    ensures no_bytes { (old : List ℕ) → length old ≡ 16777216 → refusal_of ((codes "f" ∷ [], File old) ∷ []) (Write (codes "f" ∷ []) 16777216 []) ≡ None }
+    ensures past_the_end { (old : List ℕ) → length old ≡ 16777216 → refusal_of ((codes "f" ∷ [], File old) ∷ []) (Write (codes "f" ∷ []) 16777217 (7 ∷ [])) ≡ Some refusals.Gap }
 {}
 
 /// Command lines at the ends of their ranges and past them.
 pub fn ranges_of_words()
-    ensures largest { request_of (codes "format" ∷ codes "16384" ∷ codes "8" ∷ codes "sha256" ∷ (replicate 32 0x46 ++ replicate 32 0x66) ∷ []) ≡
-        Some (Format (record { slots = 16384; height = 8; kind = Sha256; seed = replicate 32 255 })) }
-    ensures past_slots { map (λ slots. request_of (codes "format" ∷ codes slots ∷ codes "1" ∷ codes "ruler" ∷ replicate 64 0x30 ∷ [])) ("01" ∷ "16385" ∷ []) ≡ None ∷ None ∷ [] }
+    ensures largest { request_of (codes "format" ∷ codes "65536" ∷ codes "8" ∷ codes "sha256" ∷ (replicate 32 0x46 ++ replicate 32 0x66) ∷ []) ≡
+        Some (Format (record { slots = 65536; height = 8; kind = Sha256; seed = replicate 32 255 })) }
+    ensures past_slots { map (λ slots. request_of (codes "format" ∷ codes slots ∷ codes "1" ∷ codes "ruler" ∷ replicate 64 0x30 ∷ [])) ("01" ∷ "65537" ∷ []) ≡ None ∷ None ∷ [] }
     ensures past_seed { map (λ digits. request_of (codes "format" ∷ codes "1" ∷ codes "1" ∷ codes "ruler" ∷ replicate digits 0x30 ∷ [])) (62 ∷ 63 ∷ 65 ∷ 66 ∷ []) ≡ replicate 4 None }
     ensures big { request_of (codes "big" ∷ codes "4294967295" ∷ codes "1000000" ∷ []) ≡ Some (Big 4294967295 1000000) }
     ensures past_big { map (λ count. request_of (codes "big" ∷ codes "0" ∷ codes count ∷ [])) ("0" ∷ "1000001" ∷ "1 " ∷ []) ≡ replicate 3 None }

@@ -4,7 +4,7 @@
 ghost use Rattle.std.specs.Prelude.{◌≡◌, ℕ, ◌+◌, ◌-◌, List, [], ◌∷◌, ◌++◌, codes, take, drop, length, replicate, Some, None};
 ghost use Rattle.store_model.specs.declared.draw_kind.DrawKind.TheVariants.{Sha256};
 ghost use Rattle.store_model.specs.Lists.{zeros, zero_filled, numbers_below};
-ghost use Rattle.store_model.specs.Parameters.{mark_at, shadow_at, table_at, image_len};
+ghost use Rattle.store_model.specs.Parameters.{mark_blocks, mark_at, shadow_at, table_at, image_len};
 ghost use Rattle.store_model.specs.Labels.{label_bytes};
 ghost use Rattle.store_model.specs.Images.{first_byte, header, slot_bytes, recovered_slot, scrubbed_slot};
 ghost use Rattle.model_laws.specs.Examples.{ruler, start_label, led_label, page, directory_cell, key_cell, key_of};
@@ -15,7 +15,9 @@ pub fn image_lengths()
     ensures four { image_len 4 ≡ 45056 }
     ensures one_mark_block { image_len 4095 ≡ 33558528 }
     ensures two_mark_blocks { image_len 4096 ≡ 33570816 }
-    ensures largest { image_len 16384 ≡ 134246400 }
+    ensures five_mark_blocks { image_len 16384 ≡ 134246400 }
+    ensures largest { image_len 65536 ≡ 536948736 }
+    ensures marks_of_the_largest { mark_blocks 65536 ≡ 17 }
 {}
 
 /// Where the second of two slots has its mark, its shadow block and its place in the table: behind those of the
@@ -36,10 +38,10 @@ pub fn header_of_one_slot()
     ensures first { take 1 (header (ruler 1 1)) ≡ first_byte ∷ [] }
 {}
 
-/// The header of `format 16384 8 sha256` with a seed of the numbers below 32.
+/// The header of `format 65536 8 sha256` with a seed of the numbers below 32.
 pub fn header_of_the_largest_table()
-    ensures { header (record { slots = 16384; height = 8; kind = Sha256; seed = numbers_below 32 }) ≡
-        codes "HSTORE01" ++ 0 ∷ 0 ∷ 0x40 ∷ 0 ∷ 8 ∷ 1 ∷ 1 ∷ 0 ∷ numbers_below 32 ++ zeros 4048 }
+    ensures { header (record { slots = 65536; height = 8; kind = Sha256; seed = numbers_below 32 }) ≡
+        codes "HSTORE01" ++ 0 ∷ 1 ∷ 0 ∷ 0 ∷ 8 ∷ 1 ∷ 1 ∷ 0 ∷ numbers_below 32 ++ zeros 4048 }
 {}
 
 /// The slot of the directory `/a` in a table of one slot.

@@ -18,10 +18,10 @@ pub fn no_names()
     ensures { map (λ name. is_name name) (codes "a b" ∷ codes "a/b" ∷ (0x61 ∷ 0x7f ∷ []) ∷ [] ∷ codes "." ∷ codes ".." ∷ []) ≡ replicate 6 false }
 {}
 
-/// A file has at most 1,048,576 bytes, a value 1 to 256, a label a level of one byte, a leader of 124 bytes and an
+/// A file has at most 16,777,216 bytes, a value 1 to 256, a label a level of one byte, a leader of 124 bytes and an
 /// index of 32 bits.
 pub fn ranges_of_parts()
-    ensures file { (bytes : List ℕ) → length bytes ≡ 1048577 → IsNode (File bytes) → ⊥ }
+    ensures file { (bytes : List ℕ) → length bytes ≡ 16777217 → IsNode (File bytes) → ⊥ }
     ensures no_value { IsValue [] → ⊥ }
     ensures long_value { IsValue (replicate 257 7) → ⊥ }
     ensures level { IsLabel (start_label 256 0) → ⊥ }

@@ -90,7 +90,7 @@ Subcommands:
   wipe    Makes every byte of the file zero, whatever the file is.
   big     Carries out generated commands, and prints what came of them.
 
-IMAGE is the path of the image's file. `format` makes the file; every other word wants it there.
+IMAGE is the path of the image's file. `format` makes the file; every other subcommand wants it there.
 Numbers are decimal digits, with no sign and no leading zero.
 == format
 Makes an image with nothing in it.
@@ -98,7 +98,7 @@ Makes an image with nothing in it.
 Usage: ./hstore IMAGE format <SLOTS> <HEIGHT> <DRAW> <SEED>
 
 Arguments:
-  <SLOTS>   How many pages of 4096 bytes it has room for, 1 to 16384
+  <SLOTS>   How many pages of 4096 bytes it has room for, 1 to 65536
   <HEIGHT>  How many levels the lists in it have, 1 to 8
   <DRAW>    How levels and places are drawn [possible values: ruler, sha256]
   <SEED>    What they are drawn from, 64 hexadecimal digits

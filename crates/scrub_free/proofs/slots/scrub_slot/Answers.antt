@@ -1,7 +1,7 @@
 use Rattle.std.proofs.Common.{◌≡◌, ℕ, ◌+◌, ◌^◌, ◌<◌, ◌≤◌, List, length, take, drop, slice_index, Bool, true, false, if◌then◌else◌, refl, sym, ap, ◌∙◌, subst, arith}
 use Rattle.std.proofs.lemmas.List.{length-replicate}
 use Rattle.store_model.specs.Lists.{zeros}
-use Rattle.store_model.specs.Parameters.{mark_blocks, table_at, image_len}
+use Rattle.store_model.specs.Parameters.{slots_limit, mark_blocks, table_at, image_len}
 use Rattle.store_model.specs.Images.{bytes_at, scrubbed_block}
 use Rattle.disk_model.specs.DiskCalls.{overwrite}
 use Rattle.disk_model.proofs.Crashes.{IsObservable-call}
@@ -17,7 +17,7 @@ use Rattle.scrub_free.proofs.Free.{slot_first}
 use Rattle.scrub_free.proofs.slots.scrub_slot.Goals as goal
 
 -- an image is short enough to be counted
-few_bytes : (slots : ℕ) → slots ≤ 16384 → image_len slots < 2 ^ 63
+few_bytes : (slots : ℕ) → slots ≤ slots_limit → image_len slots < 2 ^ 63
 unfolding mark_blocks image_len
 few_bytes slots few = omega arith
 

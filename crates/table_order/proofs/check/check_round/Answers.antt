@@ -1,5 +1,6 @@
 use Rattle.std.proofs.Common.{◌≡◌, ◌+◌, ◌<◌, length, refl, sym, ◌∙◌, arith}
 use Rattle.std.proofs.lemmas.Result.{err_from_is_err_and}
+use Rattle.store_model.specs.Parameters.{slots_limit}
 use Rattle.table_order.specs.declared.way.Standing.{Standing}
 use Rattle.table_order.proofs.Checking.{Stands, visits_at, checking_starts, checking_free, checking_page}
 use Rattle.table_order.proofs.Ending.{checks_other, checks_far, checks_greater, checks_fails, checks_all}
@@ -7,7 +8,7 @@ use Rattle.table_order.proofs.Noting.{noting_starts, noting_free, noting_page, n
 use Rattle.table_order.proofs.check.check_round.Goals as goal
 
 pub loop-place-init : goal.loop-place-init
-loop-place-init g c = (checking_starts (g.W.Draw.drawn c.args.draw.now) c.args.height c.args.round.now _ c.args.steps.now 16384, g.met.S.ReadSlots.follows_refl c.args.slots.now, noting_starts c.args.round.now (g.S.ReadSlots.state c.args.slots.now) c.args.entries.now)
+loop-place-init g c = (checking_starts (g.W.Draw.drawn c.args.draw.now) c.args.height c.args.round.now _ c.args.steps.now slots_limit, g.met.S.ReadSlots.follows_refl c.args.slots.now, noting_starts c.args.round.now (g.S.ReadSlots.state c.args.slots.now) c.args.entries.now)
 
 pub loop-place-preserved-in-Free : goal.loop-place-preserved-in-Free
 loop-place-preserved-in-Free g c = (
