@@ -52,16 +52,16 @@ map_lies d slots m page law holds in_map =
     )
 
 -- so what is looked up by an index is what the map has
-pub found_by_index : (d : Draw) (old new : SlotsState) (entries : List Entry) (l : Label) (result : Result (Option Page) Fault) → IsLawful d → IsLabel l → IsIndexOf old entries → LooksUp old new entries l result → FindsPage d old new l result
-found_by_index d old new entries l (Err fault) law valid index looks = record { reads = looks.reads; label = tt; found = λ m observable holds. tt }
-found_by_index d old new entries l (Ok (Some page)) law valid index looks = record {
+pub found_by_index : (d : Draw) (digests : Label → ℕ) (old new : SlotsState) (entries : List Entry) (l : Label) (digest : ℕ) (result : Result (Option Page) Fault) → IsLawful d → IsLabel l → digest ≡ digests l → IsIndexOf digests old entries → LooksUp old new entries l digest result → FindsPage d old new l result
+found_by_index d digests old new entries l digest (Err fault) law valid is_digest index looks = record { reads = looks.reads; label = tt; found = λ m observable holds. tt }
+found_by_index d digests old new entries l digest (Ok (Some page)) law valid is_digest index looks = record {
   reads = looks.reads;
   label = looks.label;
   found = λ m observable holds.
-      let there = looks.found observable (index.indexes observable) in
+      let there = looks.found digests is_digest observable (index.indexes observable) in
       sym (subst (λ (label : Label). page_at m label ≡ Some page) looks.label (lies_in_map d old.slots there.0 page m law holds there.1));
 }
-found_by_index d old new entries l (Ok None) law valid index looks = record {
+found_by_index d digests old new entries l digest (Ok None) law valid is_digest index looks = record {
   reads = looks.reads;
   label = tt;
   found = λ m observable holds. none m observable holds (page_at m l) refl;
@@ -73,4 +73,4 @@ found_by_index d old new entries l (Ok None) law valid index looks = record {
         let under = holds.pages (label_bytes l) page is in
         let same = labels_same page.label l under.valid.label valid (sym under.under) in
         let there = map_lies d old.slots m page law holds (ap (page_at m) same ∙ is) in
-        absurd (looks.found observable (index.indexes observable) there.0 page there.1 same)
+        absurd (looks.found digests is_digest observable (index.indexes observable) there.0 page there.1 same)

@@ -14,6 +14,8 @@ pub(crate) struct Progress {
     pub(crate) last: Option<Key>,
     /// What the levels of keys are drawn from that begin alike.
     pub(crate) front: Front,
+    /// What the digests of labels are taken from that begin alike.
+    pub(crate) label_front: Front,
     ghost in_range: { left < 2 ^ 32 },
 }
 
@@ -27,6 +29,7 @@ impl Progress {
             left: pages,
             last: None,
             front: Front::new(),
+            label_front: Front::new(),
         }
     }
 }

@@ -73,7 +73,7 @@ fn walk_cell<S: ReadSlots, W: Draw, P: TakesPairs>(
     sink: &mut P,
 ) -> Result<bool, Fault>
     requires count { (S.state slots.old).count ≡ (W.drawn guide.now.draw.now).slots }
-    requires index { IsIndexOf (S.state slots.old) guide.now.entries.now }
+    requires index { IsIndexOf (W.digests guide.now.draw.now) (S.state slots.old) guide.now.entries.now }
     ensures call { WalksCell (W.drawn guide.now.draw.now) (S.state slots.old) (S.state slots.new) level cell.now (progress met.old.left met.old.last) (progress met.new.left met.new.last) (P.took sink.old) (P.took sink.new) result }
     ensures follows { S.follows slots.old slots.new }
 {
@@ -98,7 +98,7 @@ fn walk_cells<S: ReadSlots, W: Draw, P: TakesPairs>(
     sink: &mut P,
 ) -> Result<bool, Fault>
     requires count { (S.state slots.old).count ≡ (W.drawn guide.now.draw.now).slots }
-    requires index { IsIndexOf (S.state slots.old) guide.now.entries.now }
+    requires index { IsIndexOf (W.digests guide.now.draw.now) (S.state slots.old) guide.now.entries.now }
     ensures call { WalksCells (W.drawn guide.now.draw.now) (S.state slots.old) (S.state slots.new) page.now (progress met.old.left met.old.last) (progress met.new.left met.new.last) (P.took sink.old) (P.took sink.new) result }
     ensures follows { S.follows slots.old slots.new }
 {
@@ -127,14 +127,14 @@ fn walk_group<S: ReadSlots, W: Draw, P: TakesPairs>(
     sink: &mut P,
 ) -> Result<bool, Fault>
     requires count { (S.state slots.old).count ≡ (W.drawn guide.now.draw.now).slots }
-    requires index { IsIndexOf (S.state slots.old) guide.now.entries.now }
+    requires index { IsIndexOf (W.digests guide.now.draw.now) (S.state slots.old) guide.now.entries.now }
     ensures call { WalksGroup (W.drawn guide.now.draw.now) (S.state slots.old) (S.state slots.new) level (model_lead lead.now) (progress met.old.left met.old.last) (progress met.new.left met.new.last) (P.took sink.old) (P.took sink.new) result }
     ensures follows { S.follows slots.old slots.new }
 {
     let mut index = 0;
     'runs: loop {
         let label = label_in_group(level, lead, index);
-        let Some(page) = look_up(slots, guide, &label)? else {
+        let Some(page) = look_up(slots, guide, &label, &mut met.label_front)? else {
             return Ok(may_end(lead, index));
         };
         if met.left == 0 {
@@ -154,8 +154,8 @@ fn walk_group<S: ReadSlots, W: Draw, P: TakesPairs>(
 /// Whether the pages of a table, of which there are so many, are met one and all on the way down from the start of each
 /// level, and meet the conditions on the way; hands the pairs of level 0 on, in the order of their keys.
 ///
-/// There have to be as many slots as the draw's, and the entries have to be an index of the pages in them. A fault of the
-/// slots ends the call; it writes nothing.
+/// There have to be as many slots as the draw's, and the entries have to be an index of the pages in them, by the
+/// draw's digests. A fault of the slots ends the call; it writes nothing.
 pub fn walk_groups<S: ReadSlots, W: Draw, P: TakesPairs>(
     slots: &mut S,
     draw: &W,
@@ -164,7 +164,7 @@ pub fn walk_groups<S: ReadSlots, W: Draw, P: TakesPairs>(
     sink: &mut P,
 ) -> Result<bool, Fault>
     requires count { (S.state slots.old).count ≡ (W.drawn draw.now).slots }
-    requires index { IsIndexOf (S.state slots.old) entries.now }
+    requires index { IsIndexOf (W.digests draw.now) (S.state slots.old) entries.now }
     ensures call { WalksTable (W.drawn draw.now) (S.state slots.old) (S.state slots.new) used (P.took sink.old) (P.took sink.new) result }
     ensures follows { S.follows slots.old slots.new }
 {

@@ -1,7 +1,7 @@
 //! The check of slots.
 
 ghost use Rattle.std.specs.Prelude.{◌≡◌, ◌≤◌, ◌<◌, ℕ, Some, None, length, take, IfOk, IfSome};
-ghost use Rattle.seeded_draw.specs.AnyDrawn.{any_draw};
+ghost use Rattle.seeded_draw.specs.AnyDrawn.{any_draw, any_digest};
 ghost use Rattle.label_index.specs.Indexes.{IsIndexOf};
 ghost use Rattle.image_check.specs.SlotCalls.{FindsContents, ChecksSlots};
 ghost use Rattle.image_check.specs.Orders.{FindsOrder};
@@ -33,7 +33,7 @@ fn count_by<S: ReadSlots, L: Ledger>(
     requires most { (any_draw draw.now).slots ≤ MAX_SLOTS }
     requires room { (any_draw draw.now).slots ≤ length entries.old }
     ensures call { FindsOrder (any_draw draw.now) height (S.state slots.old) (S.state slots.new) result }
-    ensures index { IfOk result (λ found. IfSome found (λ used. IsIndexOf (S.state slots.old) (take used entries.new))) }
+    ensures index { IfOk result (λ found. IfSome found (λ used. IsIndexOf (any_digest draw.now) (S.state slots.old) (take used entries.new))) }
     ensures follows { S.follows slots.old slots.new }
 {
     check_order(slots, draw, height, entries, &mut Steps::<L>::new(blank))
@@ -53,7 +53,7 @@ fn count_pages<S: ReadSlots>(
     requires most { (any_draw draw.now).slots ≤ MAX_SLOTS }
     requires room { (any_draw draw.now).slots ≤ length entries.old }
     ensures call { FindsOrder (any_draw draw.now) height (S.state slots.old) (S.state slots.new) result }
-    ensures index { IfOk result (λ found. IfSome found (λ used. IsIndexOf (S.state slots.old) (take used entries.new))) }
+    ensures index { IfOk result (λ found. IfSome found (λ used. IsIndexOf (any_digest draw.now) (S.state slots.old) (take used entries.new))) }
     ensures follows { S.follows slots.old slots.new }
 {
     count_by::<S, Brand>(slots, draw, height, entries, Blank::new(1))

@@ -24,8 +24,8 @@ abbrev pub TellsPage : List (List ℕ) → Label → Option Page → Type 0
 TellsPage slots l (Some page) = (at : ℕ) × LiesIn slots at page
 TellsPage slots l None = (at : ℕ) (page : Page) → LiesIn slots at page → page.label ≡ l → ⊥
 
--- a lookup of the page of a label, by these entries
-pub record LooksUp (old new : SlotsState) (entries : List Entry) (l : Label) (result : Result (Option Page) Fault) : Type 0 where
+-- a lookup of the page of a label, by these entries and this digest, which is to be the label's
+pub record LooksUp (old new : SlotsState) (entries : List Entry) (l : Label) (digest : ℕ) (result : Result (Option Page) Fault) : Type 0 where
   pub reads : ReadsOnly old new result
   pub label : IfOk result (λ found. IfSome found (λ page. page.label ≡ l))
-  pub found : IsObservable old → Indexes old.slots entries → IfOk result (TellsPage old.slots l)
+  pub found : (digests : Label → ℕ) → digest ≡ digests l → IsObservable old → Indexes digests old.slots entries → IfOk result (TellsPage old.slots l)

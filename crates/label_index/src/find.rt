@@ -1,11 +1,10 @@
 //! The lookup of a page by its label.
 
 ghost use Rattle.std.specs.Prelude.{◌≡◌, ◌<◌, ◌≤◌, length};
-ghost use Rattle.store_model.specs.Labels.{IsLabel};
 ghost use Rattle.label_index.specs.Indexes.{AreThere, IsPast};
 ghost use Rattle.label_index.specs.Lookups.{LooksUp};
 
-use crate::entry::{Entry, digest_of};
+use crate::entry::Entry;
 use crate::read::page_in;
 use node_pages::Page;
 use store_base::{Fault, Label, ReadSlots};
@@ -18,21 +17,21 @@ fn first_of(entries: &[Entry], digest: u64) -> usize
     entries.partition_point(|entry| entry.digest < digest)
 }
 
-/// The page of the label, read from the slots by an index of them; `None` exactly where no slot holds such a page.
+/// The page of the label, which has this digest, read from the slots by an index of them; `None` exactly where no slot
+/// holds such a page. The digest has to be the one that the index was made with.
 ///
-/// It reads the slots of the entries that have the label's digest, one after another, until one holds the page. The
+/// It reads the slots of the entries that have this digest, one after another, until one holds the page. The
 /// slots that entries name have to be there. A fault of the slots ends the call; it writes nothing, and takes no memory.
 pub fn find_page<S: ReadSlots>(
     slots: &mut S,
     entries: &[Entry],
     label: &Label,
+    digest: u64,
 ) -> Result<Option<Page>, Fault>
     requires { AreThere (S.state slots.old).count entries.now }
-    ensures call { LooksUp (S.state slots.old) (S.state slots.new) entries.now label.now result }
-    ensures valid { IsLabel label.now }
+    ensures call { LooksUp (S.state slots.old) (S.state slots.new) entries.now label.now digest result }
     ensures follows { S.follows slots.old slots.new }
 {
-    let digest = digest_of(label);
     let first = first_of(entries, digest);
     for at in first..entries.len() {
         let entry = entries[at];

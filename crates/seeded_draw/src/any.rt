@@ -1,7 +1,7 @@
 //! The draw that an image's parameters name.
 
 ghost use Rattle.std.specs.Prelude.{◌≡◌};
-ghost use Rattle.seeded_draw.specs.AnyDrawn.{any_draw, any_is_lawful};
+ghost use Rattle.seeded_draw.specs.AnyDrawn.{any_draw, any_digest, any_is_lawful};
 ghost use Rattle.store_model.specs.Draws.{draw_of};
 
 use crate::draw::Draw;
@@ -35,6 +35,8 @@ impl AnyDraw {
 
 impl Draw for AnyDraw {
     ghost drawn = { any_draw };
+
+    ghost digests = { any_digest };
 
     ghost lawful = { any_is_lawful };
 
@@ -77,6 +79,20 @@ impl Draw for AnyDraw {
         match self {
             AnyDraw::Ruler(draw) => draw.level_from(front, key),
             AnyDraw::Sha256(draw) => draw.level_from(front, key),
+        }
+    }
+
+    fn digest_from(&self, front: &mut Front, label: &Label) -> u64 {
+        match self {
+            AnyDraw::Ruler(draw) => draw.digest_from(front, label),
+            AnyDraw::Sha256(draw) => draw.digest_from(front, label),
+        }
+    }
+
+    fn start_by(&self, label: &Label, digest: u64) -> u32 {
+        match self {
+            AnyDraw::Ruler(draw) => draw.start_by(label, digest),
+            AnyDraw::Sha256(draw) => draw.start_by(label, digest),
         }
     }
 }

@@ -1,6 +1,7 @@
 //! What every draw offers.
 
-ghost use Rattle.std.specs.Prelude.{◌≡◌};
+ghost use Rattle.std.specs.Prelude.{◌≡◌, ℕ};
+ghost use Rattle.store_model.specs.Labels as labels;
 ghost use Rattle.store_model.specs.Labels.{IsLabel};
 ghost use Rattle.store_model.specs.Draws as draws;
 
@@ -12,6 +13,9 @@ use store_base::{Key, Label};
 pub trait Draw {
     /// The draw of the definitions that this is.
     ghost drawn: { Self → draws.Draw };
+
+    /// The digest of each label. It is one function of the label, and else nothing is promised of it.
+    ghost digests: { Self → labels.Label → ℕ };
 
     /// The number of slots of the table, at least 1.
     fn slots(&self) -> u32
@@ -48,6 +52,17 @@ pub trait Draw {
         let _ = front;
         self.level(key)
     }
+
+    /// The digest of the label, a number of 64 bits; the front helps as in `start_from`. Labels of one digest are hard to
+    /// make, so that pages are found by it: it is taken from SHA-256 (FIPS 180-4).
+    fn digest_from(&self, front: &mut Front, label: &Label) -> u64
+        ensures value { result ≡ digests self.now label.now }
+        ensures valid { IsLabel label.now };
+
+    /// As `start`, where the label's digest is known: nothing is digested for it.
+    fn start_by(&self, label: &Label, digest: u64) -> u32
+        requires { digest ≡ digests self.now label.now }
+        ensures { result ≡ (drawn self.now).start label.now };
 
     /// Starts lie in the table, and levels below the height.
     ghost lawful: { (d : Self) → draws.IsLawful (drawn d) };

@@ -3,10 +3,12 @@
 ghost use Rattle.std.specs.Prelude.{◌≡◌, ◌≤◌, length};
 ghost use Rattle.std.specs.List.{sum};
 ghost use Rattle.store_model.specs.Draws.{key_block};
-ghost use Rattle.seeded_draw.specs.Drawn.{ruler_draw};
+ghost use Rattle.seeded_draw.specs.Drawn.{ruler_draw, ruler_digest};
 ghost use Rattle.seeded_draw.specs.Lawful.{ruler_is_lawful};
 
 use crate::draw::Draw;
+use crate::front::Front;
+use crate::sha::number_of_digest;
 use store_base::{Key, Label, Params};
 
 /// The draw `ruler`, with which small images can be worked out by hand. A label starts at its bytes' sum, counted
@@ -52,6 +54,8 @@ fn block_number(bytes: &[u8; 124]) -> u32
 impl Draw for RulerDraw {
     ghost drawn = { λ d. ruler_draw d.slots d.height };
 
+    ghost digests = { λ d l. ruler_digest l };
+
     ghost lawful = { λ d. ruler_is_lawful d.slots d.height d.some_slot d.some_level };
 
     fn slots(&self) -> u32 {
@@ -75,5 +79,14 @@ impl Draw for RulerDraw {
         }
         let letters = bytes[..120].iter().filter(|byte| **byte == b'U').count();
         letters.min(usize::from(self.height - 1)) as u8
+    }
+
+    fn digest_from(&self, front: &mut Front, label: &Label) -> u64 {
+        number_of_digest(&front.digest(&label.to_bytes()))
+    }
+
+    fn start_by(&self, label: &Label, digest: u64) -> u32 {
+        let _ = digest;
+        self.start(label)
     }
 }

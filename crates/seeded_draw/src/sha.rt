@@ -3,9 +3,9 @@
 ghost use Rattle.std.specs.Prelude.{◌≡◌, ◌≤◌, ◌==◌, ◌+◌, ◌∷◌, ◌++◌, length};
 ghost use Rattle.std.specs.List.{prefix_len};
 ghost use Rattle.sha2.specs.Sha256.{sha256};
-ghost use Rattle.seeded_draw.specs.Drawn.{sha256_draw};
+ghost use Rattle.seeded_draw.specs.Drawn.{sha256_draw, sha256_digest, number_of_digest};
 ghost use Rattle.seeded_draw.specs.Lawful.{sha256_is_lawful};
-ghost use Rattle.store_model.specs.Draws.{start_of_digest, level_of_digest, hex_digits};
+ghost use Rattle.store_model.specs.Draws.{level_of_digest, hex_digits};
 
 use crate::draw::Draw;
 use crate::front::Front;
@@ -32,16 +32,14 @@ fn add(message: &mut ArrayVec<u8, MOST_LEN>, bytes: &[u8])
     };
 }
 
-/// The slot that a digest draws, below `slots`: the number in its first eight bytes, high byte first,
-/// modulo `slots`, which is at least 1.
-#[tactic(auto, unfolding(store_model::specs::Draws::start_of_digest))]
-pub fn start_of_digest(digest: &[u8; 32], slots: u32) -> u32
-    requires { 1 ≤ slots }
-    ensures { result ≡ start_of_digest digest.now slots }
+/// The number in the first eight bytes of a digest, high byte first.
+#[tactic(auto, unfolding(crate::specs::Drawn::number_of_digest))]
+pub(crate) fn number_of_digest(digest: &[u8; 32]) -> u64
+    ensures { result ≡ number_of_digest digest.now }
 {
     let mut front = [0; 8];
     front.copy_from_slice(&digest[..8]);
-    (u64::from_be_bytes(front) % u64::from(slots)) as u32
+    u64::from_be_bytes(front)
 }
 
 /// The level that a digest draws, below `height`: the number of its leading zero hexadecimal digits, at
@@ -111,6 +109,8 @@ impl ShaDraw {
 impl Draw for ShaDraw {
     ghost drawn = { λ d. sha256_draw d.seed d.slots d.height };
 
+    ghost digests = { λ d l. sha256_digest d.seed l };
+
     ghost lawful = { λ d. sha256_is_lawful d.seed d.slots d.height d.some_slot d.some_level };
 
     fn slots(&self) -> u32 {
@@ -121,10 +121,10 @@ impl Draw for ShaDraw {
         self.height
     }
 
-    #[tactic(auto, unfolding(store_model::specs::Draws::sha256_start))]
     fn start(&self, label: &Label) -> u32 {
         let message = self.message(START_BYTE, &label.to_bytes());
-        start_of_digest(&Sha256::digest(message.as_slice()), self.slots)
+        let digest = number_of_digest(&Sha256::digest(message.as_slice()));
+        self.start_by(label, digest)
     }
 
     #[tactic(auto, unfolding(store_model::specs::Draws::sha256_level))]
@@ -133,15 +133,25 @@ impl Draw for ShaDraw {
         level_of_digest(&Sha256::digest(message.as_slice()), self.height)
     }
 
-    #[tactic(auto, unfolding(store_model::specs::Draws::sha256_start))]
     fn start_from(&self, front: &mut Front, label: &Label) -> u32 {
-        let message = self.message(START_BYTE, &label.to_bytes());
-        start_of_digest(&front.digest(message.as_slice()), self.slots)
+        let digest = self.digest_from(front, label);
+        self.start_by(label, digest)
     }
 
     #[tactic(auto, unfolding(store_model::specs::Draws::sha256_level))]
     fn level_from(&self, front: &mut Front, key: &Key) -> u8 {
         let message = self.message(LEVEL_BYTE, key.as_bytes());
         level_of_digest(&front.digest(message.as_slice()), self.height)
+    }
+
+    fn digest_from(&self, front: &mut Front, label: &Label) -> u64 {
+        let message = self.message(START_BYTE, &label.to_bytes());
+        number_of_digest(&front.digest(message.as_slice()))
+    }
+
+    #[tactic(auto, unfolding(store_model::specs::Draws::sha256_start, store_model::specs::Draws::start_of_digest, crate::specs::Drawn::number_of_digest))]
+    fn start_by(&self, label: &Label, digest: u64) -> u32 {
+        let _ = label;
+        (digest % u64::from(self.slots)) as u32
     }
 }

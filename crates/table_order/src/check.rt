@@ -11,7 +11,7 @@ use crate::round::{Round, way_between};
 use crate::way::{Standing, passed_from};
 use label_index::{Entry, sort_entries};
 use ordered_table::{Steps, next_slot};
-use seeded_draw::Draw;
+use seeded_draw::{Draw, Front};
 use std::sync::ledger::Ledger;
 use store_base::{Fault, MAX_SLOTS, ReadSlots};
 use store_model::BLOCK;
@@ -30,7 +30,7 @@ fn check_round<S: ReadSlots, W: Draw, L: Ledger>(
     requires most { (W.drawn draw.now).slots ≤ MAX_SLOTS }
     requires room { (W.drawn draw.now).slots ≤ length entries.old }
     ensures call { ChecksRound (W.drawn draw.now) height round.now (S.state slots.old) (S.state slots.new) steps.old steps.new result }
-    ensures noted { IfOk result (λ found. IfSome found (λ used. AreNoted (S.state slots.old) (take used entries.new))) }
+    ensures noted { IfOk result (λ found. IfSome found (λ used. AreNoted (W.digests draw.now) (S.state slots.old) (take used entries.new))) }
     ensures follows { S.follows slots.old slots.new }
 {
     let mut there = [0; BLOCK];
@@ -39,6 +39,7 @@ fn check_round<S: ReadSlots, W: Draw, L: Ledger>(
     // The place behind the last free slot.
     let mut run = 0;
     let mut used = 0;
+    let mut front = Front::new();
     for place in 0..round.count {
         let at = round.slot(place);
         steps.tick();
@@ -52,7 +53,8 @@ fn check_round<S: ReadSlots, W: Draw, L: Ledger>(
             Content::Other => return Ok(None),
         };
         steps.tick();
-        let way = way_between(draw.start(&label), at, round.count);
+        let digest = draw.digest_from(&mut front, &label);
+        let way = way_between(draw.start_by(&label, digest), at, round.count);
         if place - run < way {
             return Ok(None);
         }
@@ -61,7 +63,7 @@ fn check_round<S: ReadSlots, W: Draw, L: Ledger>(
             return Ok(None);
         };
         reach[place as usize] = from as u16;
-        entries[used as usize] = Entry::new(&label, at);
+        entries[used as usize] = Entry::new(digest, at);
         used += 1;
     }
     Ok(Some(used))
@@ -80,7 +82,8 @@ fn sort_noted(entries: &mut [Entry], found: &Result<Option<u32>, Fault>)
 /// How many pages the slots hold, where each is all zero or a page, each page's level is below the height, and the
 /// pages are in order; `None` exactly where that is not so.
 ///
-/// Where it counts pages it leaves an index of them in the first entries, one for each page.
+/// Where it counts pages it leaves an index of them in the first entries, one for each page, by the draw's digests of
+/// their labels. So each label is digested once, for its start and for the index.
 ///
 /// Each slot that is read and each start that is drawn counts as a step: they are at most four for each slot.
 ///
@@ -97,7 +100,7 @@ pub fn check_order<S: ReadSlots, W: Draw, L: Ledger>(
     requires most { (W.drawn draw.now).slots ≤ MAX_SLOTS }
     requires room { (W.drawn draw.now).slots ≤ length entries.old }
     ensures call { ChecksOrder (W.drawn draw.now) height (S.state slots.old) (S.state slots.new) steps.old steps.new result }
-    ensures index { IfOk result (λ found. IfSome found (λ used. IsIndexOf (S.state slots.old) (take used entries.new))) }
+    ensures index { IfOk result (λ found. IfSome found (λ used. IsIndexOf (W.digests draw.now) (S.state slots.old) (take used entries.new))) }
     ensures follows { S.follows slots.old slots.new }
 {
     let count = draw.slots();

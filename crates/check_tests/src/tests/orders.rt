@@ -2,12 +2,12 @@
 //! 1,024 slots, also such as are made to take work, with its reads and the starts that it draws counted.
 
 ghost use Rattle.std.specs.Prelude.{◌≡◌, ◌≤◌, ◌<◌};
-ghost use Rattle.seeded_draw.specs.AnyDrawn.{any_draw, any_is_lawful};
+ghost use Rattle.seeded_draw.specs.AnyDrawn.{any_draw, any_digest, any_is_lawful};
 ghost use Rattle.ordered_table.specs.MemSlots.{mem_state};
 
 use node_pages::{Cell, Page};
 use ordered_table::{MemSlots, Steps};
-use seeded_draw::{AnyDraw, Draw};
+use seeded_draw::{AnyDraw, Draw, Front};
 use std::alloc::{AllocError, Global};
 use std::marker::Brand;
 use std::process::Abort;
@@ -29,6 +29,8 @@ pub(super) struct CountedDraw {
 impl Draw for CountedDraw {
     ghost drawn = { λ d. any_draw d.draw };
 
+    ghost digests = { λ d. any_digest d.draw };
+
     ghost lawful = { λ d. any_is_lawful d.draw };
 
     fn slots(&self) -> u32 {
@@ -42,6 +44,15 @@ impl Draw for CountedDraw {
     fn start(&self, label: &Label) -> u32 {
         self.starts.set(self.starts.get().saturating_add(1));
         self.draw.start(label)
+    }
+
+    fn start_by(&self, label: &Label, digest: u64) -> u32 {
+        self.starts.set(self.starts.get().saturating_add(1));
+        self.draw.start_by(label, digest)
+    }
+
+    fn digest_from(&self, front: &mut Front, label: &Label) -> u64 {
+        self.draw.digest_from(front, label)
     }
 
     fn level(&self, key: &Key) -> u8 {

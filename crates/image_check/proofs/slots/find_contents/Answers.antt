@@ -1,6 +1,7 @@
 use Rattle.std.proofs.Common.{ℕ, List, Option, IfSome, Ok, take, sym, ap, subst, ◌∙◌, refl, arith}
 use Rattle.store_model.specs.Pairs.{Pair}
 use Rattle.store_model.specs.Draws.{Draw, draw_of}
+use Rattle.seeded_draw.specs.AnyDrawn.{any_digest}
 use Rattle.label_index.specs.Indexes.{IsIndexOf}
 use Rattle.label_index.proofs.Noted.{index_later}
 use Rattle.group_walk.specs.Walks.{WalksTable}
@@ -24,10 +25,11 @@ count_pages-requires-clause-room g c = omega (arith, c.height.ensures.valid.slot
 
 pub walk_groups-requires-clause-index : goal.walk_groups-requires-clause-index
 walk_groups-requires-clause-index g c =
+    let draw = c.new-draw.result in
     let old = g.S.ReadSlots.state c.args.slots.now in
     let entries = c.count_pages.new.entries in
-    let index = subst (λ (found : Option ℕ). IfSome found (λ used. IsIndexOf old (take used entries))) c.in-Some.is c.in_ok-used.ensures.index in
-    index_later old (g.S.ReadSlots.state c.count_pages.new.slots) (Ok c.in_ok-used.field-0) (take c.in-Some.used entries) c.in_ok-used.ensures.call.reads index
+    let index = subst (λ (found : Option ℕ). IfSome found (λ used. IsIndexOf (any_digest draw) old (take used entries))) c.in-Some.is c.in_ok-used.ensures.index in
+    index_later (any_digest draw) old (g.S.ReadSlots.state c.count_pages.new.slots) (Ok c.in_ok-used.field-0) (take c.in-Some.used entries) c.in_ok-used.ensures.call.reads index
 
 pub walk_groups-requires-clause-count : goal.walk_groups-requires-clause-count
 unfolding draw_of

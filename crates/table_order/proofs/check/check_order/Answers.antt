@@ -22,4 +22,4 @@ pub sort_noted-requires : goal.sort_noted-requires
 sort_noted-requires g c = within_room c.check_round-found.result _ _ c.check_round-found.ensures.call.within (omega (arith, c.in_ok-bar.ensures.call.calls.count, c.requires.count, c.requires.room))
 
 pub returns-clause-index : goal.returns-clause-index
-returns-clause-index g c = order_index _ _ _ _ c.in_ok-bar.bar c.check_round-found.new.entries _ c.check_round-found.result c.in_ok-bar.ensures.call c.check_round-found.ensures.noted c.sort_noted.ensures
+returns-clause-index g c = order_index (g.W.Draw.digests c.args.draw.now) _ _ _ _ c.in_ok-bar.bar c.check_round-found.new.entries _ c.check_round-found.result c.in_ok-bar.ensures.call c.check_round-found.ensures.noted c.sort_noted.ensures
