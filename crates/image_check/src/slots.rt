@@ -61,6 +61,8 @@ fn count_pages<S: ReadSlots>(
 
 /// What slots hold: `None` exactly where they are the layout of no tree. There have to be as many slots as the
 /// parameters say. A fault of the slots is handed on, and the slots are as they were. It takes no memory itself.
+// A megabyte of entries is on the stack while it runs, and not in the frame of whoever calls it.
+#[inline(never)]
 pub fn find_contents<S: ReadSlots>(
     slots: &mut S,
     params: &Params,
