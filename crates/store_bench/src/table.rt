@@ -12,7 +12,7 @@ use seeded_draw::{AnyDraw, Draw};
 use shift_remove::remove;
 use std::marker::Brand;
 use std::sync::ledger::{Blank, Ledger};
-use store_base::{BLOCK, DrawKind, Key, Label, Lead, ReadSlots, Slots, Value};
+use store_base::{BLOCK, DrawKind, Key, Label, Lead, MAX_SLOTS, ReadSlots, Slots, Value};
 
 /// How many calls of each kind are timed in a round.
 const CALLS: u32 = 16;
@@ -292,9 +292,10 @@ fn measure_load(rt: &HostRuntime, slots: u32, used: u32, kind: DrawKind) -> Opti
     print_kinds(rt, &make_rounds(rt, &mut table, used)?)
 }
 
-/// Measures the calls on tables of so many slots, 20 to 16,384, half full, fuller, and with one slot free.
+/// Measures the calls on tables of so many slots, 20 to those of the largest table, half full, fuller, and with one
+/// slot free.
 pub fn measure(rt: &HostRuntime, slots: u32) -> Option<()> {
-    let slots = slots.clamp(20, 16_384);
+    let slots = slots.clamp(20, MAX_SLOTS);
     for kind in [DrawKind::Ruler, DrawKind::Sha256] {
         for used in [slots / 2, slots * 4 / 5, slots * 19 / 20, slots - 1] {
             measure_load(rt, slots, used, kind)?;
