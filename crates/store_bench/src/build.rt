@@ -99,8 +99,7 @@ fn measure_draw(rt: &HostRuntime, slots: u32, kind: DrawKind, pairs: &PairList) 
     tell(rt, used, "pages are laid out under", name_of(kind))
 }
 
-/// Lays out the pairs of so many full pages, at most as many as the largest table has slots, in just as many slots,
-/// under both draws.
+/// Lays out the pairs of so many full pages, at most `MAX_SLOTS` of them, in just as many slots, under both draws.
 pub fn measure(rt: &HostRuntime, pages: u32) -> Option<()> {
     let pages = pages.clamp(1, MAX_SLOTS);
     let pairs = make_pairs(rt.alloc(), u64::from(pages) * PAGE_ROOM)?;
@@ -134,15 +133,15 @@ fn write_directories(rt: &HostRuntime, params: &Params, count: u64) -> Option<()
     write_blocks(rt, params, &layout)
 }
 
-/// Writes an image to standard output, of so many slots, 1 to those of the largest table. Each has a page.
+/// Writes an image of so many slots, 1 to `MAX_SLOTS`, to standard output. Each has a page.
 pub fn write_full(rt: &HostRuntime, slots: u32) -> Option<()> {
     let params = params_of(slots.clamp(1, MAX_SLOTS), 1, DrawKind::Ruler)?;
     write_directories(rt, &params, u64::from(params.slots()) * PAGE_ROOM)
 }
 
-/// Writes an image under `sha256` at height 4 to standard output, of so many slots, at most those of the largest table.
-/// Most have a page: there are 73 pairs to ten slots. Where these take more pages than there are slots, as they may in
-/// a small table, nothing is written, and the answer is `None`.
+/// Writes an image under `sha256` at height 4 to standard output, of so many slots, 1 to `MAX_SLOTS`. Most have a page:
+/// there are 73 pairs to ten slots. Where these take more pages than there are slots, as they may in a small table,
+/// nothing is written, and the answer is `None`.
 pub fn write_crowded(rt: &HostRuntime, slots: u32) -> Option<()> {
     let params = params_of(slots.clamp(1, MAX_SLOTS), 4, DrawKind::Sha256)?;
     write_directories(rt, &params, u64::from(params.slots()) * 73 / 10)

@@ -292,8 +292,7 @@ fn measure_load(rt: &HostRuntime, slots: u32, used: u32, kind: DrawKind) -> Opti
     print_kinds(rt, &make_rounds(rt, &mut table, used)?)
 }
 
-/// Measures the calls on tables of so many slots, 20 to those of the largest table, half full, fuller, and with one
-/// slot free.
+/// Measures the calls on tables of so many slots, 20 to `MAX_SLOTS`, half full, fuller, and with one slot free.
 pub fn measure(rt: &HostRuntime, slots: u32) -> Option<()> {
     let slots = slots.clamp(20, MAX_SLOTS);
     for kind in [DrawKind::Ruler, DrawKind::Sha256] {
