@@ -21,11 +21,11 @@ const PAGE_ROOM: u64 = 10;
 /// The most pairs that a layout may have.
 const MOST_PAIRS: u32 = 268_435_456;
 
-/// Pairs of directories in the root, in no order, that fill so many pages.
-fn make_pairs(alloc: Global, pages: u32) -> Option<PairList> {
+/// Pairs of so many directories in the root, in no order.
+fn make_pairs(alloc: Global, count: u64) -> Option<PairList> {
     let mut pairs = PairList::new(alloc);
     let mut state = 7u64;
-    for _ in 0..u64::from(pages) * PAGE_ROOM {
+    for _ in 0..count {
         state = state
             .wrapping_mul(6_364_136_223_846_793_005)
             .wrapping_add(1_442_695_040_888_963_407);
@@ -102,7 +102,7 @@ fn measure_draw(rt: &HostRuntime, slots: u32, kind: DrawKind, pairs: &PairList) 
 /// Lays out the pairs of so many full pages, at most `MAX_SLOTS` of them, in just as many slots, under both draws.
 pub fn measure(rt: &HostRuntime, pages: u32) -> Option<()> {
     let pages = pages.clamp(1, MAX_SLOTS);
-    let pairs = make_pairs(rt.alloc(), pages)?;
+    let pairs = make_pairs(rt.alloc(), u64::from(pages) * PAGE_ROOM)?;
     for kind in [DrawKind::Ruler, DrawKind::Sha256] {
         measure_draw(rt, pages, kind, &pairs)?;
     }
@@ -126,10 +126,23 @@ fn write_blocks(rt: &HostRuntime, params: &Params, layout: &Layout) -> Option<()
     Some(())
 }
 
-/// Writes the image of directories in the root that fill so many slots, 1 to `MAX_SLOTS`, to standard output.
-pub fn write_image(rt: &HostRuntime, slots: u32) -> Option<()> {
+/// Writes the image of so many directories in the root to standard output.
+fn write_directories(rt: &HostRuntime, params: &Params, count: u64) -> Option<()> {
+    let pairs = make_pairs(rt.alloc(), count)?;
+    let layout = lay_out(rt, params, &pairs)?;
+    write_blocks(rt, params, &layout)
+}
+
+/// Writes an image of so many slots, 1 to `MAX_SLOTS`, to standard output. Each has a page.
+pub fn write_full(rt: &HostRuntime, slots: u32) -> Option<()> {
     let params = params_of(slots.clamp(1, MAX_SLOTS), 1, DrawKind::Ruler)?;
-    let pairs = make_pairs(rt.alloc(), params.slots())?;
-    let layout = lay_out(rt, &params, &pairs)?;
-    write_blocks(rt, &params, &layout)
+    write_directories(rt, &params, u64::from(params.slots()) * PAGE_ROOM)
+}
+
+/// Writes an image under `sha256` at height 4 to standard output, of so many slots, 1 to `MAX_SLOTS`. Most have a page:
+/// there are 73 pairs to ten slots. Where these take more pages than there are slots, as they may in a small table,
+/// nothing is written, and the answer is `None`.
+pub fn write_crowded(rt: &HostRuntime, slots: u32) -> Option<()> {
+    let params = params_of(slots.clamp(1, MAX_SLOTS), 4, DrawKind::Sha256)?;
+    write_directories(rt, &params, u64::from(params.slots()) * 73 / 10)
 }

@@ -8,7 +8,8 @@
 //! | `table SLOTS` | the calls on an ordered table | their reads and writes of slots |
 //!
 //! What was done is printed to standard output, and the times, which differ from one time to the next, to standard
-//! error. `image SLOTS` writes an image to standard output, of which each slot has a page.
+//! error. `image SLOTS` writes an image to standard output, of which each slot has a page, and `crowded SLOTS` one with
+//! few free slots.
 //!
 //! Nothing is promised of it. A function answers `None` where memory ran out or a call failed, which ends the program
 //! with status 1.
@@ -43,8 +44,9 @@ fn params_of(slots: u32, height: u8, kind: DrawKind) -> Option<Params> {
 fn measure(rt: &HostRuntime, word: &str, number: u32) -> Option<()> {
     match word {
         "build" => build::measure(rt, number),
+        "crowded" => build::write_crowded(rt, number),
         "files" => files::measure(rt, number),
-        "image" => build::write_image(rt, number),
+        "image" => build::write_full(rt, number),
         "lists" => lists::measure(rt, number),
         "table" => table::measure(rt, number),
         _ => None,
