@@ -11,7 +11,7 @@ use Rattle.store_model.specs.Trees.Node.{Directory, File}
 use Rattle.store_model.proofs.ListsLemmas.{all_append, all_back, all_replicate, all_from_bytes, bytes_from_all}
 use Rattle.store_model.proofs.TreesLemmasBytes.{heads_same, tails_same, four_bytes_same}
 use Rattle.store_model.proofs.TreesLemmasFits.{IsTree-empty}
-use Rattle.store_model.proofs.TreesLemmasLayouts.{pairs_tell_trees}
+use Rattle.store_model.proofs.TreesLemmasLayouts.{keys_tell_paths, pairs_tell_trees}
 use Rattle.tree_pairs.specs.declared.kind.Kind.{Kind}
 use Rattle.tree_pairs.specs.declared.kind.Kind.TheVariants as kinds
 use Rattle.tree_pairs.specs.Kinds.{kind_of, kind_of_node, value_of}
