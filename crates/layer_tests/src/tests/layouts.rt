@@ -1,4 +1,4 @@
-//! Tables of directories, and a large one.
+//! Tables of directories and of a file, and a large one.
 
 use layout_scratch::ScratchFault;
 use std::alloc::Global;
@@ -35,4 +35,30 @@ fn large_table(rt: HostRuntime) {
         slots: 16384,
     };
     assert!(rt; tall(&rt, rt.alloc(), 2330) == Err(full));
+}
+
+/// The keys of the first so many pairs of a file.
+fn file_keys(rt: &impl Abort, alloc: Global, count: u16) -> Vec<Key> {
+    let mut keys = Vec::new(alloc);
+    let mut bytes = [0; 124];
+    bytes[0] = b'f';
+    for number in 0..count {
+        bytes[122..].copy_from_slice(&number.to_be_bytes());
+        keys.push(Key::new(bytes)).expect(rt, "memory");
+    }
+    keys
+}
+
+/// How many slots hold a page of the first so many pairs of a file, at one level, or why there is no layout.
+fn flat(rt: &impl Abort, alloc: Global, count: u16) -> Result<u32, ScratchFault> {
+    let params = Params::new(512, 1, DrawKind::Ruler, [0; 32]).expect(rt, "parameters");
+    match layout(alloc, &params, &file_keys(rt, alloc, count)).expect(rt, "distinct keys") {
+        Ok(layout) => Ok(layout.used()),
+        Err(fault) => Err(fault),
+    }
+}
+
+#[test]
+fn table_of_one_file(rt: HostRuntime) {
+    assert!(rt; flat(&rt, rt.alloc(), 4097) == Ok(410));
 }
