@@ -1,6 +1,6 @@
 //! The tests, a module for each kind, and `support`, which they share.
 
-mod crashes;
+mod failures;
 mod generations;
 mod help;
 mod images;

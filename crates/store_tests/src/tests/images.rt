@@ -1,14 +1,15 @@
-//! Images that no script leaves: what `check` finds of them, and what a run makes of them.
+//! Images that no script leaves: what `check` finds of them, and what a run and a scrub make of them.
 
-use super::support::{Machine, expect, fields, number, status_of};
+use super::support::{LEAST, Machine, expect, fields, number, status_of};
 use std::process::Abort;
 
 /// What a row shows; the format and the script of an image; what is written over: blocks that are copied to another
-/// place, where from and where to, both counted in blocks, and bytes at their places; what `check` prints; and a
-/// script for the tree that the image represents, or `-` where it represents none.
+/// place, where from and where to, both counted in blocks, and bytes at their places, or one byte in so many places from
+/// one on; what `check` prints; a script for the tree that the image represents, or `-` where it represents none; and
+/// `-` where a free slot is not zero, so that a scrub comes to something else. It prints the same as `check` elsewhere.
 static IMAGES: &str = "\
     nothing is written over|format 1 1 ruler zeros|make /a\n|||clean 1 1 0 0\n|make /a\n#\
-    a byte in a free slot|format 4 2 ruler zeros|make /Ua\n||36873:127|damaged\n|-#\
+    a byte in a free slot|format 4 2 ruler zeros|make /Ua\n||36873:127|damaged\n|-|-#\
     slots in each other's places|format 4 2 ruler zeros|make /Ua\nmake /UU\n|7:10 10:7||damaged\n|-#\
     one slot twice|format 4 2 ruler zeros|make /Ua\nmake /UU\n|10:9||damaged\n|-#\
     a slot that is missing|format 4 2 ruler zeros|make /Ua\nmake /UU\n|9:8||damaged\n|-#\
@@ -16,9 +17,11 @@ static IMAGES: &str = "\
         20484:85 20613:85|damaged\n|-#\
     the header's first byte|format 1 1 ruler zeros|make /a\n||0:0|not-image\n|-#\
     the header's slots|format 1 1 ruler zeros|make /a\n||11:2|not-image\n|-#\
+    more slots than an image has, 65,537|format 1 1 ruler zeros|make /a\n||9:1|not-image\n|-#\
     the header's height|format 1 1 ruler zeros|make /a\n||12:9|not-image\n|-#\
     the header's draw|format 1 1 ruler zeros|make /a\n||13:2|not-image\n|-#\
     the header's version|format 1 1 ruler zeros|make /a\n||14:9|not-image\n|-#\
+    the header's byte behind the version|format 1 1 ruler zeros|make /a\n||15:1|not-image\n|-#\
     the header's filling|format 1 1 ruler zeros|make /a\n||4095:1|not-image\n|-#\
     another height, for which a page is missing|format 4 1 ruler zeros|make /U\n||12:2|damaged\n|-#\
     a child without its parent|format 1 1 ruler zeros|make /a\n||16518:98|damaged\n|-#\
@@ -38,7 +41,10 @@ static IMAGES: &str = "\
     a value that no directory has|format 1 1 ruler zeros|make /a\n||16642:2|damaged\n|-#\
     a value of no kind|format 1 1 ruler zeros|make /a\n||16642:3|damaged\n|-#\
     a file without its block|format 1 1 ruler zeros|make /a\n||16641:5 16642:2 16646:1|damaged\n|-#\
-    a length that no file has|format 1 1 ruler zeros|make /a\n||16641:5 16642:2 16644:16 16646:1|damaged\n|-#\
+    a long file without its blocks, of 1,048,577 bytes|format 1 1 ruler zeros|make /a\n||\
+        16641:5 16642:2 16644:16 16646:1|damaged\n|-#\
+    a length that no file has, 16,777,217 bytes|format 1 1 ruler zeros|make /a\n||\
+        16641:5 16642:2 16643:1 16646:1|damaged\n|-#\
     a file that is longer than its block|format 1 1 ruler zeros|write /f 0 00\n||16646:2|damaged\n|-#\
     a file that is shorter than its block|format 1 1 ruler zeros|write /f 0 00\n||16646:0|damaged\n|-#\
     a block with another number|format 1 1 ruler zeros|write /f 0 00\n||17021:2|damaged\n|-#\
@@ -46,8 +52,13 @@ static IMAGES: &str = "\
     a journal behind its flag|format 1 1 ruler zeros|make /a\n|4:3 1:4|4096:127 8192:1|clean 1 1 0 0\n|make /a\n#\
     a journal without its flag|format 1 1 ruler zeros|make /a\n|4:3 1:4|8192:1|clean 0 0 0 0\n|#\
     a block that was marked and is zero|format 1 1 ruler zeros|make /a\n||4096:1 8192:1|clean 0 0 0 0\n|#\
+    a mark that no slot has|format 1 1 ruler zeros|make /a\n||8193:127|clean 1 1 0 0\n|make /a\n#\
+    a marked block of no page, without the flag|format 1 1 ruler zeros|make /a\n||8192:1 12288+4096:255|\
+        clean 1 1 0 0\n|make /a\n#\
+    a marked block of no page, behind its flag|format 1 1 ruler zeros|make /a\n||\
+        4096:1 8192:1 12288+4096:255|damaged\n|-#\
     what a journal left|format 1 1 ruler zeros|make /a\n||4100:5 8193:1 12288:7|clean 1 1 0 0\n|make /a\n#\
-    a journal of bytes that no page has|format 1 1 ruler zeros|make /a\n||4096:1 8192:1 12290:7|damaged\n|-";
+    a journal of bytes that no page has|format 1 1 ruler zeros|make /a\n||4096:1 8192:1 12290:7|damaged\n|-|-";
 
 /// The two numbers of a word.
 fn pair(rt: &impl Abort, word: &str) -> (usize, usize) {
@@ -72,12 +83,25 @@ fn copy_blocks(rt: &impl Abort, machine: &mut Machine, good: &[u8], places: &str
     }
 }
 
+/// Puts one byte in so many places from the first of these on.
+fn fill(machine: &mut Machine, first: usize, count: usize, byte: u8) {
+    for at in 0..count {
+        machine.put(first.wrapping_add(at), byte);
+    }
+}
+
 /// Puts bytes in their places.
 fn put_bytes(rt: &impl Abort, machine: &mut Machine, bytes: &str) {
     for word in bytes.split_whitespace() {
-        let (at, byte) = pair(rt, word);
-        assert!(rt; byte < 256);
-        machine.put(at, byte as u8);
+        let (places, byte) = word.split_once(':').expect(rt, "a byte");
+        let (first, count) = places.split_once('+').unwrap_or((places, "1"));
+        let byte = byte.parse::<u8>().expect(rt, "a byte");
+        fill(
+            machine,
+            number(rt, first) as usize,
+            number(rt, count) as usize,
+            byte,
+        );
     }
 }
 
@@ -89,46 +113,142 @@ pub fn spoil(rt: &impl Abort, machine: &mut Machine, row: [&str; 9]) {
     put_bytes(rt, machine, row[4]);
 }
 
-/// Looks whether `check` finds what the row says, and leaves the image as it is.
-fn expect_check(rt: &impl Abort, machine: &mut Machine, row: [&str; 9], image: &[u8]) {
-    machine.call(rt, "check", "make /b\n");
-    let is_ended = machine.is_ended(status_of(row[5]), 1, row[5]);
-    let is_kept = (machine.ended.calls[0] == 0) & (machine.image() == image);
-    expect(rt, is_ended & is_kept, "check", row[0]);
+/// A call on the image of a row: its word, its script, the lines that are done, what it prints, and the image that it
+/// leaves.
+#[derive(Clone, Copy)]
+struct Call<'a> {
+    word: &'a str,
+    script: &'a str,
+    done: u64,
+    written: &'a str,
+    left: &'a [u8],
 }
 
-/// Looks whether a run leaves the layout of the row's tree.
-fn expect_layout(rt: &impl Abort, machine: &mut Machine, row: [&str; 9], other: &mut Machine) {
-    machine.call(rt, "run", "list /q\n");
-    expect(rt, machine.is_ended(0, 1, "no missing\n"), "run", row[0]);
-    other.make(rt, row[1], row[6]);
-    expect(rt, machine.image() == other.image(), "image", row[0]);
+/// Looks whether the call on this image, of which the row says what it is, comes to what it is to come to. Where it
+/// leaves the image as it is, it writes nothing.
+fn expect_call(
+    rt: &impl Abort,
+    machine: &mut Machine,
+    row: [&str; 9],
+    image: &[u8],
+    call: &Call<'_>,
+) {
+    machine.load(rt, image);
+    machine.call(rt, call.word, call.script);
+    let is_ended = machine.is_ended(status_of(row[5]), call.done, call.written);
+    let is_left = machine.image() == call.left;
+    let is_quiet = (call.left != image) | (machine.ended.calls[0] == 0);
+    expect(rt, is_ended & is_left & is_quiet, call.word, row[0]);
 }
 
-/// Looks whether a run does nothing at all.
-fn expect_nothing(rt: &impl Abort, machine: &mut Machine, row: [&str; 9], image: &[u8]) {
-    machine.call(rt, "run", "list /q\n");
-    let is_ended = machine.is_ended(status_of(row[5]), 0, "");
-    let is_kept = (machine.ended.calls[0] == 0) & (machine.image() == image);
-    expect(rt, is_ended & is_kept, "run", row[0]);
+/// Looks whether a check, runs and a scrub of this image, of which the row says what it is, come to what they are to
+/// come to. What represents a tree becomes its layout, and what represents none stays as it is.
+fn expect_calls(rt: &impl Abort, machine: &mut Machine, row: [&str; 9], image: &[u8], left: &[u8]) {
+    let line = row[5];
+    let (done, missing) = if row[6] == "-" {
+        (0, "")
+    } else {
+        (1, "no missing\n")
+    };
+    let check = Call {
+        word: "check",
+        script: "make /b\n",
+        done: 1,
+        written: line,
+        left: image,
+    };
+    let run = Call {
+        word: "run",
+        script: "",
+        done: 0,
+        written: "",
+        left,
+    };
+    expect_call(rt, machine, row, image, &check);
+    expect_call(rt, machine, row, image, &run);
+    expect_call(
+        rt,
+        machine,
+        row,
+        image,
+        &Call {
+            script: "list /q\n",
+            done,
+            written: missing,
+            ..run
+        },
+    );
+    if row[7] != "-" {
+        expect_call(
+            rt,
+            machine,
+            row,
+            image,
+            &Call {
+                word: "scrub",
+                left,
+                ..check
+            },
+        );
+    }
 }
 
-/// Looks whether a check and a run of the image of the row come to what it says.
-fn expect_row(rt: &impl Abort, machine: &mut Machine, other: &mut Machine, row: [&str; 9]) {
+/// Looks whether the image of the row is what it says.
+fn expect_row(rt: &impl Abort, machine: &mut Machine, row: [&str; 9]) {
     spoil(rt, machine, row);
     let image = machine.copy(rt);
-    expect_check(rt, machine, row, &image);
-    if row[6] == "-" {
-        expect_nothing(rt, machine, row, &image);
-    } else {
-        expect_layout(rt, machine, row, other);
+    if row[6] != "-" {
+        machine.make(rt, row[1], row[6]);
     }
+    let left = machine.copy(rt);
+    expect_calls(rt, machine, row, &image, &left);
 }
 
 #[test]
 fn images_are_found_clean_or_not(rt: HostRuntime) {
-    let (mut machine, mut other) = (Machine::new(rt.alloc()), Machine::new(rt.alloc()));
+    let mut machine = Machine::new(rt.alloc());
     for row in IMAGES.split('#') {
-        expect_row(&rt, &mut machine, &mut other, fields(row));
+        expect_row(&rt, &mut machine, fields(row));
+    }
+}
+
+/// Lengths that no number of slots has: no byte, a byte less than one slot asks for, a byte more, and a block more.
+static LENGTHS: [usize; 4] = [0, 20_479, 20_481, 24_576];
+
+/// Calls on a disk of such a length that begins as an image of one slot does: the words, the status, what is done and
+/// what is printed.
+static REFUSED: &str = "\
+    check|7|1|not-image\n#\
+    scrub|7|1|not-image\n#\
+    run|7|0|#\
+    big 0 1|7|0|#\
+    format 1 1 ruler zeros|11|0|#\
+    format 65537 1 ruler zeros|2|0|";
+
+/// Looks whether the call of the row is refused on this image as the row says, and writes nothing.
+fn expect_refused(rt: &impl Abort, machine: &mut Machine, image: &[u8], row: [&str; 9]) {
+    machine.load(rt, image);
+    machine.call(rt, row[0], "make /b\n");
+    let status = row[1].parse::<u8>().expect(rt, "a status");
+    let is_ended = machine.is_ended(status, number(rt, row[2]), row[3]);
+    let is_kept = (machine.ended.calls[0] == 0) & (machine.image() == image);
+    expect(rt, is_ended & is_kept, "refusal", row[0]);
+}
+
+/// Looks at that for each call on the image of a directory, cut to this length or with zeros behind it.
+fn expect_all_refused(rt: &impl Abort, machine: &mut Machine, len: usize) {
+    machine.make(rt, LEAST, "make /a\n");
+    machine.resize(rt, len);
+    let image = machine.copy(rt);
+    for row in REFUSED.split('#') {
+        expect_refused(rt, machine, &image, fields(row));
+    }
+}
+
+#[test]
+fn no_call_writes_to_a_disk_of_no_number_of_slots(rt: HostRuntime) {
+    let mut machine = Machine::new(rt.alloc());
+    for len in &LENGTHS {
+        expect_all_refused(&rt, &mut machine, *len);
     }
 }

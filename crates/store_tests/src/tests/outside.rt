@@ -32,16 +32,18 @@ const NOTHING: Failing = Failing {
     tree: "make /a\n",
 };
 
-/// Each kind of call at its first and at a later one.
+/// Each take and each put in turn, one behind the last of each, which no call makes; and calls of the disk.
 #[rattlefmt::skip]
-static FAILURES: [Failing; 16] = [
+static FAILURES: [Failing; 18] = [
     NOTHING,
     Failing { outside: Outside { take: 0, ..CALM }, status: 3, done: 0, written: "", tree: "", ..NOTHING },
     // The first line and the beginning of the second one have come.
     Failing { outside: Outside { piece: 10, take: 1, ..CALM }, status: 3, done: 1, written: "ok\n", ..NOTHING },
     Failing { outside: Outside { piece: 10, take: 2, ..CALM }, status: 3, ..NOTHING },
+    Failing { outside: Outside { piece: 10, take: 3, ..CALM }, ..NOTHING },
     Failing { outside: Outside { put: 0, ..CALM }, status: 4, done: 1, written: "", ..NOTHING },
     Failing { outside: Outside { put: 1, ..CALM }, status: 4, written: "ok\n", ..NOTHING },
+    Failing { outside: Outside { put: 2, ..CALM }, ..NOTHING },
     Failing { outside: Outside { sink_room: 5, ..CALM }, status: 4, written: "ok\n", ..NOTHING },
     Failing { outside: Outside { from: 0, ..CALM }, status: 5, done: 0, written: "", tree: "", ..NOTHING },
     // The second sync of opening the image, the first write, and the write behind the commit flag.

@@ -1,10 +1,8 @@
-//! Scrubs and wipes: what they print, write and leave, and what the next one makes of what a crash left of them.
+//! Scrubs: what they print, write and leave, and what the next one makes of what a failure left of them.
 
-use super::crashes::{Next, expect_next_at_each_call};
+use super::failures::expect_failures;
 use super::images::spoil;
-use super::support::{
-    CALM, CHOICES, LEAST, Machine, Outside, crashing, expect, fields, numbers, status_of,
-};
+use super::support::{CALM, Machine, Outside, expect, fields, numbers, status_of};
 use disk_model::StopChoice;
 use std::process::Abort;
 
@@ -34,7 +32,7 @@ static SCRUBBINGS: &str = "\
 
 /// A crash behind the call.
 const THEN_CRASHED: Outside = Outside {
-    crash: Some(StopChoice::Fill(0xA5)),
+    crash: Some(StopChoice::Fill(0x7F)),
     ..CALM
 };
 
@@ -80,54 +78,12 @@ fn images_are_scrubbed(rt: HostRuntime) {
     }
 }
 
-/// Looks whether a crash at each call of a scrub of the image of the row leaves what the next scrub ends.
-fn expect_next_scrub(rt: &impl Abort, machine: &mut Machine, row: [&str; 9]) {
-    let (image, left) = before_and_after(rt, machine, row);
-    let next = Next {
-        word: "scrub",
-        status: status_of(row[6]),
-        image: &left,
-    };
-    for choice in &CHOICES {
-        expect_next_at_each_call(rt, machine, &image, *choice, &next);
-    }
-}
-
 #[test]
-fn a_crash_leaves_what_the_next_scrub_ends(rt: HostRuntime) {
+fn the_next_scrub_ends_what_a_failure_left(rt: HostRuntime) {
     let mut machine = Machine::new(rt.alloc());
     for row in SCRUBBINGS.split('#') {
-        expect_next_scrub(&rt, &mut machine, fields(row));
-    }
-}
-
-/// Looks whether a wipe of this image, of one slot, that a crash cuts short leaves all bytes of it but the first, or a
-/// first one that is zero.
-fn expect_whole_or_none(rt: &impl Abort, machine: &mut Machine, image: &[u8], choice: StopChoice) {
-    // A byte and a sync, five blocks and a sync: from call 8 on none is left to fail.
-    for from in 0..9 {
-        machine.load(rt, image);
-        machine.call_in(rt, "wipe", b"", &crashing(from, choice));
-        let left = machine.image();
-        let is_kept = !image.is_empty() && left.ends_with(&image[1..]);
-        expect(rt, is_kept || left.starts_with(&[0]), "a crash", "a wipe");
-    }
-}
-
-#[test]
-fn a_crash_in_a_wipe_leaves_no_torn_image(rt: HostRuntime) {
-    let mut machine = Machine::new(rt.alloc());
-    machine.make(&rt, LEAST, "make /a\n");
-    let image = machine.copy(&rt);
-    machine.clear(&rt, image.len());
-    let zeros = machine.copy(&rt);
-    let next = Next {
-        word: "wipe",
-        status: 0,
-        image: &zeros,
-    };
-    for choice in &CHOICES {
-        expect_whole_or_none(&rt, &mut machine, &image, *choice);
-        expect_next_at_each_call(&rt, &mut machine, &image, *choice, &next);
+        let [what, format, script, blocks, bytes, _, line, _, tree] = fields(row);
+        let row = [what, format, script, blocks, bytes, "scrub", "", line, tree];
+        expect_failures(&rt, &mut machine, row, false);
     }
 }

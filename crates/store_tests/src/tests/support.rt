@@ -33,8 +33,9 @@ pub const NEVER: u64 = u64::MAX;
 pub struct Outside {
     /// The room of the disk's record: a write takes 16 bytes and those that it writes, a sync 16.
     pub disk_room: u64,
-    /// The first call of the disk that fails with all behind it.
+    /// The first call of the disk that fails with all behind it, and the one that fails by itself.
     pub from: u64,
+    pub alone: u64,
     /// How many bytes the first take gives, and the take that fails.
     pub piece: u64,
     pub take: u64,
@@ -49,6 +50,7 @@ pub struct Outside {
 pub const CALM: Outside = Outside {
     disk_room: 4_194_304,
     from: NEVER,
+    alone: NEVER,
     piece: NEVER,
     take: NEVER,
     sink_room: 65_536,
@@ -59,12 +61,17 @@ pub const CALM: Outside = Outside {
 /// The room of the record of a disk that is to fail, in bytes.
 const FAILING_ROOM: u64 = 65_536;
 
-/// A disk that fails from call `from` on, and then a crash.
-pub fn crashing(from: u64, choice: StopChoice) -> Outside {
+/// A disk whose call fails: with all behind it, and a crash comes then; or by itself, where no crash comes.
+pub fn failing(call: u64, crash: Option<StopChoice>) -> Outside {
+    let (from, alone) = match crash {
+        Some(_) => (call, NEVER),
+        None => (NEVER, call),
+    };
     Outside {
         disk_room: FAILING_ROOM,
         from,
-        crash: Some(choice),
+        alone,
+        crash,
         ..CALM
     }
 }
@@ -78,7 +85,7 @@ fn roomy(more: u64) -> Outside {
 }
 
 /// What a crash may make of bytes that are not durable.
-pub static CHOICES: [StopChoice; 3] = [StopChoice::Old, StopChoice::New, StopChoice::Fill(0xA5)];
+pub static CHOICES: [StopChoice; 3] = [StopChoice::Old, StopChoice::New, StopChoice::Fill(0x7F)];
 
 /// How the last call ended: its status, the lines carried out, the writes and syncs that were made of the disk, and the
 /// bytes that were read.
@@ -163,7 +170,7 @@ fn disk_of(
 ) -> FailingDisk<MemDisk> {
     let disk = MemDisk::new(alloc, bytes, outside.disk_room as usize).expect(rt, "memory");
     let from = (outside.from != NEVER).then_some(outside.from);
-    FailingDisk::new(disk, Vec::new(alloc), from)
+    FailingDisk::new(disk, listed(rt, alloc, outside.alone), from)
 }
 
 impl Machine {
@@ -205,6 +212,11 @@ impl Machine {
     /// Has so many zeros as its image.
     pub fn clear(&mut self, rt: &impl Abort, len: usize) {
         self.image = vec![in self.alloc; 0; len].expect(rt, "memory");
+    }
+
+    /// Has the same bytes as its image, cut to this length or with zeros behind them.
+    pub fn resize(&mut self, rt: &impl Abort, len: usize) {
+        self.image.resize(len, 0).expect(rt, "memory");
     }
 
     /// Puts a byte in its place, where there is one.
