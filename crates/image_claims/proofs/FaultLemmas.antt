@@ -1,8 +1,11 @@
 -- Which failed call a status tells, and when a call is done.
-use Rattle.std.proofs.Common.{◌≡◌, ◌⊎◌, ℕ, refl, inl, inr, ⊎_elim}
+use Rattle.std.proofs.Common.{◌≡◌, ◌⊎◌, ℕ, [], ◌∷◌, refl, inl, inr, ⊎_elim}
 use Rattle.store_model.specs.Parameters.{Parameters}
 use Rattle.store_model.specs.Words.Request.{Format, Run, Check, Scrub, Wipe, Big}
-use Rattle.disk_model.specs.DiskState.{DiskState}
+use Rattle.store_model.specs.Trees.{Tree}
+use Rattle.store_model.specs.Images.{Represents}
+use Rattle.disk_model.specs.DiskState.{DiskState, IsObservable}
+use Rattle.image_check.specs.Verdicts.{IsNoImage, IsDamaged}
 use Rattle.script_lines.specs.SourceState.{SourceState}
 use Rattle.script_lines.specs.SinkState.{SinkState}
 use Rattle.image_subcommands.specs.declared.outcome.Outcome.{Outcome}
@@ -16,6 +19,7 @@ use Rattle.image_subcommands.specs.Statuses.{disk_faults_by, source_faults_by, s
 use Rattle.image_subcommands.specs.WipeCall.{IsWipe}
 use Rattle.store_top.specs.BigCall.{IsBig}
 use Rattle.store_top.specs.RunCall.{IsRun}
+use Rattle.image_claims.specs.Endings.{IsOneOf}
 use Rattle.image_claims.specs.Faults.{CountsFault, FailsByStatus, IsDoneOrLacks, DoesWhatCanBeDone, RefusesLength, RefusesImage}
 use Rattle.image_claims.proofs.EndingLemmas.{is_past_header, is_refused_image, is_refused_and_summed}
 
@@ -121,6 +125,13 @@ module _ {D R W : Type 0} (disk_of : D → DiskState) (source_of : R → SourceS
 
 -- ---- what is refused
 
+-- bytes that are none or damaged represent no tree
+no_tree_there : (status : Status) (disk : DiskState) → IsObservable disk → IsOneOf status (NotImage ∷ Damaged ∷ []) → (status ≡ NotImage → IsNoImage disk) → (status ≡ Damaged → IsDamaged disk)
+    → (t : Tree) (p : Parameters) → Represents disk.bytes t p → ⊥
+no_tree_there status disk told (inl e) none broken t p is = none e told p (record { names = is.names; length_is = is.length_is })
+no_tree_there status disk told (inr (inl e)) none broken t p is = (broken e).no_tree told t p is
+no_tree_there status disk told (inr (inr never)) none broken t p is = absurd never
+
 module _ {D R W : Type 0} (disk_of : D → DiskState) (before : Outside D R W) (after : Outcome D R W) where
   pub format_lengths : (p : Parameters) → IsFormat disk_of p before after → RefusesLength p after.status (disk_of before.disk)
   format_lengths p is = record {
@@ -128,18 +139,24 @@ module _ {D R W : Type 0} (disk_of : D → DiskState) (before : Outside D R W) (
     already_image = is.right_length;
   }
 
-  pub run_refuses : (source_of : R → SourceState) (sink_of : W → SinkState) → IsRun disk_of source_of sink_of before after → RefusesImage after.status after.done (disk_of before.disk) before.source after.source before.sink after.sink
+  pub run_refuses : (source_of : R → SourceState) (sink_of : W → SinkState) → IsRun disk_of source_of sink_of before after → RefusesImage after.status after.done (disk_of before.disk) (disk_of after.disk) before.source after.source before.sink after.sink
   run_refuses source_of sink_of is = record {
     done_is = λ so. (is.refused (is_refused_image after.status so)).done;
     source_is = λ so. (is.refused (is_refused_image after.status so)).source;
     sink_is = λ so. (is.refused (is_refused_image after.status so)).sink;
+    unwritten = λ so told.
+        let runs = is.observed told in
+        (runs.nothing (no_tree_there after.status (disk_of before.disk) told so runs.not_image.only runs.damaged.only)).synced;
     length_is = λ so. let named = is.named (is_past_header after.status so) in (named.0, named.1.in_range, named.1.size_is);
   }
 
-  pub big_refuses : (sink_of : W → SinkState) (number count : ℕ) → IsBig disk_of sink_of number count before after → RefusesImage after.status after.done (disk_of before.disk) before.source after.source before.sink after.sink
+  pub big_refuses : (sink_of : W → SinkState) (number count : ℕ) → IsBig disk_of sink_of number count before after → RefusesImage after.status after.done (disk_of before.disk) (disk_of after.disk) before.source after.source before.sink after.sink
   big_refuses sink_of number count is = record {
     done_is = λ so. is.refused (is_refused_image after.status so);
     source_is = λ so. is.source;
     sink_is = λ so. is.silent (is_refused_and_summed after.status so);
+    unwritten = λ so told.
+        let generates = is.observed told in
+        (generates.nothing (no_tree_there after.status (disk_of before.disk) told so generates.not_image.only generates.damaged.only)).left.synced;
     length_is = λ so. let named = is.named (is_past_header after.status so) in (named.0, named.1.in_range, named.1.size_is);
   }

@@ -7,5 +7,4 @@ pub mod Imaging
 pub mod MachineLemmas
 pub mod MadeTrees
 pub mod RequestLemmas
-pub mod RequestedParameters
 pub mod WordLemmas

@@ -41,7 +41,7 @@ module _ {D R W : Type 0} (disk_of : D → DiskState) (source_of : R → SourceS
   does_what_can_be_done Wipe is = wipe_done disk_of source_of sink_of before after (serves.wipe is)
   does_what_can_be_done (Big number count) is = big_done disk_of source_of sink_of before after number count (serves.big number count is)
 
-  pub refuses_image : (request : Request) → request_of words ≡ Some request → TakesCommands request → RefusesImage after.status after.done (disk_of before.disk) before.source after.source before.sink after.sink
+  pub refuses_image : (request : Request) → request_of words ≡ Some request → TakesCommands request → RefusesImage after.status after.done (disk_of before.disk) (disk_of after.disk) before.source after.source before.sink after.sink
   refuses_image (Format p) is takes = absurd takes
   refuses_image Run is takes = run_refuses disk_of before after source_of sink_of (serves.run is)
   refuses_image Check is takes = absurd takes

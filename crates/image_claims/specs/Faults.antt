@@ -9,6 +9,7 @@ use Rattle.store_model.specs.Words.Request.{Format, Run, Check, Scrub, Wipe, Big
 use Rattle.store_base.specs.Counts.{raised, Rose}
 use Rattle.disk_model.specs.DiskState.{DiskState}
 use Rattle.disk_model.specs.DiskState as disks
+use Rattle.gate_journal.specs.Disks.{IsOnlySynced}
 use Rattle.scrub_free.specs.ScrubCalls.{ScrubsTo}
 use Rattle.script_lines.specs.SourceState.{SourceState}
 use Rattle.script_lines.specs.SourceState as sources
@@ -86,9 +87,10 @@ TakesCommands Wipe = ⊥
 TakesCommands (Big number count) = Unit {0}
 
 -- What `run` and `big` do with a disk that is no image, or a damaged one: no command is carried out, nothing taken and nothing
--- printed. They come past its header only where it has the length of an image.
-pub record RefusesImage {R W : Type 0} (status : Status) (done : ℕ) (disk : DiskState) (source source_new : R) (sink sink_new : W) : Type 0 where
+-- printed, and of a disk that tells its bytes nothing is written. They come past its header only where it has the length of an image.
+pub record RefusesImage {R W : Type 0} (status : Status) (done : ℕ) (disk disk_new : DiskState) (source source_new : R) (sink sink_new : W) : Type 0 where
   pub done_is : IsOneOf status (NotImage ∷ Damaged ∷ []) → done ≡ 0
   pub source_is : IsOneOf status (NotImage ∷ Damaged ∷ []) → source_new ≡ source
   pub sink_is : IsOneOf status (NotImage ∷ Damaged ∷ []) → sink_new ≡ sink
+  pub unwritten : IsOneOf status (NotImage ∷ Damaged ∷ []) → disks.IsObservable disk → IsOnlySynced disk disk_new
   pub length_is : IsOneOf status (Done ∷ SourceFault ∷ SinkFault ∷ TooLong ∷ Damaged ∷ []) → (p : Parameters) × IsParameters p × (disk.size ≡ image_len p.slots)

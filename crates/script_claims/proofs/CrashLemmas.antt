@@ -1,8 +1,6 @@
 -- A crash loses nothing of what was acknowledged: from what a run promises, and from the run behind it.
 use Rattle.std.proofs.Common.{◌≡◌, ◌⊎◌, inl, inr, ℕ, ◌+◌, ◌-◌, ◌≤◌, List, [], ◌++◌, length, take, drop, refl, sym, ap, ◌∙◌, subst, ⊎_elim, arith}
 use Rattle.std.proofs.lemmas.List.{append-nil, take_all}
-use Rattle.std.proofs.Math.Seq.{take-length}
-use Rattle.std.proofs.lemmas.Bool.{cases_lt}
 use Rattle.store_model.specs.Parameters.{Parameters}
 use Rattle.store_model.specs.Trees.{Tree}
 use Rattle.store_model.specs.Images.{layout, Represents}
@@ -17,18 +15,17 @@ use Rattle.image_subcommands.specs.declared.status.Status.TheVariants as statuse
 use Rattle.image_subcommands.specs.Outside.{outside_of}
 use Rattle.store_top.specs.Promises.{PromisesReplies}
 use Rattle.store_top.specs.RunCall.{IsRun}
-use Rattle.store_top.proofs.RunLemmas.{length-replies}
 use Rattle.script_claims.specs.declared.crash.Crash.{Crash}
 use Rattle.script_claims.specs.Acknowledged.{EndsWhole, EndsEarly}
 use Rattle.script_claims.specs.Answered.{AnswersScript}
 use Rattle.script_claims.specs.Crashes.{WroteReplies, LosesNothing}
-use Rattle.script_claims.specs.Machines.{Disk, Ended, HasImage, MayLeave, MightHaveLeft, bytes_of, meaning}
+use Rattle.script_claims.specs.Machines.{Disk, Ended, HasImage, MayLeave, MightHaveLeft, RepresentsSomeTree, bytes_of, meaning}
 use Rattle.script_claims.proofs.RunWays.{between, cut_short, way, layout_after, read_is}
 
 -- ---- what was written
 
 -- just so many replies
-wrote_whole : (count : ℕ) (replies : List Reply) (before after : List ℕ) → after ≡ before ++ replies_text (take count replies) → WroteReplies count replies before after
+abbrev wrote_whole : (count : ℕ) (replies : List Reply) (before after : List ℕ) → after ≡ before ++ replies_text (take count replies) → WroteReplies count replies before after
 wrote_whole count replies before after is = record {
   part = [];
   rest = replies_text (take 1 (drop count replies));
@@ -73,6 +70,7 @@ module _ (t : Tree) (p : Parameters) (failing : Disk) (source : SourceMemory) (s
     pub count : ℕ
     pub replied : WroteReplies count (replies t (lines source.left) p) sink.written run.sink.written
     pub image : Represents left (trees count) p ⊎ Represents left (trees (count + 1)) p
+    pub in_part : (replied.part ≡ []) ⊎ Represents left (trees (count + 1)) p
 
   written_so : EndsEarly run.status → run.sink.written ≡ sink.written ++ replies_text (take run.done (replies t (lines source.left) p))
   written_so early =
@@ -111,6 +109,7 @@ module _ (t : Tree) (p : Parameters) (failing : Disk) (source : SourceMemory) (s
     count = run.done;
     replied = wrote_whole run.done (replies t (lines source.left) p) sink.written run.sink.written (written_so early);
     image = early_left early left leaves;
+    in_part = inl refl;
   }
 
   left_whole : EndsWhole run.status → (left : List ℕ) → MayLeave run.disk left → LeftBehind left
@@ -123,6 +122,7 @@ module _ (t : Tree) (p : Parameters) (failing : Disk) (source : SourceMemory) (s
         replied = wrote_whole run.done all sink.written run.sink.written
             (wrote.written_is ∙ ap (λ (text : List ℕ). sink.written ++ text) (wrote.promised.all e ∙ ap replies_text (sym (take_all run.done all (omega (arith, (told.counted.all e).1))))));
         image = inl (whole_left (inl e) left leaves);
+        in_part = inl refl;
       }
   left_whole (inr (inl e)) left leaves = left_early (inl e) left leaves
   left_whole (inr (inr (inl e))) left leaves =
@@ -130,10 +130,12 @@ module _ (t : Tree) (p : Parameters) (failing : Disk) (source : SourceMemory) (s
       let wrote = told.written refl in
       let some : 1 ≤ run.done = told.counted.some_line e in
       let next : run.done - 1 + 1 ≡ run.done = omega arith in
+      let is = subst (λ (k : ℕ). Represents left (trees k) p) (sym next) (whole_left (inr (inr (inl e))) left leaves) in
       record {
         count = run.done - 1;
         replied = wrote_in_part run.status run.done (replies t (lines source.left) p) sink.written run.sink.written wrote.written wrote.written_is wrote.promised e;
-        image = inr (subst (λ (k : ℕ). Represents left (trees k) p) (sym next) (whole_left (inr (inr (inl e))) left leaves));
+        image = inr is;
+        in_part = inr is;
       }
   left_whole (inr (inr (inr e))) left leaves = left_early (inr (inr (inl e))) left leaves
 
@@ -143,33 +145,18 @@ module _ (t : Tree) (p : Parameters) (failing : Disk) (source : SourceMemory) (s
   -- ---- a crash at some moment
 
   -- the image that was left is of the tree after some lines
-  pub record LeftOnTheWay (left : List ℕ) : Type 0 where
-    pub count : ℕ
-    pub in_limit : count ≤ length (lines source.left)
-    pub image : Represents left (trees count) p
-
-  -- of some lines, at most all of them
-  within : (limit k : ℕ) (left : List ℕ) → k ≤ limit → limit ≤ length (lines source.left) + 1 → Represents left (trees k) p → LeftOnTheWay left
-  within limit k left few most is =
-      elim (cases_lt (length (lines source.left)) k) [
-        | inl past ↦
-            let same : take k (lines source.left) ≡ take (length (lines source.left)) (lines source.left) = take_all k (lines source.left) (omega arith) ∙ sym (take-length (lines source.left)) in
-            record { count = length (lines source.left); in_limit = omega arith; image = subst (λ (ls : List (List ℕ)). Represents left (tree_after t ls p) p) same is }
-        | inr not_past ↦ record { count = k; in_limit = not_past; image = is }
-      ]
-
-  few_lines : run.done ≤ length (lines source.left)
-  few_lines = omega (arith, ((is_run.observed refl).runs refl t p represents).replies.counted.counted, length-replies t (lines source.left) p)
+  abbrev LeftOnTheWay : List ℕ → Type 0
+  LeftOnTheWay left = RepresentsSomeTree (run.done + 1) trees p left
 
   on_the_way_whole : (run.status ≡ statuses.DiskFault → ⊥) → (left : List ℕ) → MightHaveLeft (meaning failing).clock run.disk left → LeftOnTheWay left
   on_the_way_whole other left leaves =
       let one = (((is_run.observed refl).crashes refl t p only).during other).each left leaves in
-      within run.done one.0 left one.1 (omega (arith, few_lines)) one.2
+      record { count = one.0; in_limit = omega (arith, one.1); represents = one.2 }
 
   on_the_way_fault : run.status ≡ statuses.DiskFault → (left : List ℕ) → MightHaveLeft (meaning failing).clock run.disk left → LeftOnTheWay left
   on_the_way_fault e left leaves =
       let one = (((is_run.observed refl).crashes refl t p only).during_fault e).each left leaves in
-      within (run.done + 1) one.0 left one.1 (omega (arith, few_lines)) one.2
+      record { count = one.0; in_limit = one.1; represents = one.2 }
 
   pub on_the_way : (left : List ℕ) → MightHaveLeft (meaning failing).clock run.disk left → LeftOnTheWay left
   on_the_way left leaves = by_way (way t p failing source sink run is_run represents)
@@ -203,15 +190,17 @@ loses_nothing t p failing next_disk source next_source sink next_sink left crash
             count = behind.count;
             replied = behind.replied;
             image = ⊎_elim (λ is. inl (next_image _ is e)) (λ is. inr (next_image _ is e)) behind.image;
+            in_part = ⊎_elim (λ none. inl none) (λ is. inr (next_image _ is e)) behind.in_part;
           };
       recovers = λ leaves never.
           let behind = on_the_way t p failing source sink crash.run is_run only left leaves in
-          (answers _ behind.image).complete (omega (arith, ap length none)) (record {
+          (answers _ behind.represents).complete (omega (arith, ap length none)) (record {
             disk_spared = λ rose. let after = never.disk_faults in absurd (omega (arith, disk_faults, rose));
             source_spared = λ rose. let after = never.source_faults in absurd (omega (arith, source_faults, rose));
             sink_spared = λ rose. let after = never.sink_faults in absurd (omega (arith, sink_faults, rose));
           });
+      represents = λ leaves. on_the_way t p failing source sink crash.run is_run only left leaves;
       any_moment = λ leaves e.
           let behind = on_the_way t p failing source sink crash.run is_run only left leaves in
-          record { count = behind.count; in_limit = behind.in_limit; image = next_image _ behind.image e };
+          record { count = behind.count; in_limit = behind.in_limit; image = next_image _ behind.represents e };
     }

@@ -7,5 +7,7 @@ pub mod MakingLemmas
 pub mod NothingLemmas
 pub mod RefusalLemmas
 pub mod RemovalLemmas
+pub mod RequestedParameters
 pub mod RunCostLemmas
 pub mod RunWays
+pub mod StoppingLemmas

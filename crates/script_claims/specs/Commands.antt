@@ -9,7 +9,7 @@ use Rattle.image_subcommands.specs.declared.status.Status.{Status}
 use Rattle.image_subcommands.specs.declared.status.Status.TheVariants as statuses
 use Rattle.store_top.specs.Generations.{first_commands, step_under}
 use Rattle.script_claims.specs.BigRuns.{summary_of}
-use Rattle.script_claims.specs.Machines.{Disk, Ended, HasImage, MightHaveLeft, NothingFailed, bytes_of, meaning}
+use Rattle.script_claims.specs.Machines.{Disk, Ended, HasImage, MightHaveLeft, NothingFailed, RepresentsSomeTree, bytes_of, meaning}
 use Rattle.script_claims.specs.Refusals.{IsAtRest, IsUntouched}
 
 -- the tree after so many of the commands of a number
@@ -31,12 +31,6 @@ pub record WroteFront (text before after : List ℕ) : Type 0 where
   pub text_is : text ≡ part ++ rest
   pub written_is : after ≡ before ++ part
 
--- the image is of the tree after some of the commands, at most so many
-pub record RepresentsSomeCommands (limit : ℕ) (trees : ℕ → Tree) (p : Parameters) (image : List ℕ) : Type 0 where
-  pub count : ℕ
-  pub in_limit : count ≤ limit
-  pub represents : Represents image (trees count) p
-
 -- `big` over an image of the tree t, of which `done` commands were carried out.
 pub record KeepsCommands (number count : ℕ) (t : Tree) (p : Parameters) (disk : Disk) (source : SourceMemory) (sink : SinkMemory) (after : Ended) : Type 0 where
   -- it ends in no other way
@@ -50,7 +44,7 @@ pub record KeepsCommands (number count : ℕ) (t : Tree) (p : Parameters) (disk 
   pub disk_fault : after.status ≡ statuses.DiskFault → Represents (bytes_of after.disk) (commanded_tree t number count p after.done) p ⊎ Represents (bytes_of after.disk) (commanded_tree t number count p (after.done + 1)) p
   pub no_memory : after.status ≡ statuses.NoMemory → HasImage after.disk (commanded_tree t number count p after.done) p ⊎ ((after.done ≡ 0) × Represents (bytes_of after.disk) t p)
   -- what a crash at some moment may leave, and at the return
-  pub any_moment : (image : List ℕ) → MightHaveLeft (meaning disk).clock after.disk image → RepresentsSomeCommands (after.done + 1) (commanded_tree t number count p) p image
+  pub any_moment : (image : List ℕ) → MightHaveLeft (meaning disk).clock after.disk image → RepresentsSomeTree (after.done + 1) (commanded_tree t number count p) p image
   -- nothing is taken; with 4 a front of the summary is printed, and with 5 and 9 nothing
   pub nothing_taken : after.source ≡ source
   pub in_part : after.status ≡ statuses.SinkFault

@@ -1,8 +1,8 @@
 -- The disks, sources and sinks of the sentences, all of them in memory, and what is said of them around a call.
-use Rattle.std.specs.Prelude.{◌≡◌, ℕ, List}
+use Rattle.std.specs.Prelude.{◌≡◌, ◌≤◌, ℕ, List}
 use Rattle.store_model.specs.Parameters.{Parameters}
 use Rattle.store_model.specs.Trees.{Tree}
-use Rattle.store_model.specs.Images.{layout}
+use Rattle.store_model.specs.Images.{layout, Represents}
 use Rattle.store_base.specs.Counts.{Rose}
 use Rattle.disk_model.specs.declared.failing.FailingDisk.{FailingDisk}
 use Rattle.disk_model.specs.DiskState.{DiskState}
@@ -39,6 +39,12 @@ MightHaveLeft moment disk image = (meaning disk).crash_images_since moment image
 pub record HasImage (disk : Disk) (t : Tree) (p : Parameters) : Type 0 where
   pub bytes : bytes_of disk ≡ layout t p
   pub durable : (image : List ℕ) → MayLeave disk image → image ≡ layout t p
+
+-- The image is of the tree after some pieces of work, at most so many, over the trees that these leave.
+pub record RepresentsSomeTree (limit : ℕ) (trees : ℕ → Tree) (p : Parameters) (image : List ℕ) : Type 0 where
+  pub count : ℕ
+  pub in_limit : count ≤ limit
+  pub represents : Represents image (trees count) p
 
 -- No call of the disk, the source and the sink failed.
 pub record NothingFailed (disk : Disk) (source : SourceMemory) (sink : SinkMemory) (after : Ended) : Type 0 where

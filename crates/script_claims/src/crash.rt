@@ -31,7 +31,8 @@ pub struct Crash {
 /// Runs a script on a disk that fails from its call `from` on, and then no line on an image that a crash may have left,
 /// whichever of these it is. Where the second run ends with 0 the image is, byte for byte, the one that is left without
 /// a crash by just the lines whose replies were written, or by one line more. Where the crash came at some moment before,
-/// it is the one that some of the lines leave. The second run ends with 0 unless a call of it fails or memory is short.
+/// what it left is an image of the tree after some of the lines, and the second run leaves the one of that tree. The second
+/// run ends with 0 unless a call of it fails or memory is short.
 ///
 /// `NoMemory`: there was none for the second run's disk and sink, or for the word `run`.
 pub fn a_crash_loses_nothing(

@@ -28,7 +28,7 @@ use Rattle.store_top.proofs.CostLemmas.{run_counts}
 use Rattle.store_top.proofs.CrashLemmas.{crashes_refused, crashes_behind, opened_represents}
 use Rattle.store_top.proofs.GenerationLemmas.{no_command}
 use Rattle.image_subcommands.proofs.ReportLemmas.{rose}
-use Rattle.store_top.proofs.RunEnds.{image_answered, not_between, no_image_by, damaged_by, refusal_only, says_no_image, says_damaged, named_by, memory_left, image_unopened, counts_unopened, quiet_unopened}
+use Rattle.store_top.proofs.RunEnds.{image_answered, not_between, no_image_by, damaged_by, says_no_image, says_damaged, named_by, memory_left, image_unopened, counts_unopened, quiet_unopened}
 
 -- ---- no store was had
 
@@ -63,7 +63,6 @@ module _ {D R W : Type 0} (disk_of : D → DiskState) (sink_of : W → SinkState
           not_image = record { only = λ e. refused.not_image (no_image_by fault e); always = says_no_image fault old new refused o fault refl };
           damaged = record { only = λ e. refused.damaged (damaged_by fault e); always = says_damaged fault old new refused o fault refl };
           represented = λ between. absurd (not_between fault between);
-          unwritten = λ h. (refused.unwritten o (refusal_only fault h)).synced;
           nothing = λ none. record { idle = record { done = refl; source = refl; sink = refl }; left = refused.unrepresented o none };
           runs = λ t p represents.
               let keeps = refused.represented o t p represents in
@@ -173,7 +172,6 @@ module _ {D R W : Type 0} (disk_of : D → DiskState) (sink_of : W → SinkState
             always = λ damaged. absurd (damaged.no_tree o store.tree store.params (attached.observed o).represents);
           };
           represented = λ h. record { tree = store.tree; params = store.params; represents = (attached.observed o).represents };
-          unwritten = λ h. absurd (image_kept status answered.ends h);
           nothing = λ none. absurd (none store.tree store.params (attached.observed o).represents);
           runs = λ t p represents.
               let same = images_tell old.bytes store.tree t store.params p (attached.observed o).represents represents in

@@ -83,12 +83,6 @@ memory_only faults.NoMemory e d = cc
 memory_only faults.NotImage e d = cc
 memory_only faults.Damaged e d = cc
 
-pub refusal_only : (fault : AttachFault) → IsRefusedImage (attach_status fault) → fault ≡ faults.Disk → ⊥
-refusal_only faults.Disk h d = false≢true h
-refusal_only faults.NoMemory h d = false≢true h
-refusal_only faults.NotImage h d = cc
-refusal_only faults.Damaged h d = cc
-
 -- a fault other than that the image is none or damaged
 pub comes_first : (fault : AttachFault) → (fault ≡ faults.NotImage → ⊥) → (fault ≡ faults.Damaged → ⊥) → MayComeFirst (attach_status fault)
 comes_first faults.Disk image whole = refl
@@ -237,7 +231,6 @@ module _ {D R W : Type 0} (disk_of : D → DiskState) (source_of : R → SourceS
           not_image = record { only = λ e. refused.not_image (no_image_by fault e); always = says_no_image fault old new refused o fault refl };
           damaged = record { only = λ e. refused.damaged (damaged_by fault e); always = says_damaged fault old new refused o fault refl };
           represented = λ between. absurd (not_between fault between);
-          unwritten = λ h. (refused.unwritten o (refusal_only fault h)).synced;
           nothing = λ none.
               let left = refused.unrepresented o none in
               record { idle = record { done = refl; source = refl; sink = refl }; synced = left.synced; crash = left.crash };
@@ -367,7 +360,6 @@ module _ {D R W : Type 0} (disk_of : D → DiskState) (source_of : R → SourceS
             always = λ damaged. absurd (damaged.no_tree o store.tree store.params (attached.observed o).represents);
           };
           represented = λ h. record { tree = store.tree; params = store.params; represents = (attached.observed o).represents };
-          unwritten = λ h. absurd (not_refused status answered.ends h);
           nothing = λ none. absurd (none store.tree store.params (attached.observed o).represents);
           runs = λ os t p represents.
               let same = images_tell old.bytes store.tree t store.params p (attached.observed o).represents represents in

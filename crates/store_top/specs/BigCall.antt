@@ -7,7 +7,7 @@ use Rattle.store_base.specs.Counts.{Rose}
 use Rattle.disk_model.specs.DiskState.{DiskState, MayLeaveOnly}
 use Rattle.disk_model.specs.DiskState as disks
 use Rattle.gate_journal.specs.Phases.{HasEmptyJournal}
-use Rattle.gate_journal.specs.Disks.{IsOnlySynced, IsUnwritten}
+use Rattle.gate_journal.specs.Disks.{IsUnwritten}
 use Rattle.image_check.specs.Verdicts.{HasParameters, IsNoImage, IsDamaged}
 use Rattle.script_lines.specs.SinkState.{SinkState}
 use Rattle.script_lines.specs.SinkState as sinks
@@ -49,8 +49,7 @@ module _ {D R W : Type 0} (disk_of : D → DiskState) (sink_of : W → SinkState
     pub not_image : ComesExactly statuses.NotImage (IsNoImage (disk_of before.disk)) MayComeFirst after.status
     pub damaged : ComesExactly statuses.Damaged (IsDamaged (disk_of before.disk)) MayComeFirst after.status
     pub represented : IsBetweenLines after.status → RepresentsSome (disk_of before.disk)
-    -- what stands then, where the image is refused
-    pub unwritten : IsRefusedImage after.status → IsOnlySynced (disk_of before.disk) (disk_of after.disk)
+    -- what stands then, where the image is none or damaged
     pub nothing : ((t : Tree) (p : Parameters) → Represents (disk_of before.disk).bytes t p → ⊥) → GeneratesNothing before after
     -- and where it represents a tree
     pub runs : (t : Tree) (p : Parameters) → Represents (disk_of before.disk).bytes t p → GeneratesFrom number count t p before after

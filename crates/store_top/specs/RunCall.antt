@@ -52,8 +52,7 @@ module _ {D R W : Type 0} (disk_of : D → DiskState) (source_of : R → SourceS
     pub not_image : ComesExactly statuses.NotImage (IsNoImage (disk_of before.disk)) MayComeFirst after.status
     pub damaged : ComesExactly statuses.Damaged (IsDamaged (disk_of before.disk)) MayComeFirst after.status
     pub represented : IsBetweenLines after.status → RepresentsSome (disk_of before.disk)
-    -- what stands then, where the image is refused
-    pub unwritten : IsRefusedImage after.status → IsOnlySynced (disk_of before.disk) (disk_of after.disk)
+    -- what stands then, where the image is none or damaged
     pub nothing : ((t : Tree) (p : Parameters) → Represents (disk_of before.disk).bytes t p → ⊥) → RunsNothing before after
     -- and where it represents a tree
     pub runs : sources.IsObservable (source_of before.source) → (t : Tree) (p : Parameters) → Represents (disk_of before.disk).bytes t p → RunsFrom t p before after

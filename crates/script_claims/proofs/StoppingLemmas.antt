@@ -1,0 +1,110 @@
+-- How a making ends that stops before its end: from what a format and a run promise.
+use Rattle.std.proofs.Common.{◌≡◌, ◌≢◌, ◌⊎◌, ◌+◌, ◌<◌, inl, inr, ℕ, length, Result, Ok, Err, IfErr, IsErrAnd, refl, sym, ap, ◌∙◌, subst, arith, length-append}
+use Rattle.std.proofs.lemmas.Bool.{false≢true}
+use Rattle.store_model.specs.Parameters.{Parameters}
+use Rattle.store_model.specs.Trees.{Tree}
+use Rattle.store_model.specs.Images.{Represents}
+use Rattle.store_base.specs.Counts.{raised}
+use Rattle.script_lines.specs.Memory.{SourceMemory, SinkMemory, source_state, sink_state}
+use Rattle.image_subcommands.specs.declared.status.Status.{Status}
+use Rattle.image_subcommands.specs.declared.status.Status.TheVariants as statuses
+use Rattle.image_subcommands.specs.Outside.{outside_of, KeepsOutside}
+use Rattle.image_subcommands.specs.FormatCall.{IsFormat}
+use Rattle.image_subcommands.specs.Statuses.{IsFormatStatus, disk_faults_by, source_faults_by, sink_faults_by}
+use Rattle.store_top.specs.RunCall.{IsRun}
+use Rattle.script_claims.specs.Acknowledged.{EndsWhole, EndsEarly}
+use Rattle.script_claims.specs.Machines.{Disk, Ended, bytes_of, meaning}
+use Rattle.script_claims.specs.Makings.{SparesCounts, IsRunCut, StopsRuns, StopsFormat}
+use Rattle.script_claims.proofs.RunWays.{way}
+
+-- an error that is handed on as it is
+pub handed_on : {T E : Type 0} (P : E → Type 0) (fault : E) (result : Result T E) → IsErrAnd result (λ e. e ≡ fault) → P fault → IfErr result P
+handed_on P fault (Ok value) is holds = tt
+handed_on P fault (Err e) is holds = subst P (sym is) holds
+
+-- ---- statuses
+
+run_cut : (status : Status) → EndsWhole status ⊎ EndsEarly status → (status ≡ statuses.Done → ⊥) → IsRunCut status
+run_cut status (inl (inl e)) other = absurd (other e)
+run_cut status (inl (inr (inl e))) other = inl e
+run_cut status (inl (inr (inr (inl e)))) other = inr (inl e)
+run_cut status (inl (inr (inr (inr e)))) other = inr (inr (inr (inl e)))
+run_cut status (inr (inl e)) other = inl e
+run_cut status (inr (inr (inl e))) other = inr (inr (inl e))
+run_cut status (inr (inr (inr (inl e)))) other = inr (inr (inr (inl e)))
+run_cut status (inr (inr (inr (inr e)))) other = inr (inr (inr (inr e)))
+
+format_cut : (status : Status) → IsFormatStatus status → (status ≡ statuses.Done → ⊥)
+    → (status ≡ statuses.DiskFault) ⊎ ((status ≡ statuses.NoMemory) ⊎ ((status ≡ statuses.AlreadyImage) ⊎ (status ≡ statuses.WrongLength)))
+format_cut statuses.Done is other = absurd (other refl)
+format_cut statuses.Usage is other = absurd (false≢true is)
+format_cut statuses.SourceFault is other = absurd (false≢true is)
+format_cut statuses.SinkFault is other = absurd (false≢true is)
+format_cut statuses.DiskFault is other = inl refl
+format_cut statuses.TooLong is other = absurd (false≢true is)
+format_cut statuses.NotImage is other = absurd (false≢true is)
+format_cut statuses.Damaged is other = absurd (false≢true is)
+format_cut statuses.NoMemory is other = inr (inl refl)
+format_cut statuses.AlreadyImage is other = inr (inr (inl refl))
+format_cut statuses.WrongLength is other = inr (inr (inr refl))
+
+-- ---- the counts of failed calls
+
+module _ (disk : Disk) (source : SourceMemory) (sink : SinkMemory) (after : Ended)
+    (outside : KeepsOutside after.status (meaning disk) (meaning after.disk) (source_state source) (source_state after.source) (sink_state sink) (sink_state after.sink)) where
+  disk_by : (status : Status) → after.status ≡ status → (meaning after.disk).faults ≡ disk_faults_by status (meaning disk).faults
+  disk_by status e = subst (λ (s : Status). (meaning after.disk).faults ≡ disk_faults_by s (meaning disk).faults) e outside.disk_faults
+
+  source_by : (status : Status) → after.status ≡ status → after.source.faults ≡ source_faults_by status source.faults
+  source_by status e = subst (λ (s : Status). after.source.faults ≡ source_faults_by s source.faults) e outside.source_faults
+
+  sink_by : (status : Status) → after.status ≡ status → after.sink.faults ≡ sink_faults_by status sink.faults
+  sink_by status e = subst (λ (s : Status). after.sink.faults ≡ sink_faults_by s sink.faults) e outside.sink_faults
+
+  -- where the call is done none failed
+  pub spares_counts : after.status ≡ statuses.Done → SparesCounts disk sink after
+  spares_counts e = record { disk_faults = disk_by statuses.Done e; sink_faults = sink_by statuses.Done e }
+
+  -- ---- one call
+
+  pub run_stops : (t : Tree) (p : Parameters) → IsRun meaning source_state sink_state (outside_of disk source sink) after → Represents (bytes_of disk) t p
+      → (after.status ≡ statuses.Done → ⊥) → StopsRuns disk (λ script. script ≡ source) sink after
+  run_stops t p run represents other = record {
+    ends = run_cut after.status (way t p disk source sink after run represents) other;
+    disk_fault = disk_by statuses.DiskFault;
+    sink_fault = sink_by statuses.SinkFault;
+    source_fault = λ e. (source, refl, source_by statuses.SourceFault e);
+    too_long = λ e.
+        let many = (run.limit refl).too_long e in
+        (source, refl, omega (arith, many.count_is, ap length many.taken_is, length-append many.taken after.source.left));
+  }
+
+  pub format_stops : (p : Parameters) → IsFormat meaning p (outside_of disk source sink) after → (after.status ≡ statuses.Done → ⊥) → StopsFormat p disk after
+  format_stops p format other = record {
+    ends = format_cut after.status format.ends other;
+    disk_fault = disk_by statuses.DiskFault;
+    already_image = λ e. ((format.observed refl).already_image.only e).first_is;
+    wrong_length = format.wrong_length.only;
+  }
+
+-- there was no memory for the word `run`
+pub unrun_stops : (disk : Disk) (IsScript : SourceMemory → Type 0) (sink : SinkMemory) (ended : Ended) → ended.status ≡ statuses.NoMemory → StopsRuns disk IsScript sink ended
+unrun_stops disk IsScript sink ended is = record {
+  ends = inr (inr (inr (inr is)));
+  disk_fault = λ e. absurd (cc);
+  sink_fault = λ e. absurd (cc);
+  source_fault = λ e. absurd (cc);
+  too_long = λ e. absurd (cc);
+}
+
+-- ---- runs behind calls that were done
+
+pub stops_behind : (disk now : Disk) (IsScript IsOne : SourceMemory → Type 0) (sink sink_now : SinkMemory) (ended : Ended) → (meaning now).faults ≡ (meaning disk).faults → sink_now.faults ≡ sink.faults
+    → ((script : SourceMemory) → IsOne script → IsScript script) → StopsRuns now IsOne sink_now ended → StopsRuns disk IsScript sink ended
+stops_behind disk now IsScript IsOne sink sink_now ended disk_is sink_is among stops = record {
+  ends = stops.ends;
+  disk_fault = λ e. stops.disk_fault e ∙ ap raised disk_is;
+  sink_fault = λ e. stops.sink_fault e ∙ ap raised sink_is;
+  source_fault = λ e. let fault = stops.source_fault e in (fault.0, among fault.0 fault.1, fault.2);
+  too_long = λ e. let long = stops.too_long e in (long.0, among long.0 long.1, long.2);
+}
