@@ -140,9 +140,9 @@ pub fn write_full(rt: &HostRuntime, slots: u32) -> Option<()> {
 }
 
 /// Writes an image under `sha256` at height 4 to standard output, of so many slots, 1 to `MAX_SLOTS`. Most have a page:
-/// there are 73 pairs to ten slots. Where these take more pages than there are slots, as they may in a small table,
-/// nothing is written, and the answer is `None`.
+/// there are 736 pairs to a hundred slots. Where these take more pages than there are slots, as they may in a small
+/// table, nothing is written, and the answer is `None`.
 pub fn write_crowded(rt: &HostRuntime, slots: u32) -> Option<()> {
     let params = params_of(slots.clamp(1, MAX_SLOTS), 4, DrawKind::Sha256)?;
-    write_directories(rt, &params, u64::from(params.slots()) * 73 / 10)
+    write_directories(rt, &params, u64::from(params.slots()) * 736 / 100)
 }

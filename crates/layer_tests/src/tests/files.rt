@@ -79,7 +79,11 @@ fn file_of_one_block(rt: HostRuntime) {
 fn fill(rt: &impl Abort, list: &mut CountedPairs, path: &Path, writes: u16, blocks: u8) {
     let len = u32::from(blocks.min(16)) * 256;
     for piece in 0..u32::from(writes) {
-        let filled = (Change::Fill(piece * len, len as usize), Ok(()), u32::from(blocks) + 2);
+        let filled = (
+            Change::Fill(piece * len, len as usize),
+            Ok(()),
+            u32::from(blocks) + 2,
+        );
         assert!(rt; is_made(list, path, &filled) == Ok(true), "piece {piece}");
     }
 }
