@@ -4,7 +4,7 @@ use Rattle.store_model.specs.Paths.{key_cmp}
 use Rattle.store_model.specs.Pages.{Cell}
 use Rattle.store_model.proofs.ListsLemmas.{rising_one}
 use Rattle.node_pages.specs.Cells.{CellList}
-use Rattle.layer_tests.proofs.tests.page_slots.two_pages.Goals as goal
+use Rattle.table_tests.proofs.tests.page_slots.two_pages.Goals as goal
 
 one_rises : (level : ℕ) (list before : CellList) (cell : Cell) → list ≡ record { level = before.level; cells = before.cells ++ cell ∷ [] } → before ≡ record { level = level; cells = [] } → IsStrictlySortedBy key_cmp (map (λ c. c.key) list.cells)
 one_rises level list before cell is none =

@@ -1,6 +1,6 @@
 use Rattle.std.proofs.Common.{◌≡◌}
 use Rattle.ordered_table.specs.MemSlots.{mem_state}
-use Rattle.layer_tests.proofs.tests.tables.lead_so.Given as goal
+use Rattle.table_tests.proofs.tests.tables.lead_so.Given as goal
 
 -- the slots keep their number
 abbrev pub invariant-loop-step : goal.invariant-loop-step

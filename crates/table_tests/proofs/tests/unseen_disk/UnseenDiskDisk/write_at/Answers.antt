@@ -1,6 +1,6 @@
 use Rattle.std.proofs.Common.{refl}
 use Rattle.disk_model.specs.FileDisk.{no_bytes}
-use Rattle.layer_tests.proofs.tests.unseen_disk.UnseenDiskDisk.write_at.Goals as goal
+use Rattle.table_tests.proofs.tests.unseen_disk.UnseenDiskDisk.write_at.Goals as goal
 
 pub returns : goal.returns
 returns c =

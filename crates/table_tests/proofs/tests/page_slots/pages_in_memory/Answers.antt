@@ -2,7 +2,7 @@ use Rattle.std.proofs.Common.{ap, ◌∙◌, arith}
 use Rattle.std.specs.FinMap.{len, len-empty}
 use Rattle.store_model.specs.Paths.{key_cmp}
 use Rattle.store_model.specs.Pages.{Page}
-use Rattle.layer_tests.proofs.tests.page_slots.pages_in_memory.Goals as goal
+use Rattle.table_tests.proofs.tests.page_slots.pages_in_memory.Goals as goal
 
 -- there is no page at first
 pub put-requires : goal.put-requires

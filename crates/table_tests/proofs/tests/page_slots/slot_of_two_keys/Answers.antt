@@ -4,7 +4,7 @@ use Rattle.store_model.specs.Lists.{zeros}
 use Rattle.store_model.specs.Paths.{key_cmp}
 use Rattle.store_model.specs.Pages.{Cell, Page}
 use Rattle.store_model.proofs.ListsLemmas.{rising_one, rising_cons}
-use Rattle.layer_tests.proofs.tests.page_slots.slot_of_two_keys.Goals as goal
+use Rattle.table_tests.proofs.tests.page_slots.slot_of_two_keys.Goals as goal
 
 two_rise : (cells : List Cell) (first second : Cell) → cells ≡ first ∷ [] → key_cmp first.key second.key ≡ Less → IsStrictlySortedBy key_cmp (map (λ c. c.key) (cells ++ second ∷ []))
 two_rise cells first second is less =
