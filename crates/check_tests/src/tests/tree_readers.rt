@@ -171,7 +171,7 @@ static WRONG_BLOCKS: [(&[Row], Outcome); 9] = [
 
 /// First values of no kind.
 static WRONG_VALUES: [(&[Row], Outcome); 4] = [
-    (&[("/f", 0, Says::File(1_048_577))], Outcome::Refused(0)),
+    (&[("/f", 0, Says::File(16_777_217))], Outcome::Refused(0)),
     (&[("/f", 0, Says::Two([1, 1]))], Outcome::Refused(0)),
     (
         &[("/f", 0, Says::Five([3, 0, 0, 0, 0]))],
