@@ -37,7 +37,8 @@ static IMAGES: &str = "\
     a value that no directory has|1 1 ruler|/a|||258:2|damaged#\
     a value of no kind|1 1 ruler|/a|||258:3|damaged#\
     a file without its block|1 1 ruler|/a|||257:5 258:2 262:1|damaged#\
-    a length that no file has|1 1 ruler|/a|||257:5 258:2 260:16 262:1|damaged#\
+    a long file without its blocks, of 1,048,577 bytes|1 1 ruler|/a|||257:5 258:2 260:16 262:1|damaged#\
+    a length that no file has, 16,777,217 bytes|1 1 ruler|/a|||257:5 258:2 259:1 262:1|damaged#\
     a file that is longer than its block|1 1 ruler|/f=1|||262:2|damaged#\
     a file that is shorter than its block|1 1 ruler|/f=1|||262:0|damaged#\
     a block with another number|1 1 ruler|/f=1|||637:2|damaged#\

@@ -6,6 +6,7 @@ ghost use Rattle.layout_scratch.specs.Sorting.{HasDistinctKeys};
 use crate::opinion::TreeSize;
 use crate::order::{do_rise, list_of, sort_pairs};
 use crate::slots::judge_slots;
+use image_check::{Verdict, check_slots};
 use layout_scratch::{Layout, ScratchFault, build};
 use node_pages::{Page, PairList};
 use ordered_table::{MemSlots, insert};
@@ -39,6 +40,19 @@ fn layout_of(
     };
     assert!(rt; pairs.len() <= 16384);
     build(alloc, params, &pairs)
+}
+
+/// The verdict of the check on slots that are the layout of a tree of this size, or of no tree.
+fn verdict_on(size: Option<TreeSize>) -> Verdict {
+    match size {
+        Some(TreeSize { pages, counts }) => Verdict::Clean {
+            pages,
+            dirs: counts.dirs,
+            files: counts.files,
+            bytes: counts.bytes,
+        },
+        None => Verdict::Damaged,
+    }
 }
 
 /// Slots in memory, and the parameters of their image.
@@ -105,10 +119,13 @@ impl Table {
         insert(&mut self.slots, &draw, page).expect(rt, "no slot fails");
     }
 
-    /// How much the tree has whose layout the slots are, if they are one, as both opinions say.
+    /// How much the tree has whose layout the slots are, if they are one, as both opinions say. Where they differ the
+    /// test ends.
     pub fn size(&mut self, rt: &impl Abort) -> Option<TreeSize> {
         assert!(rt; self.slots.slots().len() == self.params.slots() as usize);
         let size = judge_slots(self.alloc, &mut self.slots, &self.params).expect(rt, "memory");
+        let checked = check_slots(&mut self.slots, &self.params);
+        assert!(rt; checked == Ok(verdict_on(size)));
         size
     }
 }

@@ -51,11 +51,19 @@ fn next_status(machine: &Machine, row: [&str; 9]) -> u8 {
     }
 }
 
+/// Calls with the words of the row and no script, where nothing fails, and answers whether that ends with its status. A
+/// scrub prints what the row says, and all else nothing.
+fn is_next_ended(rt: &impl Abort, machine: &mut Machine, row: [&str; 9]) -> bool {
+    let status = next_status(machine, row);
+    let written = if row[5] == "scrub" { row[7] } else { "" };
+    machine.call(rt, row[5], "");
+    (machine.ended.status == status) & (machine.written() == written.as_bytes())
+}
+
 /// Looks whether a call with the words of the row, where nothing fails, leaves this image.
 fn expect_image(rt: &impl Abort, machine: &mut Machine, row: [&str; 9], image: &[u8]) {
-    let status = next_status(machine, row);
-    machine.call(rt, row[5], "");
-    let holds = (machine.ended.status == status) & (machine.image() == image);
+    let is_ended = is_next_ended(rt, machine, row);
+    let holds = is_ended & (machine.image() == image);
     expect(rt, holds, "the next call", row[0]);
 }
 
@@ -97,10 +105,25 @@ fn expect_whole_or_none(rt: &impl Abort, machine: &mut Machine, whole: &[u8], ro
     expect(rt, is_none, "the report", row);
 }
 
-/// Looks whether what is left of an image that is made or wiped is the whole of it, or none.
+/// Looks whether a run of no line opens what is left of a scrub as the scrubbed image, or refuses it and leaves it.
+fn expect_opened_or_refused(rt: &impl Abort, machine: &mut Machine, scrubbed: &[u8], row: &str) {
+    let left = machine.copy(rt);
+    machine.call(rt, "run", "");
+    let holds = match machine.ended.status {
+        0 => machine.image() == scrubbed,
+        7 | 8 => machine.image() == left.as_slice(),
+        _ => false,
+    };
+    expect(rt, holds, "a run", row);
+    machine.load(rt, &left);
+}
+
+/// Looks whether what is left of an image that is made or wiped is the whole of it, or none; and whether what is left of
+/// one that is scrubbed is opened or refused.
 fn expect_no_part(rt: &impl Abort, machine: &mut Machine, row: [&str; 9], images: &Images<'_>) {
     match row[5] {
-        "run" | "scrub" => {}
+        "run" => {}
+        "scrub" => expect_opened_or_refused(rt, machine, images.new, row[0]),
         "wipe" => expect_whole_or_none(rt, machine, images.found, row[0]),
         _ => expect_whole_or_none(rt, machine, images.new, row[0]),
     }
@@ -114,11 +137,10 @@ fn next_image<'a>(
     images: &Images<'a>,
     may_be_new: bool,
 ) -> &'a [u8] {
-    let status = next_status(machine, row);
-    machine.call(rt, row[5], "");
+    let is_ended = is_next_ended(rt, machine, row);
     let is_new = may_be_new & (machine.image() == images.new);
     let image = if is_new { images.new } else { images.old };
-    let holds = (machine.ended.status == status) & (machine.image() == image);
+    let holds = is_ended & (machine.image() == image);
     expect(rt, holds, "the next call", row[0]);
     image
 }
