@@ -1,5 +1,5 @@
 -- What making, scrubbing and wiping an image leaves.
-use Rattle.std.proofs.Common.{◌≡◌, ◌≢◌, ℕ, zero, suc, List, [], ◌∷◌, length, slice_index, refl, sym, ap, ◌∙◌, inl, inr, ⊎_elim, arith}
+use Rattle.std.proofs.Common.{◌≡◌, ◌≢◌, ℕ, zero, suc, List, [], ◌∷◌, length, slice_index, refl, sym, ap, subst, ◌∙◌, inl, inr, ⊎_elim, arith}
 use Rattle.store_model.specs.Lists.{zeros}
 use Rattle.store_model.specs.Parameters.{Parameters}
 use Rattle.store_model.specs.Trees.{Tree}
@@ -167,6 +167,7 @@ module _ {D R W : Type 0} (disk_of : D → DiskState) (source_of : R → SourceS
         fresh = seen.formatted;
         not_refused = λ e right. not_refused after.status (format_ends after.status format.ends) (λ already. wiped e (seen.already_image.only already).first_is) (λ wrong. format.wrong_length.only wrong (same ∙ right));
         wrong_length = record { only = λ e right. format.wrong_length.only e (same ∙ right); always = λ differs. ⊎_elim inl (λ e. inr (inl e)) (format.wrong_length.always (λ right. differs (sym same ∙ right))) };
+        unwiped = λ e. subst (λ (disk : D). MakesImage p after.status (disk_of disk) (disk_of after.disk)) (wipe.no_memory e) (format_exact disk_of p (record { disk = middle.disk; source = middle.source; sink = middle.sink }) after format told_middle);
         made = λ right none. ⊎_elim
             (λ e. inl (⊎_elim inl (λ lacks. inr (inl lacks)) ((seen.blank (record { size_is = same ∙ right; other_byte = wiped e })).complete (λ rose. none (rose_behind rose)))))
             (λ lacks. inr lacks) (wipe.complete (λ rose. none (rose_before rose)));

@@ -61,5 +61,7 @@ pub record MakesBehindWipe (p : Parameters) (wipe format : Status) (old new : Di
   pub fresh : format ≡ Done → Stands new empty_tree p
   pub not_refused : wipe ≡ Done → old.size ≡ image_len p.slots → IsOneOf format (Done ∷ DiskFault ∷ NoMemory ∷ [])
   pub wrong_length : EndsExactly WrongLength (old.size ≢ image_len p.slots) (NoMemory ∷ []) format
+  -- where memory ran out before the wipe, it is made as on the disk that was not wiped
+  pub unwiped : wipe ≡ NoMemory → MakesImage p format old new
   -- it is made where no call failed and memory was there
   pub made : old.size ≡ image_len p.slots → (Rose old.faults new.faults → ⊥) → IsOneOf format (Done ∷ NoMemory ∷ []) ⊎ (wipe ≡ NoMemory)

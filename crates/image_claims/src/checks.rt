@@ -7,7 +7,7 @@ ghost use Rattle.store_model.specs.Images.{Represents};
 ghost use Rattle.store_model.specs.Words.{request_of};
 ghost use Rattle.store_model.specs.Words.Request.{Check, Run};
 ghost use Rattle.script_lines.specs.Memory.{source_state, sink_state};
-ghost use Rattle.image_claims.specs.Checks.{ChecksExactly, AgreesWithRun, AnswersByOneTree, LeavesAlone};
+ghost use Rattle.image_claims.specs.Checks.{ChecksExactly, JudgesExactly, AgreesWithRun, AnswersByOneTree, LeavesAlone};
 ghost use Rattle.script_claims.specs.Machines.{meaning};
 
 use crate::call::call;
@@ -41,7 +41,8 @@ pub struct Judged {
 
 /// A check of any bytes, and then a run of the same bytes, whose replies go to a sink of its own. The check says `not-image`
 /// and `damaged` exactly where the run ends with status 7 and 8, unless a call fails or memory runs out before. A run of bytes
-/// that hold no tree leaves them alone and takes nothing, however it ends. Where it says `clean`, the run is answered by one tree, the one that the bytes hold.
+/// that hold no tree leaves them alone and takes nothing, however it ends. What the check says and prints is exact. Where
+/// it says `clean`, the run is answered by one tree, the one that the bytes hold.
 pub fn check_then_run(
     alloc: Global,
     check: &Words,
@@ -49,6 +50,8 @@ pub fn check_then_run(
     machine: Machine,
     replies: MemSink,
 ) -> Judged
+    ensures judges { request_of check.now ≡ Some Check →
+        JudgesExactly (Represents (meaning machine.disk).bytes) (meaning machine.disk).bytes result.check (sink_state machine.sink) (sink_state result.line) }
     ensures agrees { request_of check.now ≡ Some Check → request_of run.now ≡ Some Run → AgreesWithRun result.check result.run.status }
     ensures answers { request_of check.now ≡ Some Check → request_of run.now ≡ Some Run → result.check ≡ Status.Done →
         AnswersByOneTree (meaning machine.disk).bytes machine.source.left replies.written result.run.status result.run.sink.written (meaning result.run.disk).bytes }

@@ -6,7 +6,9 @@ ghost use Rattle.store_model.specs.Words.{request_of};
 ghost use Rattle.store_model.specs.Words.Request.{Format, Scrub, Wipe};
 ghost use Rattle.store_model.specs.Images.{first_byte};
 ghost use Rattle.disk_model.specs.DiskState.{IsDurable};
+ghost use Rattle.script_lines.specs.Memory.{sink_state};
 ghost use Rattle.image_claims.specs.Crashes.{MightLeave, MakesAllOrNone, WipesAllOrNone, ScrubsAgain};
+ghost use Rattle.image_claims.specs.Images.{ScrubsExactly};
 ghost use Rattle.script_claims.specs.Machines.{meaning};
 
 use crate::call::call;
@@ -45,7 +47,7 @@ pub struct Scrubs {
 /// An image is scrubbed on a machine on which nothing is pending, and cut short by the failure of any call of its disk;
 /// `left` is a machine with an image that a crash at some moment might have left, and `twin` one with the same image as the
 /// first. Where the scrub of the twin ends with status 0, that of what was left ends so too, unless a call of it fails or
-/// memory runs out, and both leave the same bytes.
+/// memory runs out, and both leave the same bytes. Each of the three scrubs as `scrub` does.
 pub fn scrub_cut_short(
     alloc: Global,
     scrub: &Words,
@@ -53,7 +55,10 @@ pub fn scrub_cut_short(
     left: Machine,
     twin: Machine,
 ) -> Scrubs
-    ensures { request_of scrub.now ≡ Some Scrub → IsDurable (meaning machine.disk) →
+    ensures cut { request_of scrub.now ≡ Some Scrub → ScrubsExactly result.cut.status (meaning machine.disk) (meaning result.cut.disk) (sink_state machine.sink) (sink_state result.cut.sink) }
+    ensures again { request_of scrub.now ≡ Some Scrub → ScrubsExactly result.again.status (meaning left.disk) (meaning result.again.disk) (sink_state left.sink) (sink_state result.again.sink) }
+    ensures whole { request_of scrub.now ≡ Some Scrub → ScrubsExactly result.whole.status (meaning twin.disk) (meaning result.whole.disk) (sink_state twin.sink) (sink_state result.whole.sink) }
+    ensures same { request_of scrub.now ≡ Some Scrub → IsDurable (meaning machine.disk) →
         MightLeave (meaning machine.disk) (meaning result.cut.disk) (meaning left.disk).bytes → (meaning twin.disk).bytes ≡ (meaning machine.disk).bytes →
         result.whole.status ≡ Status.Done → ScrubsAgain (meaning result.whole.disk).bytes result.again.status (meaning result.again.disk) }
 {

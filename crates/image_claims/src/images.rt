@@ -52,7 +52,7 @@ pub struct Remade {
 }
 
 /// Wipes a disk, whatever it holds, and makes an image on it. Behind a wipe that is done the image is fresh, and never refused
-/// for what was there before.
+/// for what was there before; behind one for which memory ran out it is made as without one.
 pub fn wipe_then_format(alloc: Global, wipe: &Words, format: &Words, machine: Machine) -> Remade
     ensures { (p : Parameters) → request_of wipe.now ≡ Some Wipe → request_of format.now ≡ Some (Format p) →
         MakesBehindWipe p result.wipe result.format.status (meaning machine.disk) (meaning result.format.disk) }

@@ -35,6 +35,8 @@ keeps_acknowledged t p disk source sink after run only =
           (λ stands. inl (image_of after.disk (tree_after t (take after.done (lines source.left)) p) p stands))
           (λ none. inr (none.0, subst (λ (image : List ℕ). Represents image t p) (sym (none.1).bytes) represents))
           (from.image.no_memory e);
+      all_lines = λ e. (told.counted.all e).1 ∙ length-replies t (lines source.left) p;
+      all_replied = λ e. wrote.written_is ∙ ap (λ (text : List ℕ). sink.written ++ text) (wrote.promised.all e);
       source_fault = λ e. record { taken = told.taken; taken_is = told.taken_is; done_is = told.counted.ended e };
       too_long = λ e.
           let many = limit.too_long e in (

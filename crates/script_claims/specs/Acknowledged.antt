@@ -35,6 +35,9 @@ pub record KeepsAcknowledged (t : Tree) (p : Parameters) (source : SourceMemory)
   pub disk_fault : after.status ≡ statuses.DiskFault → Represents (bytes_of after.disk) (tree_after t (take after.done (lines source.left)) p) p ⊎ Represents (bytes_of after.disk) (tree_after t (take (after.done + 1) (lines source.left)) p) p
   -- with 9 it is the image of that tree, or the one before the run was not written to and no line was carried out
   pub no_memory : after.status ≡ statuses.NoMemory → HasImage after.disk (tree_after t (take after.done (lines source.left)) p) p ⊎ ((after.done ≡ 0) × Represents (bytes_of after.disk) t p)
+  -- with 0 each line was carried out, and each reply written
+  pub all_lines : after.status ≡ statuses.Done → after.done ≡ length (lines source.left)
+  pub all_replied : after.status ≡ statuses.Done → after.sink.written ≡ sink.written ++ replies_text (replies t (lines source.left) p)
   -- how many lines they are: with 3 those that were ended among the bytes taken; with 6 those that were ended among the first
   -- 1,073,741,824, and the script has more bytes than these; with 4 one at least
   pub source_fault : after.status ≡ statuses.SourceFault → TookLines source.left after.source.left after.done

@@ -9,6 +9,7 @@ ghost use Rattle.store_model.specs.Words.{request_of};
 ghost use Rattle.store_model.specs.Words.Request.{Big};
 ghost use Rattle.disk_model.specs.DiskState.{MayLeaveOnly};
 ghost use Rattle.store_top.specs.Generations.{first_commands};
+ghost use Rattle.script_claims.specs.Answered.{AnswersScript};
 ghost use Rattle.script_claims.specs.BigRuns.{AskFor, IsRunOfCommands};
 ghost use Rattle.script_claims.specs.Commands.{KeepsCommands};
 ghost use Rattle.script_claims.specs.Machines.{bytes_of, meaning};
@@ -31,7 +32,7 @@ pub struct TwoRuns {
 
 /// Carries out these words, `big NUMBER COUNT`, on one machine, and the script of another, which asks for just the commands
 /// that the number gives. Where both end with 0 they leave the same image, and `big` prints how many replies of the run
-/// do not refuse, how many do, and what `space` and `digest` say of its image.
+/// do not refuse, how many do, and what `space` and `digest` say of its image. The run answers its script.
 ///
 /// `NoMemory`: there was none for the word `run`.
 pub fn big_is_a_run(
@@ -40,7 +41,8 @@ pub fn big_is_a_run(
     first: Machine,
     second: Machine,
 ) -> Result<TwoRuns, NoMemory>
-    ensures { (number count : ℕ) (t : Tree) (p : Parameters) → request_of words.now ≡ Some (Big number count)
+    ensures run { (t : Tree) (p : Parameters) → Represents (bytes_of second.disk) t p → IfOk result (λ both. AnswersScript t p second.disk second.source second.sink both.run) }
+    ensures same { (number count : ℕ) (t : Tree) (p : Parameters) → request_of words.now ≡ Some (Big number count)
         → Represents (bytes_of first.disk) t p → Represents (bytes_of second.disk) t p → AskFor (lines second.source.left) (first_commands number count)
         → IfOk result (IsRunOfCommands t p second.source first.sink) }
 {

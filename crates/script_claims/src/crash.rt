@@ -6,6 +6,7 @@ ghost use Rattle.store_model.specs.Trees.{Tree};
 ghost use Rattle.store_model.specs.Images.{Represents};
 ghost use Rattle.disk_model.specs.DiskState.{MayLeaveOnly};
 ghost use Rattle.disk_model.specs.Memory.{memory_state};
+ghost use Rattle.script_claims.specs.Acknowledged.{KeepsAcknowledged};
 ghost use Rattle.script_claims.specs.Crashes.{LosesNothing};
 
 use crate::answered::a_script_is_answered;
@@ -32,7 +33,7 @@ pub struct Crash {
 /// whichever of these it is. Where the second run ends with 0 the image is, byte for byte, the one that is left without
 /// a crash by just the lines whose replies were written, or by one line more. Where the crash came at some moment before,
 /// what it left is an image of the tree after some of the lines, and the second run leaves the one of that tree. The second
-/// run ends with 0 unless a call of it fails or memory is short.
+/// run ends with 0 unless a call of it fails or memory is short. The first keeps what it acknowledged, however it ends.
 ///
 /// `NoMemory`: there was none for the second run's disk and sink, or for the word `run`.
 pub fn a_crash_loses_nothing(
@@ -43,7 +44,8 @@ pub fn a_crash_loses_nothing(
     sink: MemSink,
     left: &[u8],
 ) -> Result<Crash, NoMemory>
-    ensures { (t : Tree) (p : Parameters) → MayLeaveOnly (memory_state disk) (λ image. Represents image t p) → IfOk result (LosesNothing t p disk source sink left.now) }
+    ensures run { (t : Tree) (p : Parameters) → MayLeaveOnly (memory_state disk) (λ image. Represents image t p) → IfOk result (λ crash. KeepsAcknowledged t p source sink crash.run) }
+    ensures next { (t : Tree) (p : Parameters) → MayLeaveOnly (memory_state disk) (λ image. Represents image t p) → IfOk result (LosesNothing t p disk source sink left.now) }
 {
     let words = run_word(alloc)?;
     let failing = FailingDisk::new(disk, Vec::new(alloc), Some(from));

@@ -7,6 +7,7 @@ ghost use Rattle.store_model.specs.Trees.{Tree};
 ghost use Rattle.store_model.specs.Images.{Represents};
 ghost use Rattle.store_model.specs.Commands.{Command};
 ghost use Rattle.store_model.specs.Scripts.{lines, replies};
+ghost use Rattle.script_claims.specs.Answered.{AnswersScript};
 ghost use Rattle.script_claims.specs.Refusals.{IsRefusal, IsAtRest, IsUntouched, IsOneLine, AnswersFull, without_refused};
 ghost use Rattle.script_claims.specs.Machines.{bytes_of};
 
@@ -19,7 +20,7 @@ use store_base::NoMemory;
 use store_top::Status;
 
 /// Runs a script whose lines are all refused, on an image with nothing to be recovered. No byte of it is changed, and
-/// no write is made, unless a call of the disk fails.
+/// no write is made, unless a call of the disk fails. It is a run as another: where it ends with 0 each line was answered.
 ///
 /// `NoMemory`: nothing was called.
 pub fn refused_lines_change_nothing(
@@ -28,8 +29,9 @@ pub fn refused_lines_change_nothing(
     source: MemSource,
     sink: MemSink,
 ) -> Result<Ended, NoMemory>
-    ensures { (t : Tree) (p : Parameters) → IsAtRest (bytes_of disk) t p → AllByRecursion IsRefusal (replies t (lines source.left) p)
+    ensures untouched { (t : Tree) (p : Parameters) → IsAtRest (bytes_of disk) t p → AllByRecursion IsRefusal (replies t (lines source.left) p)
         → IfOk result (λ after. after.status ≢ Status.DiskFault → IsUntouched disk after.disk) }
+    ensures answered { (t : Tree) (p : Parameters) → Represents (bytes_of disk) t p → IfOk result (AnswersScript t p disk source sink) }
 {
     let words = run_word(alloc)?;
     Ok(serve(alloc, &words, disk, source, sink))
@@ -61,7 +63,7 @@ pub struct Shortened {
 }
 
 /// Runs a script on one machine, and on another one the lines of it that are not refused. Where both end with 0 they leave
-/// the same image, byte for byte.
+/// the same image, byte for byte, and each line of either was answered.
 ///
 /// `NoMemory`: there was none for the word `run`.
 pub fn refused_lines_may_be_left_out(
@@ -69,7 +71,9 @@ pub fn refused_lines_may_be_left_out(
     first: Machine,
     second: Machine,
 ) -> Result<Shortened, NoMemory>
-    ensures { (t : Tree) (p : Parameters) → Represents (bytes_of first.disk) t p → Represents (bytes_of second.disk) t p
+    ensures whole { (t : Tree) (p : Parameters) → Represents (bytes_of first.disk) t p → IfOk result (λ runs. AnswersScript t p first.disk first.source first.sink runs.whole) }
+    ensures short { (t : Tree) (p : Parameters) → Represents (bytes_of second.disk) t p → IfOk result (λ runs. AnswersScript t p second.disk second.source second.sink runs.short) }
+    ensures same { (t : Tree) (p : Parameters) → Represents (bytes_of first.disk) t p → Represents (bytes_of second.disk) t p
         → lines second.source.left ≡ without_refused t (lines first.source.left) p
         → IfOk result (λ runs. runs.whole.status ≡ Status.Done → runs.short.status ≡ Status.Done → bytes_of runs.short.disk ≡ bytes_of runs.whole.disk) }
 {

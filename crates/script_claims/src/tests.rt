@@ -47,6 +47,10 @@ const ROOM: usize = 1_048_576;
 /// More calls of the disk than a run of one command makes.
 const MOST_CALLS: u64 = 60;
 
+/// How many writes and syncs such a run makes: two syncs to open the image, and seven writes and five syncs for its one
+/// slot. While one of them fails the run is not done.
+const LEAST_CALLS: u64 = 14;
+
 /// How a call is to end: its status, the lines carried out, what is written, the image, and the writes and syncs.
 #[derive(Clone, Copy)]
 struct Wanted<'a> {
@@ -375,6 +379,10 @@ fn a_crash_at_each_call_keeps_what_was_acknowledged(rt: HostRuntime) {
         let (same, is_done_again) = crash_at(&rt, alloc, from, &left);
         assert!(&rt; (same == left) & (is_done_again == is_done), "the same run");
         if is_done {
+            assert!(&rt;
+                from >= LEAST_CALLS,
+                "a run whose call {from} fails is done"
+            );
             return;
         }
     }

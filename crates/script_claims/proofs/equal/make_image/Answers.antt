@@ -1,9 +1,9 @@
-use Rattle.std.proofs.Common.{◌≡◌, Contains, inl, inr, sym, ◌∙◌, ap, subst}
+use Rattle.std.proofs.Common.{Contains, inl, inr, sym, subst}
 use Rattle.std.proofs.lemmas.Result.{IfErr-weaker}
 use Rattle.store_model.specs.Trees.{empty_tree}
 use Rattle.script_lines.specs.Memory.{SourceMemory}
 use Rattle.script_claims.specs.Makings.{SparesCounts, StopsFormat}
-use Rattle.script_claims.specs.Machines.{Disk, Ended, HasImage, meaning}
+use Rattle.script_claims.specs.Machines.{Ended, HasImage}
 use Rattle.script_claims.proofs.MakingLemmas.{formatted, empty_fits}
 use Rattle.script_claims.proofs.RequestedParameters.{requested_in_range}
 use Rattle.script_claims.proofs.StoppingLemmas.{handed_on, spares_counts, format_stops, stops_behind}
