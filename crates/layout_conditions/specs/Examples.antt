@@ -2,6 +2,7 @@
 -- stands on levels 0 and 1.
 use Rattle.std.specs.Prelude.{ℕ, List, [], ◌∷◌, Some, None, codes}
 use Rattle.store_model.specs.declared.draw_kind.DrawKind.TheVariants.{Ruler}
+use Rattle.store_model.specs.declared.version.Version.TheVariants.{One}
 use Rattle.store_model.specs.Lists.{zeros, zero_filled}
 use Rattle.store_model.specs.Parameters.{Parameters, seed_len}
 use Rattle.store_model.specs.Paths.{key_len}
@@ -10,7 +11,7 @@ use Rattle.store_model.specs.Pages.{Page}
 use Rattle.store_model.specs.Placement.{Table}
 
 abbrev pub two_slots : Parameters
-two_slots = record { slots = 2; height = 2; kind = Ruler; seed = zeros seed_len }
+two_slots = record { slots = 2; height = 2; kind = Ruler; seed = zeros seed_len; version = One }
 
 -- the key of the directory
 unfoldable pub example_key : List ℕ

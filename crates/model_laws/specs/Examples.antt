@@ -1,12 +1,16 @@
 -- Words for the worked examples: all have the draw `ruler` and a seed of zeros.
-use Rattle.std.specs.Prelude.{ℕ, List, [], ◌∷◌, Some, None, codes}
+use Rattle.std.specs.Prelude.{ℕ, List, [], ◌∷◌, ◌++◌, Some, None, codes}
 use Prim.Native.String.{String}
+use Rattle.std.specs.Int.{w32, to_be_bytes}
 use Rattle.std.specs.List.{flat_map}
+use Rattle.hex.specs.Hex.{encode_lower}
 use Rattle.store_model.specs.declared.draw_kind.DrawKind.TheVariants.{Ruler}
+use Rattle.store_model.specs.declared.version.Version.TheVariants.{One, Two}
 use Rattle.store_model.specs.Lists.{zeros, zero_filled}
-use Rattle.store_model.specs.Parameters.{Parameters, seed_len}
-use Rattle.store_model.specs.Paths.{key_len}
+use Rattle.store_model.specs.Parameters.{Parameters, seed_len, with_version}
+use Rattle.store_model.specs.Paths.{field_limit, key_len}
 use Rattle.store_model.specs.Trees.{Tree, empty_tree}
+use Rattle.store_model.specs.Pairs.{Pair, pairs}
 use Rattle.store_model.specs.Labels.{Label}
 use Rattle.store_model.specs.Labels.Lead.{Start, Leader}
 use Rattle.store_model.specs.Draws.{draw_of}
@@ -17,7 +21,11 @@ use Rattle.store_model.specs.Scripts.{lines, replies, tree_after, replies_text}
 
 -- the parameters of `format SLOTS HEIGHT ruler` and 64 zeros
 abbrev pub ruler : ℕ → ℕ → Parameters
-ruler slots height = record { slots = slots; height = height; kind = Ruler; seed = zeros seed_len }
+ruler slots height = record { slots = slots; height = height; kind = Ruler; seed = zeros seed_len; version = One }
+
+-- and under version 2 of the format
+abbrev pub ruler_two : ℕ → ℕ → Parameters
+ruler_two slots height = with_version (ruler slots height) Two
 
 -- a text of lines, each ended by LF
 abbrev pub text : List String → List ℕ
@@ -27,9 +35,12 @@ text rows = flat_map (λ row. line (codes row)) rows
 abbrev pub output : Parameters → List ℕ → List ℕ
 output p script = replies_text (replies empty_tree (lines script) p)
 
--- the tree, the pages and the table after it
+-- the tree, its pairs, the pages and the table after it
 abbrev pub tree : Parameters → List ℕ → Tree
 tree p script = tree_after empty_tree (lines script) p
+
+abbrev pub pair_list : Parameters → List ℕ → List Pair
+pair_list p script = pairs (tree p script) p
 
 abbrev pub page_list : Parameters → List ℕ → List Page
 page_list p script = pages (tree p script) p
@@ -37,9 +48,17 @@ page_list p script = pages (tree p script) p
 abbrev pub table : Parameters → List ℕ → Table
 table p script = place (draw_of p) (page_list p script)
 
+-- a line that writes bytes to a file, from a place on
+abbrev pub write_line : String → List ℕ → List ℕ
+write_line front bytes = line (codes front ++ encode_lower bytes)
+
 -- the key with these bytes in front
 abbrev pub key_of : List ℕ → List ℕ
 key_of front = zero_filled key_len front
+
+-- the key of a block of the file with this name
+abbrev pub block_key : List ℕ → ℕ → List ℕ
+block_key name block = zero_filled field_limit name ++ to_be_bytes w32 block
 
 abbrev pub start_label : ℕ → ℕ → Label
 start_label level index = record { level = level; lead = Start; index = index }

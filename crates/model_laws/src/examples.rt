@@ -9,3 +9,4 @@ pub mod grammar;
 pub mod ranges;
 pub mod scripts;
 pub mod tables;
+pub mod versions;

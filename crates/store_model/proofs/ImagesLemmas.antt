@@ -1,19 +1,21 @@
 -- The lengths of blocks and images, and that a layout is its own recovery.
-use Rattle.std.proofs.Common.{◌≡◌, ℕ, zero, suc, ◌+◌, ◌-◌, ◌*◌, ◌<◌, ◌≤◌, List, [], ◌∷◌, ◌++◌, Bool, true, false, not, ◌&&◌, Option, Some, None, length, take, drop, get_or, refl, ap, sym, ◌∙◌, subst, if◌then◌else◌, ◌==◌, arith, append_assoc, length-append}
+use Rattle.std.proofs.Common.{◌≡◌, ℕ, zero, suc, ◌+◌, ◌-◌, ◌*◌, ◌<◌, ◌≤◌, List, [], ◌∷◌, ◌++◌, Bool, true, false, not, ◌&&◌, Option, Some, None, length, take, drop, get_or, slice_set, refl, ap, sym, ◌∙◌, subst, if◌then◌else◌, ◌==◌, arith, append_assoc, length-append, length-set}
 use Rattle.std.specs.Int.{w32, to_be_bytes}
 use Rattle.std.specs.List.{flat_map, AllByRecursion}
-use Rattle.std.proofs.lemmas.List.{length-replicate, drop_all, drop-drop, drop_at, take_at, take-append-drop, get_or_at, length-take, length-drop, length-take-le}
+use Rattle.std.proofs.lemmas.List.{length-replicate, set-set, drop_all, drop-drop, drop_at, take_at, take-append-drop, get_or_at, length-take, length-drop, length-take-le}
 use Rattle.std.proofs.lemmas.List.Elements.{All-from_recursion, recursion_from_All}
 use Rattle.std.proofs.lemmas.List.Sorted.{All-permutation}
+use Rattle.store_model.specs.declared.version.Version.{Version}
+use Rattle.store_model.specs.declared.version.Version.TheVariants.{One, Two}
 use Rattle.store_model.specs.Lists.{zeros, zero_filled, numbers_from}
-use Rattle.store_model.specs.Parameters.{Parameters, IsParameters, image_len, shadow_at, table_at}
+use Rattle.store_model.specs.Parameters.{Parameters, IsParameters, with_version, image_len, shadow_at, table_at}
 use Rattle.store_model.specs.Trees.{Tree, IsTree}
 use Rattle.store_model.specs.Draws.{Draw, IsLawful, draw_of}
 use Rattle.store_model.specs.Labels.{Lead, Label, IsLead, IsLabel, lead_bytes, label_bytes}
 use Rattle.store_model.specs.Labels.Lead.{Start, Leader}
 use Rattle.store_model.specs.Pages.{Cell, IsCell, IsCellValue, Page, IsPage, Fits, pages}
 use Rattle.store_model.specs.Placement.{Table, place, pages_in}
-use Rattle.store_model.specs.Images.{header, value_bytes, cell_bytes, page_bytes, slot_bytes, table_bytes, journal_len, layout, bytes_at, is_flag_set, is_marked, recovered_slot, recovered, Represents}
+use Rattle.store_model.specs.Images.{version_byte, header, value_bytes, cell_bytes, page_bytes, slot_bytes, table_bytes, journal_len, layout, bytes_at, is_flag_set, is_marked, viewed_header, recovered_slot, recovered, Represents}
 use Rattle.store_model.proofs.ListsLemmas.{all_weaker}
 use Rattle.store_model.proofs.PagesLemmasSizes.{tree_pages_are_pages}
 use Rattle.store_model.proofs.PlacementLemmas.{length-numbers_from, length-place, IsPermutation-place}
@@ -23,6 +25,22 @@ use Rattle.store_model.proofs.PlacementLemmasDraws.{IsLawful-draw_of}
 pub length-zero_filled : (n : ℕ) (xs : List ℕ) → length xs ≤ n → length (zero_filled n xs) ≡ n
 unfolding zero_filled
 length-zero_filled n xs h = omega (arith, length-append xs (zeros (n - length xs)), length-replicate {A = ℕ} (n - length xs) 0)
+
+-- parameters in their range are so under each version
+pub IsParameters-with_version : (p : Parameters) (version : Version) → IsParameters p → IsParameters (with_version p version)
+IsParameters-with_version p version valid = record {
+  some_slot = valid.some_slot;
+  slots_in_range = valid.slots_in_range;
+  some_level = valid.some_level;
+  height_in_range = valid.height_in_range;
+  seed_length = valid.seed_length;
+  seed_bytes = valid.seed_bytes;
+}
+
+-- the header under a version has its byte, and is else the same
+pub header-with_version : (p : Parameters) (version : Version) → slice_set (header p) 14 (version_byte version) ≡ header (with_version p version)
+unfolding header zero_filled
+header-with_version p version = refl
 
 -- a header is a block
 pub length-header : (p : Parameters) → IsParameters p → length (header p) ≡ 4096
@@ -148,7 +166,7 @@ pub drop_past : (front rest : List ℕ) (n m at : ℕ) → length front ≡ n �
 drop_past front rest n m at h e = ap (λ (k : ℕ). drop k (front ++ rest)) e ∙ sym (drop-drop m n (front ++ rest)) ∙ ap (drop m) (drop_at front rest n h)
 
 -- there are bytes between header and table
-journal_some : (slots : ℕ) → 0 < journal_len slots
+pub journal_some : (slots : ℕ) → 0 < journal_len slots
 unfolding journal_len
 journal_some slots = omega arith
 
@@ -161,6 +179,32 @@ table_at_is slots i = omega arith
 pub not_raised : (m : ℕ) (head rest : List ℕ) → length head ≡ 4096 → 0 < m → is_flag_set (head ++ zeros m ++ rest) ≡ false
 unfolding is_flag_set
 not_raised m head rest h some = ap (λ (b : ℕ). not (b == 0)) (zero_behind 4096 m head rest h some)
+
+-- the header of an image that is not raised is read as it stands
+pub viewed_header-at_rest : (slots : ℕ) (image : List ℕ) → is_flag_set image ≡ false → viewed_header slots image ≡ take 4096 image
+unfolding viewed_header
+viewed_header-at_rest slots image rest = ap (λ (b : Bool). if b && is_marked image slots then slice_set (take 4096 image) 14 2 else take 4096 image) rest
+
+-- so is that of an image with zeros behind its header
+pub viewed_header-of_areas : (slots : ℕ) (head table : List ℕ) → length head ≡ 4096 → viewed_header slots (head ++ zeros (journal_len slots) ++ table) ≡ head
+viewed_header-of_areas slots head table h =
+    viewed_header-at_rest slots (head ++ zeros (journal_len slots) ++ table) (not_raised (journal_len slots) head table h (journal_some slots)) ∙ take_head 4096 (journal_len slots) head table h
+
+-- where the flag and the mark behind the last slot's are set, a header of any version is read as that of version 2
+pub viewed_header-upgraded : (image : List ℕ) (p : Parameters) (byte : ℕ) → is_flag_set image ≡ true → is_marked image p.slots ≡ true → take 4096 image ≡ slice_set (header p) 14 byte → viewed_header p.slots image ≡ header (with_version p Two)
+unfolding viewed_header
+viewed_header-upgraded image p byte set marked e =
+    (λ i. if set i && marked i then slice_set (take 4096 image) 14 2 else take 4096 image)
+    ∙ ap (λ (head : List ℕ). slice_set head 14 2) e ∙ set-set (header p) 14 byte 2 ∙ header-with_version p Two
+
+-- however it is read, a header is a block
+pub length-viewed_header : (slots : ℕ) (image : List ℕ) → 4096 ≤ length image → length (viewed_header slots image) ≡ 4096
+unfolding viewed_header
+length-viewed_header slots image h = either (is_flag_set image && is_marked image slots)
+  where
+    either : (b : Bool) → length (if b then slice_set (take 4096 image) 14 2 else take 4096 image) ≡ 4096
+    either true = length-set (take 4096 image) 14 2 ∙ length-take-le 4096 image h
+    either false = length-take-le 4096 image h
 
 -- recovery of an image that is not raised leaves each slot as it is
 pub recovered_slot-at_rest : (slots : ℕ) (image : List ℕ) (i : ℕ) → is_flag_set image ≡ false → recovered_slot slots image i ≡ bytes_at image (table_at slots i) 4096
@@ -181,7 +225,7 @@ slot_of_table slots head table i h =
 pub recovered-at_rest : (slots : ℕ) (head table : List ℕ) → length head ≡ 4096 → length table ≡ 4096 * slots → recovered slots (head ++ zeros (journal_len slots) ++ table) ≡ head ++ zeros (journal_len slots) ++ table
 unfolding recovered
 recovered-at_rest slots head table h t =
-    let front : take 4096 (head ++ zeros (journal_len slots) ++ table) ≡ head = take_head 4096 (journal_len slots) head table h in
+    let front : viewed_header slots (head ++ zeros (journal_len slots) ++ table) ≡ head = viewed_header-of_areas slots head table h in
     let back : flat_map (λ n. take 4096 (drop (4096 * n) table)) (numbers_from 0 slots) ≡ table = runs_join 4096 0 slots table (omega arith) in
     let slots_are : flat_map (recovered_slot slots (head ++ zeros (journal_len slots) ++ table)) (numbers_from 0 slots) ≡ table = (λ i. flat_map (λ n. slot_of_table slots head table n h i) (numbers_from 0 slots)) ∙ back in
     λ i. front i ++ zeros (journal_len slots) ++ slots_are i
@@ -196,10 +240,15 @@ pub header-layout : (t : Tree) (p : Parameters) → IsParameters p → take 4096
 unfolding layout
 header-layout t p is = take_head 4096 (journal_len p.slots) (header p) (table_bytes (place (draw_of p) (pages t p))) (length-header p is)
 
+-- which is read as it stands
+pub viewed_header-layout : (t : Tree) (p : Parameters) → IsParameters p → viewed_header p.slots (layout t p) ≡ header p
+unfolding layout
+viewed_header-layout t p is = viewed_header-of_areas p.slots (header p) (table_bytes (place (draw_of p) (pages t p))) (length-header p is)
+
 -- so a layout represents its tree
-pub Represents-layout : (t : Tree) (p : Parameters) → IsParameters p → IsTree t → Fits t p → Represents (layout t p) t p
-Represents-layout t p is tree fits = record {
-  names = record { in_range = is; header_is = header-layout t p is };
+pub Represents-layout : (t : Tree) (p : Parameters) → IsParameters p → p.version ≡ One → IsTree t → Fits t p → Represents (layout t p) t p
+Represents-layout t p is one tree fits = record {
+  names = record { in_range = is; header_is = viewed_header-layout t p is; served = one };
   length_is = length-layout t p is tree fits;
   tree = tree;
   fits = fits;
@@ -208,7 +257,7 @@ Represents-layout t p is tree fits = record {
 
 -- an image that represents a tree represents it once recovered
 pub Represents-recovered : (image : List ℕ) (t : Tree) (p : Parameters) → Represents image t p → Represents (recovered p.slots image) t p
-Represents-recovered image t p r = subst (λ (x : List ℕ). Represents x t p) (sym r.layout_is) (Represents-layout t p r.names.in_range r.tree r.fits)
+Represents-recovered image t p r = subst (λ (x : List ℕ). Represents x t p) (sym r.layout_is) (Represents-layout t p r.names.in_range r.names.served r.tree r.fits)
 
 -- bytes that lie in an image are as many as are asked for
 length-bytes_at : (image : List ℕ) (at n : ℕ) → at + n ≤ length image → length (bytes_at image at n) ≡ n
@@ -253,10 +302,10 @@ header_in_image slots = omega arith
 -- recovery keeps the length of an image
 pub length-recovered : (slots : ℕ) (image : List ℕ) → length image ≡ image_len slots → length (recovered slots image) ≡ image_len slots
 unfolding recovered
-length-recovered slots image h = length-areas slots (take 4096 image) (flat_map (recovered_slot slots image) (numbers_from 0 slots)) (length-take-le 4096 image (omega (arith, header_in_image slots))) (length-recovered_slots slots image h)
+length-recovered slots image h = length-areas slots (viewed_header slots image) (flat_map (recovered_slot slots image) (numbers_from 0 slots)) (length-viewed_header slots image (omega (arith, header_in_image slots))) (length-recovered_slots slots image h)
 
 -- the areas that recovery leaves
-pub recovered_areas : (slots : ℕ) (image : List ℕ) → recovered slots image ≡ take 4096 image ++ zeros (journal_len slots) ++ flat_map (recovered_slot slots image) (numbers_from 0 slots)
+pub recovered_areas : (slots : ℕ) (image : List ℕ) → recovered slots image ≡ viewed_header slots image ++ zeros (journal_len slots) ++ flat_map (recovered_slot slots image) (numbers_from 0 slots)
 unfolding recovered
 recovered_areas slots image = refl
 
@@ -264,5 +313,5 @@ recovered_areas slots image = refl
 pub recovered-recovered : (slots : ℕ) (image : List ℕ) → length image ≡ image_len slots → recovered slots (recovered slots image) ≡ recovered slots image
 recovered-recovered slots image h =
     ap (recovered slots) (recovered_areas slots image)
-    ∙ recovered-at_rest slots (take 4096 image) (flat_map (recovered_slot slots image) (numbers_from 0 slots)) (length-take-le 4096 image (omega (arith, header_in_image slots))) (length-recovered_slots slots image h)
+    ∙ recovered-at_rest slots (viewed_header slots image) (flat_map (recovered_slot slots image) (numbers_from 0 slots)) (length-viewed_header slots image (omega (arith, header_in_image slots))) (length-recovered_slots slots image h)
     ∙ sym (recovered_areas slots image)

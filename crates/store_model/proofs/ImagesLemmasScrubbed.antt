@@ -1,19 +1,19 @@
 -- What recovery and scrubbing leave in each slot, and that scrubbing twice is scrubbing once.
 use Rattle.std.proofs.Common.{◌≡◌, ne_eqb, ℕ, zero, suc, ◌*◌, ◌<◌, List, [], ◌∷◌, ◌++◌, Bool, true, false, Option, Some, None, length, take, drop, get_or, slice_index, refl, ap, sym, ◌∙◌, if◌then◌else◌, ◌==◌, arith}
 use Rattle.std.specs.List.{flat_map, AllByRecursion}
-use Rattle.std.proofs.lemmas.List.{length-replicate, take_at, length-take-le}
+use Rattle.std.proofs.lemmas.List.{length-replicate, take_at}
 use Rattle.store_model.specs.Lists.{zeros, zero_filled, numbers_below}
 use Rattle.store_model.specs.Parameters.{Parameters, IsParameters, image_len, table_at}
 use Rattle.store_model.specs.Trees.{Tree, IsTree}
 use Rattle.store_model.specs.Draws.{draw_of}
 use Rattle.store_model.specs.Pages.{Page, Fits, pages}
 use Rattle.store_model.specs.Placement.{Table, place}
-use Rattle.store_model.specs.Images.{header, page_bytes, slot_bytes, table_bytes, journal_len, layout, bytes_at, recovered_slot, recovered, scrubbed_block, scrubbed_slot, scrubbed}
+use Rattle.store_model.specs.Images.{header, page_bytes, slot_bytes, table_bytes, journal_len, layout, bytes_at, viewed_header, recovered_slot, recovered, scrubbed_block, scrubbed_slot, scrubbed}
 use Rattle.store_model.proofs.ListsLemmas.{all_weaker, length-numbers_from}
 use Rattle.store_model.proofs.PagesLemmasSizes.{tree_pages_are_pages}
 use Rattle.store_model.proofs.PlacementLemmas.{get_or-numbers_from, length-place}
 use Rattle.store_model.proofs.PlacementLemmasDraws.{IsLawful-draw_of}
-use Rattle.store_model.proofs.ImagesLemmas.{IsSlot, length-header, length-slot_bytes, length-flat_map_same, length-areas, length-recovered_slot, recovered_areas, slots-place, length-place_bytes, drop_past, take_head, runs_join, header_in_image, block_of_table, slot_of_table, AllByRecursion-numbers_from}
+use Rattle.store_model.proofs.ImagesLemmas.{IsSlot, length-header, length-slot_bytes, length-flat_map_same, length-areas, length-recovered_slot, recovered_areas, slots-place, length-place_bytes, drop_past, take_head, runs_join, header_in_image, length-viewed_header, viewed_header-of_areas, block_of_table, slot_of_table, AllByRecursion-numbers_from}
 
 -- block i of pieces of n elements each, one after another
 block_of_flat_map : {X : Type 0} (f : X → List ℕ) (n : ℕ) (xs : List X) (i : ℕ) (d : X) → AllByRecursion (λ x. length (f x) ≡ n) xs → i < length xs → take n (drop (n * i) (flat_map f xs)) ≡ f (get_or xs i d)
@@ -40,23 +40,33 @@ numbered_same : (f g : ℕ → List ℕ) (slots : ℕ) → ((i : ℕ) → i < sl
 numbered_same f g slots same = flat_map_within f g (numbers_below slots) (AllByRecursion-numbers_from (λ i. f i ≡ g i) 0 slots (λ i h. same i (omega arith)))
 
 -- the header is a block of its own
-head_block : (slots : ℕ) (image : List ℕ) → length image ≡ image_len slots → length (take 4096 image) ≡ 4096
-head_block slots image h = length-take-le 4096 image (omega (arith, header_in_image slots))
+head_block : (slots : ℕ) (image : List ℕ) → length image ≡ image_len slots → length (viewed_header slots image) ≡ 4096
+head_block slots image h = length-viewed_header slots image (omega (arith, header_in_image slots))
 
 -- ---- recovery
+
+-- recovery leaves the header as it is read
+pub take-recovered : (slots : ℕ) (image : List ℕ) → length image ≡ image_len slots → take 4096 (recovered slots image) ≡ viewed_header slots image
+take-recovered slots image h =
+    ap (take 4096) (recovered_areas slots image) ∙ take_head 4096 (journal_len slots) (viewed_header slots image) (flat_map (recovered_slot slots image) (numbers_below slots)) (head_block slots image h)
+
+-- and from then on it is read as it stands
+pub viewed_header-recovered : (slots : ℕ) (image : List ℕ) → length image ≡ image_len slots → viewed_header slots (recovered slots image) ≡ viewed_header slots image
+viewed_header-recovered slots image h =
+    ap (viewed_header slots) (recovered_areas slots image) ∙ viewed_header-of_areas slots (viewed_header slots image) (flat_map (recovered_slot slots image) (numbers_below slots)) (head_block slots image h)
 
 -- what recovery leaves in a slot stands in the recovered image
 pub slot_of_recovered : (slots : ℕ) (image : List ℕ) (i : ℕ) → length image ≡ image_len slots → i < slots → bytes_at (recovered slots image) (table_at slots i) 4096 ≡ recovered_slot slots image i
 unfolding recovered
 slot_of_recovered slots image i h within =
-    block_of_table slots (take 4096 image) (flat_map (recovered_slot slots image) (numbers_below slots)) i (head_block slots image h)
+    block_of_table slots (viewed_header slots image) (flat_map (recovered_slot slots image) (numbers_below slots)) i (head_block slots image h)
     ∙ numbered_block (recovered_slot slots image) slots i (λ k lt. length-recovered_slot slots image k h lt) within
 
 -- recovery of what recovery left leaves the same in a slot
 recovered_slot-recovered : (slots : ℕ) (image : List ℕ) (i : ℕ) → length image ≡ image_len slots → i < slots → recovered_slot slots (recovered slots image) i ≡ recovered_slot slots image i
 unfolding recovered
 recovered_slot-recovered slots image i h within =
-    slot_of_table slots (take 4096 image) (flat_map (recovered_slot slots image) (numbers_below slots)) i (head_block slots image h)
+    slot_of_table slots (viewed_header slots image) (flat_map (recovered_slot slots image) (numbers_below slots)) i (head_block slots image h)
     ∙ numbered_block (recovered_slot slots image) slots i (λ k lt. length-recovered_slot slots image k h lt) within
 
 -- ---- scrubbing
@@ -99,21 +109,21 @@ length-scrubbed_slot slots image i h within = length-scrubbed_block (recovered_s
 pub length-scrubbed : (slots : ℕ) (image : List ℕ) → length image ≡ image_len slots → length (scrubbed slots image) ≡ image_len slots
 unfolding scrubbed
 length-scrubbed slots image h =
-    length-areas slots (take 4096 image) (flat_map (scrubbed_slot slots image) (numbers_below slots)) (head_block slots image h)
+    length-areas slots (viewed_header slots image) (flat_map (scrubbed_slot slots image) (numbers_below slots)) (head_block slots image h)
     (length-flat_map_same (scrubbed_slot slots image) 4096 (numbers_below slots) (AllByRecursion-numbers_from (λ i. length (scrubbed_slot slots image i) ≡ 4096) 0 slots (λ i lt. length-scrubbed_slot slots image i h (omega arith))) ∙ ap (λ n. 4096 * n) (length-numbers_from 0 slots))
 
 -- what scrubbing leaves in a slot stands in the scrubbed image
 pub slot_of_scrubbed : (slots : ℕ) (image : List ℕ) (i : ℕ) → length image ≡ image_len slots → i < slots → bytes_at (scrubbed slots image) (table_at slots i) 4096 ≡ scrubbed_slot slots image i
 unfolding scrubbed
 slot_of_scrubbed slots image i h within =
-    block_of_table slots (take 4096 image) (flat_map (scrubbed_slot slots image) (numbers_below slots)) i (head_block slots image h)
+    block_of_table slots (viewed_header slots image) (flat_map (scrubbed_slot slots image) (numbers_below slots)) i (head_block slots image h)
     ∙ numbered_block (scrubbed_slot slots image) slots i (λ k lt. length-scrubbed_slot slots image k h lt) within
 
 -- recovery leaves it so
 recovered_slot-scrubbed : (slots : ℕ) (image : List ℕ) (i : ℕ) → length image ≡ image_len slots → i < slots → recovered_slot slots (scrubbed slots image) i ≡ scrubbed_slot slots image i
 unfolding scrubbed
 recovered_slot-scrubbed slots image i h within =
-    slot_of_table slots (take 4096 image) (flat_map (scrubbed_slot slots image) (numbers_below slots)) i (head_block slots image h)
+    slot_of_table slots (viewed_header slots image) (flat_map (scrubbed_slot slots image) (numbers_below slots)) i (head_block slots image h)
     ∙ numbered_block (scrubbed_slot slots image) slots i (λ k lt. length-scrubbed_slot slots image k h lt) within
 
 -- images with one header and one table are one image
@@ -124,25 +134,30 @@ same_areas slots front head table rest p q = λ i. p i ++ zeros (journal_len slo
 pub scrubbed-recovered : (slots : ℕ) (image : List ℕ) → length image ≡ image_len slots → scrubbed slots (recovered slots image) ≡ scrubbed slots image
 unfolding scrubbed scrubbed_slot
 scrubbed-recovered slots image h =
-    same_areas slots (take 4096 (recovered slots image)) (take 4096 image) _ _
-    (ap (take 4096) (recovered_areas slots image) ∙ take_head 4096 (journal_len slots) (take 4096 image) (flat_map (recovered_slot slots image) (numbers_below slots)) (head_block slots image h))
+    same_areas slots (viewed_header slots (recovered slots image)) (viewed_header slots image) _ _
+    (viewed_header-recovered slots image h)
     (numbered_same (λ i. scrubbed_block (recovered_slot slots (recovered slots image) i)) (λ i. scrubbed_block (recovered_slot slots image i)) slots (λ i within. ap scrubbed_block (recovered_slot-recovered slots image i h within)))
 
 -- the areas that scrubbing leaves
-scrubbed_areas : (slots : ℕ) (image : List ℕ) → scrubbed slots image ≡ take 4096 image ++ zeros (journal_len slots) ++ flat_map (scrubbed_slot slots image) (numbers_below slots)
+scrubbed_areas : (slots : ℕ) (image : List ℕ) → scrubbed slots image ≡ viewed_header slots image ++ zeros (journal_len slots) ++ flat_map (scrubbed_slot slots image) (numbers_below slots)
 unfolding scrubbed
 scrubbed_areas slots image = refl
 
--- the header of a scrubbed image
-take-scrubbed : (slots : ℕ) (image : List ℕ) → length image ≡ image_len slots → take 4096 (scrubbed slots image) ≡ take 4096 image
-take-scrubbed slots image h = ap (take 4096) (scrubbed_areas slots image) ∙ take_head 4096 (journal_len slots) (take 4096 image) (flat_map (scrubbed_slot slots image) (numbers_below slots)) (head_block slots image h)
+-- scrubbing leaves the header as it is read, too
+pub take-scrubbed : (slots : ℕ) (image : List ℕ) → length image ≡ image_len slots → take 4096 (scrubbed slots image) ≡ viewed_header slots image
+take-scrubbed slots image h =
+    ap (take 4096) (scrubbed_areas slots image) ∙ take_head 4096 (journal_len slots) (viewed_header slots image) (flat_map (scrubbed_slot slots image) (numbers_below slots)) (head_block slots image h)
+
+-- and it is read as it stands
+viewed_header-scrubbed : (slots : ℕ) (image : List ℕ) → length image ≡ image_len slots → viewed_header slots (scrubbed slots image) ≡ viewed_header slots image
+viewed_header-scrubbed slots image h = ap (viewed_header slots) (scrubbed_areas slots image) ∙ viewed_header-of_areas slots (viewed_header slots image) (flat_map (scrubbed_slot slots image) (numbers_below slots)) (head_block slots image h)
 
 -- scrubbing twice is scrubbing once
 pub scrubbed-scrubbed : (slots : ℕ) (image : List ℕ) → length image ≡ image_len slots → scrubbed slots (scrubbed slots image) ≡ scrubbed slots image
 unfolding scrubbed_slot
 scrubbed-scrubbed slots image h =
     scrubbed_areas slots (scrubbed slots image)
-    ∙ same_areas slots (take 4096 (scrubbed slots image)) (take 4096 image) _ _ (take-scrubbed slots image h)
+    ∙ same_areas slots (viewed_header slots (scrubbed slots image)) (viewed_header slots image) _ _ (viewed_header-scrubbed slots image h)
     (numbered_same (λ i. scrubbed_block (recovered_slot slots (scrubbed slots image) i)) (λ i. scrubbed_block (recovered_slot slots image i)) slots
     (λ i within. ap scrubbed_block (recovered_slot-scrubbed slots image i h within) ∙ scrubbed_block-twice (recovered_slot slots image i)))
     ∙ sym (scrubbed_areas slots image)
@@ -151,7 +166,7 @@ scrubbed-scrubbed slots image h =
 pub recovered-scrubbed : (slots : ℕ) (image : List ℕ) → length image ≡ image_len slots → recovered slots (scrubbed slots image) ≡ scrubbed slots image
 recovered-scrubbed slots image h =
     recovered_areas slots (scrubbed slots image)
-    ∙ same_areas slots (take 4096 (scrubbed slots image)) (take 4096 image) _ _ (take-scrubbed slots image h)
+    ∙ same_areas slots (viewed_header slots (scrubbed slots image)) (viewed_header slots image) _ _ (viewed_header-scrubbed slots image h)
     (numbered_same (recovered_slot slots (scrubbed slots image)) (scrubbed_slot slots image) slots (λ i within. recovered_slot-scrubbed slots image i h within))
     ∙ sym (scrubbed_areas slots image)
 
@@ -169,7 +184,7 @@ scrubbed_slot-zero slots image i none = ap (λ b. if b == 0 then zeros 4096 else
 pub scrubbed-layout : (t : Tree) (p : Parameters) → IsParameters p → IsTree t → Fits t p → scrubbed p.slots (layout t p) ≡ layout t p
 unfolding layout draw_of scrubbed scrubbed_slot table_bytes
 scrubbed-layout t p is tree fits =
-    same_areas p.slots (take 4096 (header p ++ zeros (journal_len p.slots) ++ bytes)) (header p) _ bytes (take_head 4096 (journal_len p.slots) (header p) bytes (length-header p is))
+    same_areas p.slots (viewed_header p.slots (header p ++ zeros (journal_len p.slots) ++ bytes)) (header p) _ bytes (viewed_header-of_areas p.slots (header p) bytes (length-header p is))
     (numbered_same (λ i. scrubbed_block (recovered_slot p.slots (header p ++ zeros (journal_len p.slots) ++ bytes) i)) (λ i. take 4096 (drop (4096 * i) bytes)) p.slots kept ∙ runs_join 4096 0 p.slots bytes (whole ∙ omega arith))
   where
     table : Table

@@ -24,3 +24,4 @@ pub mod TreesLemmasLayouts
 pub mod TreesLemmasMoves
 pub mod TreesLemmasPaths
 pub mod TreesLemmasSteps
+pub mod TreesLemmasUpgrade

@@ -1,15 +1,19 @@
 -- Lemmas on the pairs of a tree: their keys rise, and have 124 bytes.
-use Rattle.std.proofs.Common.{◌≡◌, ℕ, ◌+◌, ◌<◌, ◌≤◌, List, map, length, refl, ap, ap₂, ◌∙◌, arith, IsTrue, Ordering, Less, Equal, nat_cmp}
+use Rattle.std.proofs.Common.{◌≡◌, ℕ, ◌+◌, ◌<◌, ◌≤◌, Bool, true, false, List, map, length, take, refl, ap, ap₂, ◌∙◌, arith, IsTrue, Ordering, Less, Equal, nat_cmp}
 use Rattle.std.specs.Ordering.{ordering_then}
 use Rattle.std.specs.List.{AllByRecursion, enumerate_from}
 use Rattle.std.specs.List.Sorted.{IsStrictlySortedBy}
 use Rattle.std.specs.FinMap.{is_sorted}
 use Rattle.std.specs.Cmp.{tied_itself}
 use Rattle.std.specs.Cmp.Lexicographic.{nat_list_cmp_total, lists_total}
+use Rattle.std.proofs.lemmas.Bool.{false≢true, leb-true, le-leb}
+use Rattle.std.proofs.lemmas.List.{length-take}
+use Rattle.store_model.specs.declared.version.Version.{Version}
+use Rattle.store_model.specs.declared.version.Version.TheVariants.{One, Two}
 use Rattle.store_model.specs.Lists.{IsBytes, runs}
 use Rattle.store_model.specs.Parameters.{Parameters}
 use Rattle.store_model.specs.Paths.{Path, is_path, key, path_cmp, key_cmp}
-use Rattle.store_model.specs.Pairs.{Pair, file_block, directory_value, file_value, node_pairs, pairs, IsValue, IsPair, IsPairs}
+use Rattle.store_model.specs.Pairs.{Pair, file_block, directory_value, file_value, inline_value, is_inline, file_pairs, node_pairs, pairs, IsValue, IsPair, IsPairs}
 use Rattle.store_model.specs.Trees.{Tree, Node, IsNode, IsEntry, IsTree}
 use Rattle.store_model.specs.Trees.Node.{Directory, File}
 use Rattle.store_model.proofs.ListsLemmas.{all_none, all_weaker, all_with, all_map, all_flat_map, IsBelow, rising_cons, rising_one, rising_map, rising_flat_map, rising_from_is_sorted, is_sorted_from_rising, numbers_in_range, numbers_rise, less_from_nat_cmp, nat_cmp-lt, length-runs, bytes_from_all, all_from_bytes, be_bytes_are_bytes}
@@ -23,6 +27,16 @@ pair_cmp a b = key_cmp a.0 b.0
 -- entries are compared by their paths
 abbrev pub entry_cmp : (Path × Node) → (Path × Node) → Ordering
 entry_cmp a b = path_cmp a.0 b.0
+
+-- a file that a version has in its first pair is short
+pub inline_is_short : (version : Version) (n : ℕ) → is_inline version n ≡ true → n ≤ 200
+inline_is_short One n e = absurd (false≢true e)
+inline_is_short Two n e = leb-true n 200 e
+
+-- and a file that is cut short stands in its first pair where it did
+pub inline_when_cut : (version : Version) (len : ℕ) (bytes : List ℕ) → is_inline version (length bytes) ≡ true → is_inline version (length (take len bytes)) ≡ true
+inline_when_cut One len bytes e = e
+inline_when_cut Two len bytes e = le-leb (length (take len bytes)) 200 (omega (arith, length-take len bytes, leb-true (length bytes) 200 e))
 
 -- the pair is of a block of the path
 IsOfPath : Path → Pair → Type 0
@@ -45,25 +59,36 @@ block_pair path b = (key path b.0, b.1)
 block_count : (bytes : List ℕ) → IsNode (File bytes) → length (runs file_block bytes) < 4294967295
 block_count bytes h = let e = length-runs file_block bytes in let l = h.0 in omega arith
 
--- the pairs of what stands at a path are all of that path
-of_path : (path : Path) (node : Node) (p : Parameters) → IsNode node → AllByRecursion (IsOfPath path) (node_pairs path node p)
-unfolding node_pairs IsOfPath
-of_path path Directory p h = ((0, omega arith, refl), tt)
-of_path path (File bytes) p h =
+-- the pairs of a file are all of its path
+file_of_path : (inline : Bool) (path : Path) (bytes : List ℕ) → IsNode (File bytes) → AllByRecursion (IsOfPath path) (file_pairs inline path bytes)
+unfolding IsOfPath
+file_of_path true path bytes h = ((0, omega arith, refl), tt)
+file_of_path false path bytes h =
     let few = block_count bytes h in
     ((0, omega arith, refl), all_map (λ b. (1 ≤ b.0) × (b.0 < 1 + length (runs file_block bytes))) (IsOfPath path) (block_pair path) (λ b r. (b.0, omega arith, refl)) (enumerate_from 1 (runs file_block bytes)) (numbers_in_range 1 (runs file_block bytes)))
 
--- and they rise by key
-rising_node_pairs : (path : Path) (node : Node) (p : Parameters) → IsTrue (is_path path) → IsNode node → IsStrictlySortedBy pair_cmp (node_pairs path node p)
-unfolding node_pairs
-rising_node_pairs path Directory p h g = rising_one pair_cmp (key path 0, directory_value)
-rising_node_pairs path (File bytes) p h g =
+-- so are those of what stands at a path
+of_path : (path : Path) (node : Node) (p : Parameters) → IsNode node → AllByRecursion (IsOfPath path) (node_pairs path node p)
+unfolding node_pairs IsOfPath
+of_path path Directory p h = ((0, omega arith, refl), tt)
+of_path path (File bytes) p h = file_of_path (is_inline p.version (length bytes)) path bytes h
+
+-- the pairs of a file rise by key
+rising_file_pairs : (inline : Bool) (path : Path) (bytes : List ℕ) → IsTrue (is_path path) → IsNode (File bytes) → IsStrictlySortedBy pair_cmp (file_pairs inline path bytes)
+rising_file_pairs true path bytes h g = rising_one pair_cmp (key path 0, inline_value bytes)
+rising_file_pairs false path bytes h g =
     let few = block_count bytes g in
     let IsNumber : ℕ × List ℕ → Type 0 = λ b. (1 ≤ b.0) × (b.0 < 1 + length (runs file_block bytes)) in
     let numbered : AllByRecursion IsNumber (enumerate_from 1 (runs file_block bytes)) = numbers_in_range 1 (runs file_block bytes) in
     rising_cons pair_cmp (key path 0, file_value (length bytes)) (map (block_pair path) (enumerate_from 1 (runs file_block bytes)))
     (all_map IsNumber (λ pair. key_cmp (key path 0) pair.0 ≡ Less) (block_pair path) (λ b r. rising_blocks path 0 b.0 h (omega arith) (omega arith) (omega arith)) (enumerate_from 1 (runs file_block bytes)) numbered)
     (rising_map (λ a b. nat_cmp a.0 b.0) pair_cmp (block_pair path) IsNumber (λ a b q r l. rising_blocks path a.0 b.0 h (omega arith) (omega arith) (less_from_nat_cmp a.0 b.0 l)) (enumerate_from 1 (runs file_block bytes)) numbered (numbers_rise 1 (runs file_block bytes)))
+
+-- so do those of what stands at a path
+rising_node_pairs : (path : Path) (node : Node) (p : Parameters) → IsTrue (is_path path) → IsNode node → IsStrictlySortedBy pair_cmp (node_pairs path node p)
+unfolding node_pairs
+rising_node_pairs path Directory p h g = rising_one pair_cmp (key path 0, directory_value)
+rising_node_pairs path (File bytes) p h g = rising_file_pairs (is_inline p.version (length bytes)) path bytes h g
 
 -- pairs of a path stand below those of a path behind it
 below_paths : (q r : Path) (xs ys : List Pair) → IsTrue (is_path q) → IsTrue (is_path r) → path_cmp q r ≡ Less → AllByRecursion (IsOfPath q) xs → AllByRecursion (IsOfPath r) ys
@@ -104,21 +129,30 @@ directory_value_is_value = (omega arith, omega arith, bytes_from_all directory_v
 file_value_is_value : (n : ℕ) → IsValue (file_value n)
 file_value_is_value n = (omega arith, omega arith, bytes_from_all (file_value n) (omega arith, be_bytes_are_bytes n))
 
+-- so is one that has the bytes of a short file
+inline_value_is_value : (bytes : List ℕ) → length bytes ≤ 200 → IsBytes bytes → IsValue (inline_value bytes)
+inline_value_is_value bytes short h = (omega arith, omega arith, bytes_from_all (inline_value bytes) (omega arith, all_from_bytes bytes h))
+
 -- the blocks of a file are values
 blocks_are_values : (bytes : List ℕ) → IsBytes bytes → AllByRecursion IsValue (runs file_block bytes)
 blocks_are_values bytes h =
     all_with _ _ _ (λ run l b. (l.0, l.1, bytes_from_all run b)) (runs file_block bytes) (lengths_of_runs file_block bytes (omega arith))
     (all_runs (λ c. c < 256) file_block bytes (omega arith) (all_from_bytes bytes h))
 
--- the pairs of what stands at a path
-node_pairs_are_pairs : (path : Path) (node : Node) (p : Parameters) → IsTrue (is_path path) → IsNode node → AllByRecursion IsPair (node_pairs path node p)
-unfolding node_pairs
-node_pairs_are_pairs path Directory p h g = (key_pair path 0 directory_value h directory_value_is_value, tt)
-node_pairs_are_pairs path (File bytes) p h g = (
+-- the pairs of a file
+file_pairs_are_pairs : (inline : Bool) (path : Path) (bytes : List ℕ) → (inline ≡ true → length bytes ≤ 200) → IsTrue (is_path path) → IsNode (File bytes) → AllByRecursion IsPair (file_pairs inline path bytes)
+file_pairs_are_pairs true path bytes short h g = (key_pair path 0 (inline_value bytes) h (inline_value_is_value bytes (short refl) g.1), tt)
+file_pairs_are_pairs false path bytes short h g = (
   key_pair path 0 (file_value (length bytes)) h (file_value_is_value (length bytes)),
   all_map (λ b. IsValue b.1) IsPair (block_pair path) (λ b v. key_pair path b.0 b.1 h v) (enumerate_from 1 (runs file_block bytes))
       (all_enumerate_from IsValue 1 (runs file_block bytes) (blocks_are_values bytes g.1)),
 )
+
+-- the pairs of what stands at a path
+node_pairs_are_pairs : (path : Path) (node : Node) (p : Parameters) → IsTrue (is_path path) → IsNode node → AllByRecursion IsPair (node_pairs path node p)
+unfolding node_pairs
+node_pairs_are_pairs path Directory p h g = (key_pair path 0 directory_value h directory_value_is_value, tt)
+node_pairs_are_pairs path (File bytes) p h g = file_pairs_are_pairs (is_inline p.version (length bytes)) path bytes (inline_is_short p.version (length bytes)) h g
 
 -- the pairs of a tree
 pub pairs_are_pairs : (t : Tree) (p : Parameters) → IsTree t → IsPairs (pairs t p)

@@ -1,11 +1,13 @@
 -- Lemmas on the bytes of an image: they tell parameters, pages and tables apart.
-use Rattle.std.proofs.Common.{◌≡◌, ℕ, zero, suc, ◌-◌, ◌<◌, List, [], ◌∷◌, ◌++◌, length, take, drop, slice_index, Option, Some, None, refl, sym, ap, ap₂, subst, ◌∙◌, arith}
+use Rattle.std.proofs.Common.{◌≡◌, ℕ, zero, suc, ◌-◌, ◌<◌, List, [], ◌∷◌, ◌++◌, length, take, drop, slice_index, slice_set, Bool, true, false, ◌&&◌, if◌then◌else◌, Option, Some, None, refl, sym, ap, ap₂, subst, ◌∙◌, arith}
 use Rattle.std.specs.Int.{w16, w32, to_be_bytes, from_be_bytes}
 use Rattle.std.specs.List.{AllByRecursion, flat_map}
 use Rattle.std.proofs.lemmas.Nat.{from_be_bytes-to_be_bytes_2, from_be_bytes-to_be_bytes_4}
-use Rattle.std.proofs.lemmas.List.{append_assoc}
+use Rattle.std.proofs.lemmas.List.{append_assoc, drop-set-add, take-set-le}
 use Rattle.store_model.specs.declared.draw_kind.DrawKind.{DrawKind}
 use Rattle.store_model.specs.declared.draw_kind.DrawKind.TheVariants.{Ruler, Sha256}
+use Rattle.store_model.specs.declared.version.Version.{Version}
+use Rattle.store_model.specs.declared.version.Version.TheVariants.{One, Two}
 use Rattle.store_model.specs.Lists.{zeros, zero_filled}
 use Rattle.store_model.specs.Parameters.{Parameters, IsParameters}
 use Rattle.store_model.specs.Pairs.{IsValue}
@@ -13,7 +15,7 @@ use Rattle.store_model.specs.Labels.{Lead, Label, IsLabel, lead_bytes, label_byt
 use Rattle.store_model.specs.Labels.Lead.{Start, Leader}
 use Rattle.store_model.specs.Pages.{Cell, Page, IsCellValue, IsCell, IsPage}
 use Rattle.store_model.specs.Placement.{Table}
-use Rattle.store_model.specs.Images.{kind_byte, header, value_bytes, cell_bytes, page_bytes, slot_bytes, table_bytes}
+use Rattle.store_model.specs.Images.{kind_byte, version_byte, header, value_bytes, cell_bytes, page_bytes, slot_bytes, table_bytes, is_flag_set, is_marked, viewed_header}
 use Rattle.store_model.proofs.ImagesLemmas.{length-lead_bytes, length-label_bytes, IsSlot, length-slot_bytes}
 
 -- ---- lists that start alike
@@ -54,6 +56,13 @@ kinds_same Ruler Sha256 e = absurd (omega arith)
 kinds_same Sha256 Ruler e = absurd (omega arith)
 kinds_same Sha256 Sha256 e = refl
 
+-- the byte of a version tells it
+versions_same : (a b : Version) → version_byte a ≡ version_byte b → a ≡ b
+versions_same One One e = refl
+versions_same One Two e = absurd (omega arith)
+versions_same Two One e = absurd (omega arith)
+versions_same Two Two e = refl
+
 -- the header tells the parameters
 pub headers_same : (p q : Parameters) → IsParameters p → IsParameters q → header p ≡ header q → p ≡ q
 unfolding header zero_filled
@@ -61,8 +70,29 @@ headers_same p q h g e =
     let slots : p.slots ≡ q.slots = four_bytes_same p.slots q.slots (let l = h.slots_in_range in omega arith) (let l = g.slots_in_range in omega arith) (ap (λ xs. take 4 (drop 8 xs)) e) in
     let height : p.height ≡ q.height = ap (λ xs. slice_index xs 12) e in
     let kind : p.kind ≡ q.kind = kinds_same p.kind q.kind (ap (λ xs. slice_index xs 13) e) in
+    let version : p.version ≡ q.version = versions_same p.version q.version (ap (λ xs. slice_index xs 14) e) in
     let seed : p.seed ≡ q.seed = (fronts_same p.seed q.seed _ _ (h.seed_length ∙ sym g.seed_length) (ap (drop 16) e)).0 in
-    λ i. record { slots = slots i; height = height i; kind = kind i; seed = seed i }
+    λ i. record { slots = slots i; height = height i; kind = kind i; seed = seed i; version = version i }
+
+-- the slots stand in a header as it is read where they stand in the image
+slots_of_viewed : (slots : ℕ) (image : List ℕ) → take 4 (drop 8 (viewed_header slots image)) ≡ take 4 (drop 8 (take 4096 image))
+unfolding viewed_header
+slots_of_viewed slots image = either (is_flag_set image && is_marked image slots)
+  where
+    either : (b : Bool) → take 4 (drop 8 (if b then slice_set (take 4096 image) 14 2 else take 4096 image)) ≡ take 4 (drop 8 (take 4096 image))
+    either true = ap (take 4) (drop-set-add 8 (take 4096 image) 6 2) ∙ take-set-le 4 (drop 8 (take 4096 image)) 6 2 (omega arith)
+    either false = refl
+
+-- so parameters that it is the header of have one number of slots
+viewed_slots_same : (image : List ℕ) (p q : Parameters) → IsParameters p → IsParameters q → viewed_header p.slots image ≡ header p → viewed_header q.slots image ≡ header q → p.slots ≡ q.slots
+unfolding header zero_filled
+viewed_slots_same image p q h g of_p of_q =
+    four_bytes_same p.slots q.slots (let l = h.slots_in_range in omega arith) (let l = g.slots_in_range in omega arith)
+    (ap (λ xs. take 4 (drop 8 xs)) (sym of_p) ∙ slots_of_viewed p.slots image ∙ sym (slots_of_viewed q.slots image) ∙ ap (λ xs. take 4 (drop 8 xs)) of_q)
+
+-- and are the same
+pub viewed_headers_same : (image : List ℕ) (p q : Parameters) → IsParameters p → IsParameters q → viewed_header p.slots image ≡ header p → viewed_header q.slots image ≡ header q → p ≡ q
+viewed_headers_same image p q h g of_p of_q = headers_same p q h g (sym of_p ∙ ap (λ n. viewed_header n image) (viewed_slots_same image p q h g of_p of_q) ∙ of_q)
 
 -- ---- labels
 

@@ -5,7 +5,7 @@ use Rattle.std.specs.List.{filter, flat_map, enumerate_from}
 use Rattle.std.specs.List.Sorted.{IsStrictlySortedBy}
 use Rattle.std.specs.FinMap.{find, put}
 use Rattle.std.specs.FinMap.Entries.{by_order}
-use Rattle.std.proofs.lemmas.Bool.{and_cases, not-false, cond_both}
+use Rattle.std.proofs.lemmas.Bool.{false≢true, and_cases, not-false, cond_both}
 use Rattle.std.proofs.lemmas.List.{map-append, length-take}
 use Rattle.store_model.specs.declared.refusal.Refusal.{Refusal}
 use Rattle.store_model.specs.Lists.{runs, cut_before, numbers_below}
@@ -13,7 +13,7 @@ use Rattle.store_model.specs.Parameters.{Parameters}
 use Rattle.store_model.specs.Paths.{Path, path_cmp, same_path, is_at_or_inside, key}
 use Rattle.store_model.specs.Trees.{Tree, empty_tree, Node, IsTree, is_directory, is_directory_node, exists, contents, contents_of, with_node, without, without_subtree}
 use Rattle.store_model.specs.Trees.Node.{Directory, File}
-use Rattle.store_model.specs.Pairs.{Pair, file_block, node_pairs, pairs}
+use Rattle.store_model.specs.Pairs.{Pair, file_block, is_inline, file_pairs, node_pairs, pairs}
 use Rattle.store_model.specs.Draws.{Draw, draw_of}
 use Rattle.store_model.specs.Pages.{level_list, groups, level_pages, pages_of_pairs, page_count, Fits, pages}
 use Rattle.store_model.specs.Commands.{Command}
@@ -22,7 +22,7 @@ use Rattle.store_model.specs.Steps.{Step, conditions, refusal_of, next_tree, may
 use Rattle.store_model.specs.Grammar.{parse}
 use Rattle.store_model.specs.Scripts.{line_limit, answer, answer_by, tree_after}
 use Rattle.store_model.proofs.ListsLemmas.{length-runs, rising_head, rising_tail, rising_from_is_sorted}
-use Rattle.store_model.proofs.PairsLemmas.{entry_cmp}
+use Rattle.store_model.proofs.PairsLemmas.{entry_cmp, inline_when_cut}
 use Rattle.store_model.proofs.TreesLemmasPaths.{path_cmp_total, same_from_tie}
 use Rattle.store_model.proofs.TreesLemmasFewer.{IsThinned, thinned_self, thinned_nil, thinned_append, keys_of, pages_of_thinned, not_below_first}
 use Rattle.store_model.proofs.TreesLemmasSteps.{AllFail, all_fail, IsTree-answer, tree_by_keeps}
@@ -30,7 +30,7 @@ use Rattle.store_model.proofs.TreesLemmasSteps.{AllFail, all_fail, IsTree-answer
 -- ---- the pairs of a tree with something left out
 
 -- the keys of two lists of pairs in a row
-thinned_pairs : (r s u v : List Pair) → IsThinned (keys_of r) (keys_of s) → IsThinned (keys_of u) (keys_of v) → IsThinned (keys_of (r ++ u)) (keys_of (s ++ v))
+pub thinned_pairs : (r s u v : List Pair) → IsThinned (keys_of r) (keys_of s) → IsThinned (keys_of u) (keys_of v) → IsThinned (keys_of (r ++ u)) (keys_of (s ++ v))
 thinned_pairs r s u v h g =
     subst (λ ks. IsThinned ks (keys_of (s ++ v))) (sym (map-append (λ pair. pair.0) r u))
     (subst (IsThinned (keys_of r ++ keys_of u)) (sym (map-append (λ pair. pair.0) s v)) (thinned_append (keys_of r) (keys_of u) (keys_of s) (keys_of v) h g))
@@ -76,11 +76,19 @@ thinned_blocks path n (x ∷ xs) (y ∷ ys) l = inr (keys_of (map (λ b. (key pa
 fewer_blocks : (len : ℕ) (bytes : List ℕ) → length (runs file_block (take len bytes)) ≤ length (runs file_block bytes)
 fewer_blocks len bytes = omega (arith, length-runs file_block (take len bytes), length-runs file_block bytes, length-take len bytes)
 
--- so the keys of its pairs are fewer
+-- so the keys of its pairs are fewer: it stands in its first pair alone where the longer one did
+thinned_file : (c d : Bool) (path : Path) (len : ℕ) (bytes : List ℕ) → (d ≡ true → c ≡ true) → IsThinned (keys_of (file_pairs c path (take len bytes))) (keys_of (file_pairs d path bytes))
+thinned_file true true path len bytes shorter = inr ([], refl, refl)
+thinned_file true false path len bytes shorter = inr ([], refl, thinned_nil (keys_of (map (λ b. (key path b.0, b.1)) (enumerate_from 1 (runs file_block bytes)))))
+thinned_file false true path len bytes shorter = absurd (false≢true (shorter refl))
+thinned_file false false path len bytes shorter =
+    inr (keys_of (map (λ b. (key path b.0, b.1)) (enumerate_from 1 (runs file_block (take len bytes)))), refl, thinned_blocks path 1 (runs file_block (take len bytes)) (runs file_block bytes) (fewer_blocks len bytes))
+
+-- under each version
 thinned_cut : (path : Path) (len : ℕ) (bytes : List ℕ) (p : Parameters) → IsThinned (keys_of (node_pairs path (File (take len bytes)) p)) (keys_of (node_pairs path (File bytes) p))
 unfolding node_pairs
 thinned_cut path len bytes p =
-    inr (keys_of (map (λ b. (key path b.0, b.1)) (enumerate_from 1 (runs file_block (take len bytes)))), refl, thinned_blocks path 1 (runs file_block (take len bytes)) (runs file_block bytes) (fewer_blocks len bytes))
+    thinned_file (is_inline p.version (length (take len bytes))) (is_inline p.version (length bytes)) path len bytes (inline_when_cut p.version len bytes)
 
 -- ---- the commands that need no new pages
 

@@ -14,7 +14,7 @@ use Rattle.store_model.specs.Parameters.{Parameters, IsParameters}
 use Rattle.store_model.specs.Paths.{Path, is_path, path_cmp, key, key_cmp}
 use Rattle.store_model.specs.Trees.{Tree, Node, file_limit, IsNode, IsEntry, IsTree}
 use Rattle.store_model.specs.Trees.Node.{Directory, File}
-use Rattle.store_model.specs.Pairs.{Pair, file_block, file_value, node_pairs, pairs}
+use Rattle.store_model.specs.Pairs.{Pair, file_block, file_value, is_inline, file_pairs, node_pairs, pairs}
 use Rattle.store_model.specs.Draws.{Draw, IsLawful, draw_of}
 use Rattle.store_model.specs.Pages.{Cell, Page, cell_on, lead_of, groups, group_pages, level_pages, pages_of_pairs, page_room, Fits, pages}
 use Rattle.store_model.specs.Placement.{place, pages_in, page_cmp}
@@ -31,7 +31,7 @@ use Rattle.store_model.proofs.PlacementLemmasOrder.{page_cmp_total}
 use Rattle.store_model.proofs.PlacementLemmasDraws.{IsLawful-draw_of}
 use Rattle.store_model.proofs.ImagesLemmas.{header-layout, slots-place}
 use Rattle.store_model.proofs.TreesLemmasPaths.{same_from_tie}
-use Rattle.store_model.proofs.TreesLemmasBytes.{fronts_same, heads_same, tails_same, four_bytes_same, headers_same, tables_same}
+use Rattle.store_model.proofs.TreesLemmasBytes.{fronts_same, heads_same, tails_same, four_bytes_same, headers_same, viewed_headers_same, tables_same}
 
 -- lists of pages that rise and have one table are the same
 pub same_placement : (d : Draw) (ps qs : List Page) → IsLawful d → length ps ≤ d.slots → length qs ≤ d.slots → IsStrictlySortedBy page_cmp ps → IsStrictlySortedBy page_cmp qs → place d ps ≡ place d qs → ps ≡ qs
@@ -136,22 +136,42 @@ files_same x y a b u v la lb first e =
 pub pair_parts : {p q : Pair} → p ≡ q → (p.0 ≡ q.0) × (p.1 ≡ q.1)
 pair_parts e = (ap (λ (p : Pair). p.0) e, ap (λ (p : Pair). p.1) e)
 
+-- the pairs of files tell them, in front of other pairs: those that stand in their first pair, and those that have blocks
+file_pairs_same : (c d : Bool) (x y : Path) (a b : List ℕ) (u v : List Pair) → IsTrue (is_path x) → IsTrue (is_path y) → length a ≤ file_limit → length b ≤ file_limit → file_pairs c x a ++ u ≡ file_pairs d y b ++ v → (x ≡ y) × (a ≡ b) × (u ≡ v)
+file_pairs_same true true x y a b u v hx hy la lb e = let first = pair_parts (heads_same e) in (keys_tell_paths x y hx hy first.0, tails_same first.1, tails_same e)
+file_pairs_same true false x y a b u v hx hy la lb e = let first : ◌≡◌ {A = ℕ} 3 2 = heads_same (pair_parts (heads_same e)).1 in absurd (omega arith)
+file_pairs_same false true x y a b u v hx hy la lb e = let first : ◌≡◌ {A = ℕ} 2 3 = heads_same (pair_parts (heads_same e)).1 in absurd (omega arith)
+file_pairs_same false false x y a b u v hx hy la lb e =
+    let first = pair_parts (heads_same e) in
+    let rest = files_same x y a b u v la lb first.1 (tails_same e) in
+    (keys_tell_paths x y hx hy first.0, rest.0, rest.1)
+
+-- they are not those of a directory
+not_of_a_file : (c : Bool) (x y : Path) (b : List ℕ) (p : Parameters) (u v : List Pair) → node_pairs x Directory p ++ u ≡ file_pairs c y b ++ v → ⊥
+unfolding node_pairs
+not_of_a_file true x y b p u v e = let first : ◌≡◌ {A = ℕ} 1 3 = heads_same (pair_parts (heads_same e)).1 in omega arith
+not_of_a_file false x y b p u v e = let first : ◌≡◌ {A = ℕ} 1 2 = heads_same (pair_parts (heads_same e)).1 in omega arith
+
 -- the pairs of what stands at a path tell it, in front of other pairs
 pub nodes_same : (x y : Path) (a b : Node) (p : Parameters) (u v : List Pair) → IsTrue (is_path x) → IsTrue (is_path y) → IsNode a → IsNode b → node_pairs x a p ++ u ≡ node_pairs y b p ++ v → (x ≡ y) × (a ≡ b) × (u ≡ v)
 unfolding node_pairs
 nodes_same x y Directory Directory p u v hx hy ha hb e = (keys_tell_paths x y hx hy (pair_parts (heads_same e)).0, refl, tails_same e)
-nodes_same x y Directory (File b) p u v hx hy ha hb e = let first : ◌≡◌ {A = ℕ} 1 2 = heads_same (pair_parts (heads_same e)).1 in absurd (omega arith)
-nodes_same x y (File a) Directory p u v hx hy ha hb e = let first : ◌≡◌ {A = ℕ} 2 1 = heads_same (pair_parts (heads_same e)).1 in absurd (omega arith)
+nodes_same x y Directory (File b) p u v hx hy ha hb e = absurd (not_of_a_file (is_inline p.version (length b)) x y b p u v e)
+nodes_same x y (File a) Directory p u v hx hy ha hb e = absurd (not_of_a_file (is_inline p.version (length a)) y x a p v u (sym e))
 nodes_same x y (File a) (File b) p u v hx hy ha hb e =
-    let first = pair_parts (heads_same e) in
-    let rest = files_same x y a b u v ha.0 hb.0 first.1 (tails_same e) in
-    (keys_tell_paths x y hx hy first.0, ap File rest.0, rest.1)
+    let same = file_pairs_same (is_inline p.version (length a)) (is_inline p.version (length b)) x y a b u v hx hy ha.0 hb.0 e in
+    (same.0, ap File same.1, same.2)
 
--- there is a pair of what stands at a path
+-- there is a pair of a file
+some_file_pair : (c : Bool) (x : Path) (bytes : List ℕ) (u : List Pair) → [] ≡ file_pairs c x bytes ++ u → ⊥
+some_file_pair true x bytes u e = cc
+some_file_pair false x bytes u e = cc
+
+-- and of what stands at a path
 pub some_pair : (x : Path) (a : Node) (p : Parameters) (u : List Pair) → [] ≡ node_pairs x a p ++ u → ⊥
 unfolding node_pairs
 some_pair x Directory p u e = cc
-some_pair x (File bytes) p u e = cc
+some_pair x (File bytes) p u e = some_file_pair (is_inline p.version (length bytes)) x bytes u e
 
 -- the pairs of entries tell them
 entries_same : (t u : Tree) (p : Parameters) → AllByRecursion (λ e. IsTrue (is_path e.0) × IsNode e.1) t → AllByRecursion (λ e. IsTrue (is_path e.0) × IsNode e.1) u → pairs t p ≡ pairs u p → t ≡ u
@@ -195,5 +215,5 @@ layouts_tell t u p q hp hq ht hu ft fu e =
 -- an image tells the tree that it represents, and its parameters
 pub images_tell : (image : List ℕ) (t u : Tree) (p q : Parameters) → Represents image t p → Represents image u q → (t ≡ u) × (p ≡ q)
 images_tell image t u p q h g =
-    let same : p ≡ q = headers_same p q h.names.in_range g.names.in_range (sym h.names.header_is ∙ g.names.header_is) in
+    let same : p ≡ q = viewed_headers_same image p q h.names.in_range g.names.in_range h.names.header_is g.names.header_is in
     layouts_tell t u p q h.names.in_range g.names.in_range h.tree g.tree h.fits g.fits (sym h.layout_is ∙ ap (λ (r : Parameters). recovered r.slots image) same ∙ g.layout_is)

@@ -1,8 +1,10 @@
 -- The list of pairs that spells a tree: the list layer's view of it.
-use Rattle.std.specs.Prelude.{◌≡◌, ℕ, ◌≤◌, IsTrue, List, [], ◌∷◌, map, length}
+use Rattle.std.specs.Prelude.{◌≡◌, ℕ, ◌≤◌, nat_le, IsTrue, Bool, true, false, List, [], ◌∷◌, map, length}
 use Rattle.std.specs.Int.{w32, to_be_bytes}
 use Rattle.std.specs.List.{flat_map, enumerate_from, AllByRecursion}
 use Rattle.std.specs.FinMap.{is_sorted}
+use Rattle.store_model.specs.declared.version.Version.{Version}
+use Rattle.store_model.specs.declared.version.Version.TheVariants.{One, Two}
 use Rattle.store_model.specs.Lists.{IsBytes, runs}
 use Rattle.store_model.specs.Parameters.{Parameters}
 use Rattle.store_model.specs.Paths.{Path, key_len, key, key_cmp}
@@ -21,17 +23,35 @@ value_limit = 256
 abbrev pub file_block : ℕ
 file_block = value_limit
 
--- the value of a directory's one pair, and of the first pair of a file with n bytes
+-- the value of a directory's one pair, and of the first of the pairs that a file of n bytes has where its bytes stand in
+-- blocks
 abbrev pub directory_value : List ℕ
 directory_value = 1 ∷ []
 
 abbrev pub file_value : ℕ → List ℕ
 file_value n = 2 ∷ to_be_bytes w32 n
 
--- the pairs of what stands at a path. The blocks of a file are numbered from 1
+-- the longest file whose bytes version 2 has in its first pair, and that pair's value
+abbrev pub inline_limit : ℕ
+inline_limit = 200
+
+abbrev pub inline_value : List ℕ → List ℕ
+inline_value bytes = 3 ∷ bytes
+
+-- whether a version has a file of n bytes in its first pair
+abbrev pub is_inline : Version → ℕ → Bool
+is_inline One n = false
+is_inline Two n = nat_le n inline_limit
+
+-- the pairs of a file: its first pair alone, or behind it the blocks of its bytes, numbered from 1
+abbrev pub file_pairs : Bool → Path → List ℕ → List Pair
+file_pairs true path bytes = (key path 0, inline_value bytes) ∷ []
+file_pairs false path bytes = (key path 0, file_value (length bytes)) ∷ map (λ b. (key path b.0, b.1)) (enumerate_from 1 (runs file_block bytes))
+
+-- the pairs of what stands at a path
 unfoldable pub node_pairs : Path → Node → Parameters → List Pair
 node_pairs path Directory p = (key path 0, directory_value) ∷ []
-node_pairs path (File bytes) p = (key path 0, file_value (length bytes)) ∷ map (λ b. (key path b.0, b.1)) (enumerate_from 1 (runs file_block bytes))
+node_pairs path (File bytes) p = file_pairs (is_inline p.version (length bytes)) path bytes
 
 -- the pairs of a tree, path after path. They rise by key, since paths and keys have one order
 unfoldable pub pairs : Tree → Parameters → List Pair

@@ -1,14 +1,17 @@
 -- What an image is made with, and where its areas lie.
 use Rattle.std.specs.Prelude.{◌≡◌, ℕ, ◌+◌, ◌-◌, ◌*◌, ◌/◌, ◌≤◌, List, length}
 use Rattle.store_model.specs.declared.draw_kind.DrawKind.{DrawKind}
+use Rattle.store_model.specs.declared.version.Version.{Version}
 use Rattle.store_model.specs.Lists.{IsBytes}
 
--- the number of table slots, the height of the lists, how starts and levels are drawn, and the seed
+-- the number of table slots, the height of the lists, how starts and levels are drawn, the seed, and the version of the
+-- format
 pub record Parameters : Type 0 where
   pub slots : ℕ
   pub height : ℕ
   pub kind : DrawKind
   pub seed : List ℕ
+  pub version : Version
 
 -- the most slots, the greatest height, and the length of a seed
 abbrev pub slots_limit : ℕ
@@ -29,11 +32,15 @@ pub record IsParameters (p : Parameters) : Type 0 where
   pub seed_length : length p.seed ≡ seed_len
   pub seed_bytes : IsBytes p.seed
 
+-- the same parameters under a version of the format
+abbrev pub with_version : Parameters → Version → Parameters
+with_version p version = record p { version = version }
+
 -- the bytes of a block, and of a slot
 abbrev pub block_len : ℕ
 block_len = 4096
 
--- the blocks of the marks area: a byte for each slot and one that is reserved
+-- the blocks of the marks area: a byte for each slot and one for the version
 unfoldable pub mark_blocks : ℕ → ℕ
 mark_blocks slots = (slots + 1 + (block_len - 1)) / block_len
 

@@ -3,6 +3,7 @@ use Rattle.std.specs.Prelude.{ℕ, ◌*◌, List, [], ◌∷◌, length, ◌&&�
 use Rattle.hex.specs.Hex.{decode_of}
 use Rattle.store_model.specs.declared.draw_kind.DrawKind.{DrawKind}
 use Rattle.store_model.specs.declared.draw_kind.DrawKind.TheVariants.{Ruler, Sha256}
+use Rattle.store_model.specs.declared.version.Version.TheVariants.{One}
 use Rattle.store_model.specs.Lists.{same_bytes}
 use Rattle.store_model.specs.Parameters.{Parameters, slots_limit, height_limit, seed_len}
 use Rattle.store_model.specs.Grammar.{number_of, ok_value, ◌>>=◌, on_word}
@@ -45,5 +46,5 @@ request_of (w ∷ number ∷ count ∷ []) =
 request_of (w ∷ slots ∷ height ∷ kind ∷ seed ∷ []) =
     on_word w (codes "format")
     (number_in 1 slots_limit slots >>= λ n. number_in 1 height_limit height >>= λ h. kind_of_word kind >>= λ k. seed_of_word seed >>= λ s.
-    Some (Format (record { slots = n; height = h; kind = k; seed = s }))) None
+    Some (Format (record { slots = n; height = h; kind = k; seed = s; version = One }))) None
 request_of _ = None

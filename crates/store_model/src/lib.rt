@@ -1,14 +1,16 @@
 //! The definitions that the whole store stands on: what a tree is, which pages spell it, where they
 //! lie in the table, and which bytes an image has; what a script says and what it answers. They stand
-//! in `specs/` and are plain mathematics. This crate has no program code beside two plain types and
+//! in `specs/` and are plain mathematics. This crate has no program code beside three plain types and
 //! the length of a block; its worked examples and laws are those of `model_laws`.
 #![tactic(auto)]
 
 mod draw_kind;
 mod refusal;
+mod version;
 
 pub use draw_kind::DrawKind;
 pub use refusal::Refusal;
+pub use version::Version;
 
 /// How many bytes a block of an image has, and so a slot of the table.
 pub const BLOCK: usize = 4096;

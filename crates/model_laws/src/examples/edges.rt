@@ -4,6 +4,7 @@
 
 ghost use Rattle.std.specs.Prelude.{◌≡◌, ℕ, List, [], ◌∷◌, ◌++◌, map, codes, length, replicate, slice_index, Some, None, Ok, Err};
 ghost use Rattle.store_model.specs.declared.draw_kind.DrawKind.TheVariants.{Sha256};
+ghost use Rattle.store_model.specs.declared.version.Version.TheVariants.{One};
 ghost use Rattle.store_model.specs.declared.refusal.Refusal.TheVariants as refusals;
 ghost use Rattle.store_model.specs.Lists.{zeros, numbers_below, numbers_from};
 ghost use Rattle.store_model.specs.Parameters.{IsParameters};
@@ -143,7 +144,7 @@ pub fn full_file()
 /// Command lines at the ends of their ranges and past them.
 pub fn ranges_of_words()
     ensures largest { request_of (codes "format" ∷ codes "65536" ∷ codes "8" ∷ codes "sha256" ∷ (replicate 32 0x46 ++ replicate 32 0x66) ∷ []) ≡
-        Some (Format (record { slots = 65536; height = 8; kind = Sha256; seed = replicate 32 255 })) }
+        Some (Format (record { slots = 65536; height = 8; kind = Sha256; seed = replicate 32 255; version = One })) }
     ensures past_slots { map (λ slots. request_of (codes "format" ∷ codes slots ∷ codes "1" ∷ codes "ruler" ∷ replicate 64 0x30 ∷ [])) ("01" ∷ "65537" ∷ []) ≡ None ∷ None ∷ [] }
     ensures past_seed { map (λ digits. request_of (codes "format" ∷ codes "1" ∷ codes "1" ∷ codes "ruler" ∷ replicate digits 0x30 ∷ [])) (62 ∷ 63 ∷ 65 ∷ 66 ∷ []) ≡ replicate 4 None }
     ensures big { request_of (codes "big" ∷ codes "4294967295" ∷ codes "1000000" ∷ []) ≡ Some (Big 4294967295 1000000) }

@@ -3,6 +3,7 @@
 
 ghost use Rattle.std.specs.Prelude.{◌≡◌, ℕ, ◌+◌, ◌-◌, List, [], ◌∷◌, ◌++◌, codes, take, drop, length, replicate, Some, None};
 ghost use Rattle.store_model.specs.declared.draw_kind.DrawKind.TheVariants.{Sha256};
+ghost use Rattle.store_model.specs.declared.version.Version.TheVariants.{One, Two};
 ghost use Rattle.store_model.specs.Lists.{zeros, zero_filled, numbers_below};
 ghost use Rattle.store_model.specs.Parameters.{mark_blocks, mark_at, shadow_at, table_at, image_len};
 ghost use Rattle.store_model.specs.Labels.{label_bytes};
@@ -40,7 +41,7 @@ pub fn header_of_one_slot()
 
 /// The header of `format 65536 8 sha256` with a seed of the numbers below 32.
 pub fn header_of_the_largest_table()
-    ensures { header (record { slots = 65536; height = 8; kind = Sha256; seed = numbers_below 32 }) ≡
+    ensures { header (record { slots = 65536; height = 8; kind = Sha256; seed = numbers_below 32; version = One }) ≡
         codes "HSTORE01" ++ 0 ∷ 1 ∷ 0 ∷ 0 ∷ 8 ∷ 1 ∷ 1 ∷ 0 ∷ numbers_below 32 ++ zeros 4048 }
 {}
 

@@ -5,18 +5,21 @@
 ghost use Rattle.std.specs.Prelude.{◌≡◌, ℕ, ◌≤◌, List, [], ◌∷◌, ◌++◌, map, length, Bool, true, false, is_some, IsTrue, Ok};
 ghost use Rattle.std.specs.FinMap.{find, is_sorted};
 ghost use Rattle.std.specs.List.{filter, AllByRecursion};
-ghost use Rattle.store_model.specs.Parameters.{Parameters, IsParameters};
+ghost use Rattle.store_model.specs.declared.version.Version.{Version};
+ghost use Rattle.store_model.specs.declared.version.Version.TheVariants.{Two};
+ghost use Rattle.store_model.specs.Parameters.{Parameters, IsParameters, with_version};
 ghost use Rattle.store_model.specs.Paths.{Path, is_root, is_path, is_at_or_inside, key_cmp, parent};
 ghost use Rattle.store_model.specs.Trees.{Tree, empty_tree, IsTree, node_at, is_directory, exists};
-ghost use Rattle.store_model.specs.Pairs.{Pair};
+ghost use Rattle.store_model.specs.Pairs.{Pair, pairs};
 ghost use Rattle.store_model.specs.Draws.{Draw};
-ghost use Rattle.store_model.specs.Pages.{Fits, pages_of_pairs};
+ghost use Rattle.store_model.specs.Pages.{Fits, page_count, pages_of_pairs};
 ghost use Rattle.store_model.specs.Images.{layout, Represents};
 ghost use Rattle.store_model.specs.Commands.{Command, IsCommand};
 ghost use Rattle.store_model.specs.Commands.Command.{Make, Prune};
 ghost use Rattle.store_model.specs.Steps.{next_tree, step};
 ghost use Rattle.store_model.specs.Grammar.{parse};
 ghost use Rattle.store_model.specs.Scripts.{answer, tree_after, line_limit};
+ghost use Rattle.model_laws.specs.ShortFiles.{HasNoShortFile};
 ghost use Rattle.model_laws.specs.Within.{works_within, stays_within};
 
 /// The empty tree is a tree, and fits any table.
@@ -58,6 +61,18 @@ pub fn fewer_keys_need_no_more_pages()
     ensures subset { (d : Draw) (r s : List Pair) → IsTrue (is_sorted key_cmp r) → IsTrue (is_sorted key_cmp s) →
         ((k : List ℕ) → is_some (find key_cmp k r) ≡ true → is_some (find key_cmp k s) ≡ true) →
         length (pages_of_pairs d r) ≤ length (pages_of_pairs d s) }
+{}
+
+/// A tree has no more pages under version 2 than under any version of the same other parameters, so it fits where it did.
+pub fn version_two_needs_no_more_pages()
+    ensures pages { (t : Tree) (p : Parameters) → page_count t (with_version p Two) ≤ page_count t p }
+    ensures fits { (t : Tree) (p : Parameters) → Fits t p → Fits t (with_version p Two) }
+{}
+
+/// A tree without files of at most 200 bytes has the same pairs under both versions.
+pub fn versions_agree_on_long_files()
+    ensures { (t : Tree) (p : Parameters) (version : Version) → AllByRecursion HasNoShortFile t →
+        pairs t (with_version p version) ≡ pairs t p }
 {}
 
 /// A step of any command on a tree that fits leaves a tree that fits.
