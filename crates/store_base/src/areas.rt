@@ -1,7 +1,7 @@
 //! Where the areas of an image lie.
 //!
 //! An image has a header block, a gate block, the marks, the shadow and the table, one behind the other.
-//! The marks take as many whole blocks as a byte for each slot and one reserved byte need; shadow and
+//! The marks take as many whole blocks as a byte for each slot and one for the version need; shadow and
 //! table have a block for each slot. All places and lengths are in bytes.
 
 ghost use Rattle.std.specs.Prelude.{◌≡◌, ℕ, ◌+◌, ◌*◌, ◌/◌, ◌<◌, ◌≤◌};
@@ -14,7 +14,7 @@ use store_model::BLOCK;
 /// The bytes of a block, as the places in an image are counted.
 const BLOCK_LEN: u64 = BLOCK as u64;
 
-/// The blocks of the marks: a byte for each slot and one that is reserved.
+/// The blocks of the marks: a byte for each slot and one for the version.
 fn mark_blocks(slots: u32) -> u64
     requires { slots ≤ slots_limit }
     ensures value { result ≡ model.mark_blocks slots }
@@ -40,7 +40,7 @@ pub fn gate_at() -> u64
     BLOCK_LEN
 }
 
-/// Where mark `i` lies: each slot has the one of its number, and the one behind the last slot's is reserved.
+/// Where mark `i` lies: each slot has the one of its number, and the one behind the last slot's is the version's.
 pub fn mark_at(i: u32) -> u64
     requires { i ≤ slots_limit }
     ensures { result ≡ model.mark_at i }

@@ -3,18 +3,19 @@
 ghost use Rattle.std.specs.Prelude.{◌≡◌, ◌++◌, ◌∷◌, [], Some, IfSome, codes};
 ghost use Rattle.std.specs.Int.{w32, to_be_bytes};
 ghost use Rattle.store_model.specs.Parameters.{Parameters, IsParameters};
+ghost use Rattle.store_model.specs.Images as model;
 ghost use Rattle.store_model.specs.Images.{kind_byte, header};
 
 use crate::FIRST_BYTE;
 use crate::params::Params;
 use byteorder::{BigEndian, ByteOrder};
-use store_model::{BLOCK, DrawKind, Slot};
+use store_model::{BLOCK, DrawKind, Slot, Version};
+
+/// The place of the version's byte in a header.
+const VERSION_AT: usize = 14;
 
 /// The text that begins an image.
 const MAGIC: [u8; 8] = [FIRST_BYTE, b'S', b'T', b'O', b'R', b'E', b'0', b'1'];
-
-/// The version of the format.
-const VERSION: u8 = 1;
 
 /// The byte that names a kind of draw.
 fn byte_of(kind: DrawKind) -> u8
@@ -38,8 +39,37 @@ fn draw_kind_of(byte: u8) -> Option<DrawKind>
     }
 }
 
+/// Where a header, and so an image, has the byte that names its version of the format.
+pub fn version_at() -> u64
+    ensures { result ≡ model.version_at }
+{
+    VERSION_AT as u64
+}
+
+/// The byte that names a version of the format.
+pub fn version_byte(version: Version) -> u8
+    ensures { result ≡ model.version_byte version }
+{
+    match version {
+        Version::One => 1,
+        Version::Two => 2,
+    }
+}
+
+/// The version of the format that a byte names.
+fn version_of(byte: u8) -> Option<Version>
+    ensures found { IfSome result (λ version. model.version_byte version ≡ byte) }
+    ensures only { (version : Version) → model.version_byte version ≡ byte → result ≡ Some version }
+{
+    match byte {
+        1 => Some(Version::One),
+        2 => Some(Version::Two),
+        _ => None,
+    }
+}
+
 /// Writes the header of these parameters: the text `HSTORE01`, the number of slots (big-endian), the
-/// height, the kind of draw, the format's version 1, a byte 0, the seed, and zeros.
+/// height, the kind of draw, the format's version, a byte 0, the seed, and zeros.
 pub fn write_header(params: &Params, block: &mut Slot)
     ensures { block.new ≡ header params.now }
 {
@@ -48,7 +78,7 @@ pub fn write_header(params: &Params, block: &mut Slot)
     BigEndian::write_u32(&mut front[8..], params.slots());
     front[12] = params.height();
     front[13] = byte_of(params.kind());
-    front[14] = VERSION;
+    front[VERSION_AT] = version_byte(params.version());
     front[16..].copy_from_slice(&params.seed());
     *block = [0; BLOCK];
     block[..48].copy_from_slice(&front);
@@ -64,7 +94,9 @@ pub fn read_header(block: &Slot) -> Option<Params>
     let mut seed = [0; 32];
     seed.copy_from_slice(&block[16..48]);
     let kind = draw_kind_of(block[13])?;
-    let params = Params::new(u32::from_be_bytes(slots), block[12], kind, seed).ok()?;
+    let version = version_of(block[VERSION_AT])?;
+    let named = Params::new(u32::from_be_bytes(slots), block[12], kind, seed).ok()?;
+    let params = named.with_version(version);
     // Every other byte of a header is as it is written.
     let mut written = [0; BLOCK];
     write_header(&params, &mut written);

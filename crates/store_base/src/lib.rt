@@ -19,14 +19,14 @@ mod value;
 pub use areas::{areas_fill_the_image, gate_at, image_len, mark_at, shadow_at, table_at};
 pub use entries::Entries;
 pub use fault::{DiskFault, NoMemory};
-pub use header::{read_header, write_header};
+pub use header::{read_header, version_at, version_byte, write_header};
 pub use key::Key;
 pub use label::{Label, Lead};
 pub use order::byte_order;
 pub use params::{BadParams, Params};
 pub use slots::{ReadSlots, Slots};
 pub use store_fault::Fault;
-pub use store_model::{BLOCK, DrawKind, Refusal, Slot};
+pub use store_model::{BLOCK, DrawKind, Refusal, Slot, Version};
 pub use value::{Bytes, Value};
 
 /// What a call of the tree's layer answers where no fault came: a value, or why the command is refused.
