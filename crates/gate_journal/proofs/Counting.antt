@@ -118,9 +118,9 @@ clear_blocks_part n m image fewer =
     omega (arith, sum_split f 0 n (m - n), ap (λ (k : ℕ). sum_by f (numbers_from 0 k)) rest)
 
 -- what is redone where the flag is set, and where it is clear
-pub redo_when : (slots : ℕ) (image : List ℕ) (set : Bool) → is_flag_set image ≡ set → (redo_writes slots image ≡ (if set then marked_count 0 slots image + 1 else 0)) × (redo_syncs image ≡ (if set then 2 else 0))
+pub redo_when : (slots : ℕ) (image : List ℕ) (set : Bool) → is_flag_set image ≡ set → (redo_writes slots image ≡ (if set then marked_count 0 (slots + 1) image + 1 else 0)) × (redo_syncs image ≡ (if set then 2 else 0))
 unfolding redo_writes redo_syncs
-redo_when slots image set is = (ap (λ (b : Bool). if b then marked_count 0 slots image + 1 else 0) is, ap (λ (b : Bool). if b then 2 else 0) is)
+redo_when slots image set is = (ap (λ (b : Bool). if b then marked_count 0 (slots + 1) image + 1 else 0) is, ap (λ (b : Bool). if b then 2 else 0) is)
 
 -- images with the same journal behind the flag take as many writes
 pub erase_same : (slots : ℕ) (a b : List ℕ) → SameAt (IsBehindFlag slots) a b → erase_writes slots b ≡ erase_writes slots a

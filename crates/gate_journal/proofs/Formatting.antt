@@ -1,10 +1,10 @@
 -- The images on the way of a format.
-use Rattle.std.proofs.Common.{◌≡◌, ℕ, zero, suc, ◌+◌, ◌-◌, ◌*◌, ◌<◌, ◌≤◌, List, [], ◌∷◌, ◌++◌, length, take, drop, replicate, slice_index, Option, None, refl, sym, ap, ◌∙◌, inl, inr, arith, length-append, length-take, length-drop, append_assoc, get_or-take, get_or-drop, Bool, true, false, nat_eq, Result, Ok, Err, OnOk, IsErr}
+use Rattle.std.proofs.Common.{◌≡◌, ℕ, zero, suc, ◌+◌, ◌-◌, ◌*◌, ◌<◌, ◌≤◌, List, [], ◌∷◌, ◌++◌, length, take, drop, replicate, slice_index, slice_set, if◌then◌else◌, ◌&&◌, Option, None, refl, sym, ap, ◌∙◌, inl, inr, arith, length-append, length-take, length-drop, append_assoc, get_or-take, get_or-drop, Bool, true, false, nat_eq, Result, Ok, Err, OnOk, IsErr}
 use Rattle.std.specs.List.{flat_map}
 use Rattle.std.specs.Result.{IsErrAnd}
 use Rattle.std.proofs.lemmas.Bool.{cases_eq, cases_lt}
 use Rattle.std.proofs.lemmas.Result.{err_from_is_err_and}
-use Rattle.std.proofs.lemmas.List.{ext_get_or, get_or_append_left, get_or-append_right, get_or-replicate, length-replicate, replicate-append-replicate}
+use Rattle.std.proofs.lemmas.List.{ext_get_or, get_or-set_other, get_or_append_left, get_or-append_right, get_or-replicate, length-replicate, replicate-append-replicate}
 use Rattle.store_model.specs.Lists.{zeros, zero_filled, numbers_from, cut_before, in_order}
 use Rattle.store_model.specs.Parameters.{Parameters, IsParameters, image_len}
 use Rattle.store_model.specs.Trees.{empty_tree}
@@ -12,7 +12,7 @@ use Rattle.store_model.specs.Pairs.{pairs}
 use Rattle.store_model.specs.Draws.{Draw, draw_of}
 use Rattle.store_model.specs.Pages.{Page, level_list, groups, level_pages, pages_of_pairs, pages}
 use Rattle.store_model.specs.Placement.{place, put_all}
-use Rattle.store_model.specs.Images.{header, slot_bytes, table_bytes, layout, journal_len}
+use Rattle.store_model.specs.Images.{header, slot_bytes, table_bytes, layout, journal_len, is_flag_set, is_marked, viewed_header}
 use Rattle.disk_model.specs.DiskState.{DiskState, IsDurable}
 use Rattle.disk_model.specs.DiskCalls.{LeavesOnly, Rose, raised, overwrite}
 use Rattle.disk_model.proofs.Crashes.{LeavesOnly-trans, LeavesOnly-weaken}
@@ -72,9 +72,19 @@ pub first_of_header : (p : Parameters) → slice_index (header p) 0 ≡ 72
 unfolding header zero_filled
 first_of_header p = refl
 
+-- the first byte of a header, however it is read
+first_of_viewed : (slots : ℕ) (image : List ℕ) → slice_index (viewed_header slots image) 0 ≡ slice_index image 0
+unfolding viewed_header
+first_of_viewed slots image =
+    let low : 0 < 4096 = omega arith in
+    elim (is_flag_set image && is_marked image slots) as (λ (b : Bool). slice_index (if b then slice_set (take 4096 image) 14 2 else take 4096 image) 0 ≡ slice_index image 0) [
+      | true ↦ get_or-set_other (take 4096 image) 14 0 2 0 (λ (same : 0 ≡ 14). omega (arith, same)) ∙ get_or-take 4096 image 0 0 low
+      | false ↦ get_or-take 4096 image 0 0 low
+    ]
+
 pub no_image : (image : List ℕ) → (slice_index image 0 ≡ 72 → ⊥) → NamesNoParameters image
-no_image image differs p names =
-    differs (sym (get_or-take 4096 image 0 0 (let low : 0 < 4096 = omega arith in low)) ∙ ap (λ (l : List ℕ). slice_index l 0) names.header_is ∙ first_of_header p)
+no_image image differs p valid is =
+    differs (sym (first_of_viewed p.slots image) ∙ ap (λ (l : List ℕ). slice_index l 0) is ∙ first_of_header p)
 
 pub header_written : (block old : List ℕ) → length block ≡ 4096 → 4096 ≤ length old → (place : ℕ) → 1 ≤ place → place < 4096 → slice_index (overwrite old 1 (take 4095 (drop 1 block))) place ≡ slice_index block place
 header_written block old long within place low high =
@@ -173,8 +183,8 @@ reads_no_image p old mid differs reads = inl (no_image mid.bytes (λ first. diff
 
 -- a durable disk that was only read, and then written
 pub leaves_written : (p : Parameters) (old mid new : DiskState) → IsDurable old → (slice_index old.bytes 0 ≡ 72 → ⊥) → ReadsOnly old mid → (IsDurable mid → LeavesOnly mid new (IsEmptyOrNone p)) → LeavesOnly old new (IsEmptyOrNone p)
-leaves_written p old mid new durable differs reads then =
-    LeavesOnly-trans old mid new (IsEmptyOrNone p) (leaves_no_image p old mid durable differs reads) (then (IsDurable-reads old mid durable reads))
+leaves_written p old mid new durable differs reads after =
+    LeavesOnly-trans old mid new (IsEmptyOrNone p) (leaves_no_image p old mid durable differs reads) (after (IsDurable-reads old mid durable reads))
 
 -- what a format answers, told apart
 pub handed_fault : {T : Type 0} (result : Result T JournalFault) → IsErrAnd result (λ e. e ≡ Disk) → result ≡ Err Disk

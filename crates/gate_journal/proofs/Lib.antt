@@ -5,9 +5,12 @@ pub mod Calls
 pub mod Entries
 pub mod Slots
 pub mod Phases
+pub mod RedoHeaders
+pub mod Versions
 pub mod Committing
 pub mod Stages
 pub mod Reading
+pub mod Viewing
 pub mod Caches
 pub mod Counting
 pub mod Redoing

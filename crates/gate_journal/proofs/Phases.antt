@@ -1,11 +1,13 @@
 -- What each phase of the journal recovers to.
-use Rattle.std.proofs.Common.{◌≡◌, ◌⊎◌, ℕ, ◌+◌, ◌*◌, ◌<◌, List, ◌++◌, length, take, drop, slice_index, true, false, Bool, refl, sym, ap, ◌∙◌, inl, inr, arith, length-take, length-drop, take-append-drop, append_assoc, get_or-take, get_or-drop, if◌then◌else◌, ◌&&◌, not, ◌==◌}
+use Rattle.std.proofs.Common.{◌≡◌, ◌⊎◌, ℕ, ◌+◌, ◌*◌, ◌<◌, List, ◌++◌, length, take, drop, slice_index, slice_set, true, false, Bool, refl, sym, ap, ◌∙◌, inl, inr, arith, length-take, length-drop, take-append-drop, append_assoc, get_or-take, get_or-drop, if◌then◌else◌, ◌&&◌, not, ◌==◌}
 use Rattle.std.specs.List.{flat_map}
 use Rattle.std.proofs.lemmas.Bool.{cases_Bool}
 use Rattle.std.proofs.lemmas.List.{take_all, drop-drop, ext_get_or, length-replicate, get_or-replicate}
 use Rattle.store_model.specs.Lists.{zeros, numbers_below}
 use Rattle.store_model.specs.Parameters.{block_len, shadow_at, table_at, image_len}
-use Rattle.store_model.specs.Images.{bytes_at, is_flag_set, is_marked, recovered_slot, recovered, journal_len}
+use Rattle.store_model.specs.declared.version.Version.TheVariants.{Two}
+use Rattle.store_model.specs.Images.{version_byte, version_at, bytes_at, is_flag_set, is_marked, viewed_header, recovered_slot, recovered, journal_len}
+use Rattle.store_model.proofs.ImagesLemmas.{viewed_header-at_rest}
 use Rattle.gate_journal.specs.Phases.{table_slot, HasTable, HasEmptyJournal}
 use Rattle.gate_journal.proofs.Areas.{areas, journal_end, table_end, shadow_end, marks_end}
 use Rattle.gate_journal.proofs.Slots.{flat_map-blocks, flat_map-same}
@@ -18,9 +20,13 @@ redo_slot slots image i = bytes_at image (if is_marked image i then shadow_at sl
 abbrev pub settled : ℕ → List ℕ → List ℕ
 settled slots image = take block_len image ++ zeros (journal_len slots) ++ flat_map (table_slot slots image) (numbers_below slots)
 
--- the image has the header of the target, and its journal leads to the table of the target
+-- the header that the journal of the image leads to: of version 2 where the mark behind the last slot's is set
+abbrev pub redo_header : ℕ → List ℕ → List ℕ
+redo_header slots image = if is_marked image slots then slice_set (take block_len image) version_at (version_byte Two) else take block_len image
+
+-- the image's journal leads to the header and the table of the target
 pub record HasRedo (slots : ℕ) (target image : List ℕ) : Type 0 where
-  pub header : take block_len image ≡ take block_len target
+  pub header : redo_header slots image ≡ take block_len target
   pub redo : (i : ℕ) → i < slots → redo_slot slots image i ≡ table_slot slots target i
 
 -- what the journal does, one phase after another
@@ -55,14 +61,15 @@ same_parts slots head other_head slot other heads same =
 pub recovered_clear : (slots : ℕ) (target image : List ℕ) → is_flag_set image ≡ false → HasTable slots target image → recovered slots image ≡ settled slots target
 unfolding recovered recovered_slot
 recovered_clear slots target image clear has =
-    same_parts slots (take 4096 image) (take 4096 target) (recovered_slot slots image) (table_slot slots target) has.header
+    same_parts slots (viewed_header slots image) (take 4096 target) (recovered_slot slots image) (table_slot slots target) (viewed_header-at_rest slots image clear ∙ has.header)
     λ i below. ap (λ (raised : Bool). bytes_at image (if raised && is_marked image i then shadow_at slots i else table_at slots i) 4096) clear ∙ has.table i below
 
--- with the flag set it redoes the marked slots
+-- with the flag set it redoes the header and the marked slots
 pub recovered_set : (slots : ℕ) (target image : List ℕ) → is_flag_set image ≡ true → HasRedo slots target image → recovered slots image ≡ settled slots target
-unfolding recovered recovered_slot
+unfolding recovered recovered_slot viewed_header
 recovered_set slots target image set has =
-    same_parts slots (take 4096 image) (take 4096 target) (recovered_slot slots image) (table_slot slots target) has.header
+    same_parts slots (viewed_header slots image) (take 4096 target) (recovered_slot slots image) (table_slot slots target)
+    (ap (λ (raised : Bool). if raised && is_marked image slots then slice_set (take 4096 image) 14 2 else take 4096 image) set ∙ has.header)
     λ i below. ap (λ (raised : Bool). bytes_at image (if raised && is_marked image i then shadow_at slots i else table_at slots i) 4096) set ∙ has.redo i below
 
 -- the one law: an image in any phase recovers to the one image or to the other

@@ -9,7 +9,7 @@ use Rattle.disk_model.specs.DiskCalls.{LeavesOnly, overwrite, IsSync}
 use Rattle.disk_model.proofs.Crashes.{LeavesOnly-trans, LeavesOnly-weaken}
 use Rattle.gate_journal.specs.Places.{IsApart, SameAt, Keeps, Reaches, ReadsOnly, IsZeroAt}
 use Rattle.gate_journal.specs.Phases.{HasTable, HasEmptyJournal}
-use Rattle.gate_journal.specs.Recovery.{OutsideMarked, AreRedone, RecoversAs, SettlesFlag, RecoversDurable, Recovers}
+use Rattle.gate_journal.specs.Recovery.{OutsideRedone, IsRedone, RecoversAs, SettlesFlag, RecoversDurable, Recovers}
 use Rattle.gate_journal.proofs.Phases.{HasRedo, recovered_empty}
 use Rattle.gate_journal.proofs.Reading.{IsDurable-reads}
 use Rattle.gate_journal.proofs.Entries.{slice_index-overwrite}
@@ -52,18 +52,18 @@ settles_fault slots old new result fails leaves = record {
 }
 
 module _ (slots : ℕ) (old mid : DiskState) (long : length old.bytes ≡ image_len slots) (durable : IsDurable old) (reads : ReadsOnly old mid) where
-  -- while marked slots are redone
-  pub leaves_redoing : (new : DiskState) → is_flag_set old.bytes ≡ true → Keeps (OutsideMarked slots 0 slots mid.bytes) mid new → LeavesOnly old new (RecoversAs slots old.bytes)
+  -- while marked slots and the version are redone
+  pub leaves_redoing : (new : DiskState) → is_flag_set old.bytes ≡ true → Keeps (OutsideRedone slots mid.bytes) mid new → LeavesOnly old new (RecoversAs slots old.bytes)
   leaves_redoing new set keeps =
-      phase_leaves (OutsideMarked slots 0 slots mid.bytes) (RecoversAs slots old.bytes) old mid new (leaves_reading slots old mid durable reads) (IsDurable-reads old mid durable reads) keeps
-      (λ image. subst (λ (l : List ℕ). SameAt (OutsideMarked slots 0 slots l) l image → RecoversAs slots old.bytes image) (sym reads.bytes) (while_redone slots old.bytes long set image))
+      phase_leaves (OutsideRedone slots mid.bytes) (RecoversAs slots old.bytes) old mid new (leaves_reading slots old mid durable reads) (IsDurable-reads old mid durable reads) keeps
+      (λ image. subst (λ (l : List ℕ). SameAt (OutsideRedone slots l) l image → RecoversAs slots old.bytes image) (sym reads.bytes) (while_redone slots old.bytes long set image))
 
-  module _ (next : DiskState) (set : is_flag_set old.bytes ≡ true) (kept : Keeps (OutsideMarked slots 0 slots mid.bytes) mid next) (redone : AreRedone slots 0 slots mid.bytes next.bytes) (next_durable : IsDurable next) where
-    same_marks : SameAt (OutsideMarked slots 0 slots old.bytes) old.bytes next.bytes
-    same_marks = subst (λ (l : List ℕ). SameAt (OutsideMarked slots 0 slots l) l next.bytes) reads.bytes kept.reads
+  module _ (next : DiskState) (set : is_flag_set old.bytes ≡ true) (kept : Keeps (OutsideRedone slots mid.bytes) mid next) (redone : IsRedone slots mid.bytes next.bytes) (next_durable : IsDurable next) where
+    same_marks : SameAt (OutsideRedone slots old.bytes) old.bytes next.bytes
+    same_marks = subst (λ (l : List ℕ). SameAt (OutsideRedone slots l) l next.bytes) reads.bytes kept.reads
 
     next_table : HasTable slots (recovered slots old.bytes) next.bytes
-    next_table = table_redone slots old.bytes long set next.bytes same_marks (subst (λ (l : List ℕ). AreRedone slots 0 slots l next.bytes) reads.bytes redone)
+    next_table = table_redone slots old.bytes long set next.bytes same_marks (subst (λ (l : List ℕ). IsRedone slots l next.bytes) reads.bytes redone)
 
     next_redo : HasRedo slots (recovered slots old.bytes) next.bytes
     next_redo = redo_kept slots old.bytes long set next.bytes same_marks

@@ -6,8 +6,8 @@ use Rattle.store_model.specs.Images.{bytes_at, is_marked}
 use Rattle.disk_model.specs.DiskState.{DiskState, IsSound}
 use Rattle.gate_journal.specs.Places.{IsApart, Keeps, Reaches}
 use Rattle.gate_journal.specs.Phases.{table_slot}
-use Rattle.gate_journal.specs.Recovery.{OutsideMarked, AreRedone}
-use Rattle.gate_journal.proofs.Areas.{areas, shadow_end}
+use Rattle.gate_journal.specs.Recovery.{OutsideMarked, AreRedone, OutsideVersion, HasRedoneVersion, OutsideRedone, IsRedone}
+use Rattle.gate_journal.proofs.Areas.{areas, marks_end, shadow_end}
 use Rattle.gate_journal.proofs.Places.{Keeps-trans, Keeps-weaken, bytes_at-same}
 use Rattle.gate_journal.proofs.Committing.{table_apart}
 
@@ -55,16 +55,17 @@ module _ (slots from to : ℕ) (old mid : DiskState) (fits : to ≤ slots) (slot
         absurd (both_ways (is_marked old.bytes slot) not_marked (ap (is_marked old.bytes) (sym same) ∙ marks))
   ]
 
+-- redoing marked slots leaves the marks, that behind the last slot's too
+pub mark_stays : (slots : ℕ) (old mid : DiskState) → Keeps (OutsideMarked slots 0 slots old.bytes) old mid → (i : ℕ) → i ≤ slots → is_marked mid.bytes i ≡ is_marked old.bytes i
+unfolding is_marked
+mark_stays slots old mid keeps i few =
+    ap (λ (b : ℕ). not (b == 0))
+    (keeps.reads.same (mark_at i) (before_table slots 0 slots old.bytes (omega arith) (mark_at i) (omega (arith, marks_end slots, shadow_end slots))))
+
 -- The marked slots of one block of marks more.
 module _ (slots first to : ℕ) (old mid new : DiskState) (fits : to ≤ slots) (begins : first ≤ to) (sound : IsSound mid) (keeps : Keeps (OutsideMarked slots 0 slots old.bytes) old mid) where
-  pub mark_stays : (i : ℕ) → i < slots → is_marked mid.bytes i ≡ is_marked old.bytes i
-  unfolding is_marked
-  mark_stays i below =
-      ap (λ (b : ℕ). not (b == 0))
-      (keeps.reads.same (mark_at i) (before_table slots 0 slots old.bytes (omega arith) (mark_at i) (omega (arith, (areas slots i below).mark_end, shadow_end slots))))
-
   pub block_spared : (place : ℕ) → OutsideMarked slots 0 slots old.bytes place → OutsideMarked slots first to mid.bytes place
-  block_spared place outside i low high is = outside i (omega arith) (omega arith) (sym (mark_stays i (omega arith)) ∙ is)
+  block_spared place outside i low high is = outside i (omega arith) (omega arith) (sym (mark_stays slots old mid keeps i (omega arith)) ∙ is)
 
   pub block_keeps : Keeps (OutsideMarked slots first to mid.bytes) mid new → Keeps (OutsideMarked slots 0 slots old.bytes) old new
   block_keeps then =
@@ -77,7 +78,24 @@ module _ (slots first to : ℕ) (old mid new : DiskState) (fits : to ≤ slots) 
         (λ place start end k from below marks. table_apart slots i k (omega arith) (omega arith) (λ same. omega arith) place start end) then.reads
         ∙ redone i low before is
     | inr behind ↦
-        more i behind high (mark_stays i (omega arith) ∙ is)
+        more i behind high (mark_stays slots old mid keeps i (omega arith) ∙ is)
         ∙ bytes_at-same (OutsideMarked slots 0 slots old.bytes) (shadow_at slots i) 4096 old.bytes mid.bytes
         (λ place start end. before_table slots 0 slots old.bytes (omega arith) place (omega (arith, (areas slots i (omega arith)).shadow_end))) keeps.reads
   ]
+
+-- The version behind all marked slots.
+module _ (slots : ℕ) (old mid new : DiskState) (sound : IsSound mid) (keeps : Keeps (OutsideMarked slots 0 slots old.bytes) old mid) (then : Keeps (OutsideVersion slots mid.bytes) mid new) where
+  pub version_keeps : Keeps (OutsideRedone slots old.bytes) old new
+  version_keeps =
+      let places = OutsideRedone slots old.bytes in
+      Keeps-trans places old mid new sound (Keeps-weaken (OutsideMarked slots 0 slots old.bytes) places old mid (λ place outside. outside.table) keeps)
+      (Keeps-weaken (OutsideVersion slots mid.bytes) places mid new (λ place outside marks. outside.version (sym (mark_stays slots old mid keeps slots (omega arith)) ∙ marks)) then)
+
+  pub version_redone : AreRedone slots 0 slots old.bytes mid.bytes → HasRedoneVersion slots mid.bytes new.bytes → IsRedone slots old.bytes new.bytes
+  version_redone redone has = record {
+    table = λ i low high is.
+        bytes_at-same (OutsideVersion slots mid.bytes) (table_at slots i) 4096 mid.bytes new.bytes
+        (λ place start end marks. inr (omega (arith, (areas slots i high).table_is, marks_end slots, shadow_end slots))) then.reads
+        ∙ redone i low high is;
+    version = λ marks. has (mark_stays slots old mid keeps slots (omega arith) ∙ marks);
+  }

@@ -1,8 +1,9 @@
 -- Slots of a table that are to be changed together, and an image with these slots changed.
-use Rattle.std.specs.Prelude.{◌≡◌, ◌⊎◌, ℕ, zero, suc, ◌<◌, List, length, slice_index, Result, OnOk}
+use Rattle.std.specs.Prelude.{◌≡◌, ◌⊎◌, ℕ, zero, suc, ◌<◌, List, [], ◌∷◌, length, slice_index, Result, OnOk}
+use Rattle.store_model.specs.declared.version.Version.TheVariants.{Two}
 use Rattle.store_model.specs.Lists.{zeros}
 use Rattle.store_model.specs.Parameters.{block_len, mark_at, shadow_at, table_at}
-use Rattle.store_model.specs.Images.{bytes_at, recovered}
+use Rattle.store_model.specs.Images.{version_byte, version_at, bytes_at, recovered}
 use Rattle.disk_model.specs.DiskState.{DiskState, IsDurable}
 use Rattle.disk_model.specs.DiskCalls.{overwrite, LeavesOnly}
 use Rattle.gate_journal.specs.Places.{IsApart}
@@ -29,6 +30,10 @@ with_first slots changes (suc n) image = overwrite (with_first slots changes n i
 abbrev pub with_slots : ℕ → Changes → List ℕ → List ℕ
 with_slots slots changes image = with_first slots changes changes.count image
 
+-- the image with the slots changed, and of version 2
+abbrev pub upgraded : ℕ → Changes → List ℕ → List ℕ
+upgraded slots changes image = overwrite (with_slots slots changes image) version_at (version_byte Two ∷ [])
+
 -- the image is as long as the old one, and recovers to that or to the new one
 pub record RecoversToEither (slots : ℕ) (old new image : List ℕ) : Type 0 where
   pub same_length : length image ≡ length old
@@ -52,12 +57,20 @@ AreJournaled slots changes n image = (k : ℕ) → k < n → HasEntry slots (cha
 abbrev pub AreErased : ℕ → Changes → ℕ → List ℕ → Type 0
 AreErased slots changes n image = (k : ℕ) → k < n → HasEntry slots (changes.slot k) 0 (zeros block_len) image
 
--- A commit of the changes. Each image that a crash at any moment of it may leave has the old length and recovers to the
--- old image or to the one with the slots changed; the same holds of the bytes that the disk reads, whatever the answer.
--- Ok says that it reads the second of these, and durably.
-pub record Commits {T E : Type 0} (slots : ℕ) (changes : Changes) (old new : DiskState) (result : Result T E) : Type 0 where
-  pub crash : LeavesOnly old new (RecoversToEither slots old.bytes (with_slots slots changes old.bytes))
-  pub reads : RecoversToEither slots old.bytes (with_slots slots changes old.bytes) new.bytes
+-- A commit that leads to the target. Each image that a crash at any moment of it may leave has the old length and
+-- recovers to the old image or to the target; the same holds of the bytes that the disk reads, whatever the answer. Ok
+-- says that it reads the second of these, and durably.
+pub record CommitsTo {T E : Type 0} (slots : ℕ) (target : List ℕ) (old new : DiskState) (result : Result T E) : Type 0 where
+  pub crash : LeavesOnly old new (RecoversToEither slots old.bytes target)
+  pub reads : RecoversToEither slots old.bytes target new.bytes
   pub durable : OnOk result (IsDurable new)
-  pub done : OnOk result (new.bytes ≡ with_slots slots changes old.bytes)
+  pub done : OnOk result (new.bytes ≡ target)
   pub empty : OnOk result (HasEmptyJournal slots new.bytes)
+
+-- a commit of the changes
+abbrev pub Commits : {T E : Type 0} → ℕ → Changes → DiskState → DiskState → Result T E → Type 0
+Commits slots changes old new result = CommitsTo slots (with_slots slots changes old.bytes) old new result
+
+-- a commit of the changes, and of version 2 with them
+abbrev pub CommitsUpgrade : {T E : Type 0} → ℕ → Changes → DiskState → DiskState → Result T E → Type 0
+CommitsUpgrade slots changes old new result = CommitsTo slots (upgraded slots changes old.bytes) old new result

@@ -18,6 +18,14 @@ abbrev pub commit_syncs : ℕ → ℕ
 commit_syncs zero = 0
 commit_syncs (suc n) = 5
 
+-- the writes of a commit of so many slots, or of none, that makes the image one of version 2
+abbrev pub upgrade_writes : ℕ → ℕ
+upgrade_writes n = 5 * n + 5
+
+-- and its syncs
+abbrev pub upgrade_syncs : ℕ
+upgrade_syncs = 5
+
 -- whether gate block, marks and shadow of an image have a byte other than zero
 unfoldable pub has_journal : ℕ → List ℕ → Bool
 has_journal slots image = list_any (λ byte. not (byte == 0)) (bytes_at image gate_at (journal_len slots))

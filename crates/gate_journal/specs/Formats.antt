@@ -1,17 +1,17 @@
 -- What formatting makes of a disk that is no image.
 use Rattle.std.specs.Prelude.{◌≡◌, ◌⊎◌, ℕ, ◌-◌, ◌<◌, ◌≤◌, List, slice_index, Result, Ok, Err, OnOk}
-use Rattle.store_model.specs.Parameters.{block_len, gate_at, Parameters, image_len}
+use Rattle.store_model.specs.Parameters.{block_len, gate_at, Parameters, IsParameters, image_len}
 use Rattle.store_model.specs.Trees.{empty_tree}
-use Rattle.store_model.specs.Images.{header, layout, NamesParameters}
+use Rattle.store_model.specs.Images.{header, viewed_header, layout}
 use Rattle.disk_model.specs.DiskState.{DiskState, IsDurable}
 use Rattle.disk_model.specs.DiskCalls.{raised}
 use Rattle.gate_journal.specs.declared.fault.JournalFault.{JournalFault}
 use Rattle.gate_journal.specs.declared.fault.JournalFault.TheVariants.{Disk, AlreadyImage, WrongLength}
 use Rattle.gate_journal.specs.Places.{IsZeroAt}
 
--- the image's header names no parameters, so it is no image
+-- the image's header, as it is read, is that of no parameters, also of none of another length; so it is no image
 abbrev pub NamesNoParameters : List ℕ → Type 0
-NamesNoParameters image = (p : Parameters) → NamesParameters image p → ⊥
+NamesNoParameters image = (p : Parameters) → IsParameters p → viewed_header p.slots image ≡ header p → ⊥
 
 -- the image of the empty tree, or no image
 abbrev pub IsEmptyOrNone : Parameters → List ℕ → Type 0

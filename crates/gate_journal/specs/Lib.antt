@@ -7,6 +7,7 @@ pub mod ReadingLaws
 pub mod Recovery
 pub mod ViewState
 pub mod Formats
+pub mod Headers
 pub mod View
 pub mod Wipes
 pub mod Costs

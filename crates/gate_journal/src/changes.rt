@@ -4,7 +4,7 @@ ghost use Rattle.gate_journal.specs.Changes.{Changes};
 
 use store_model::Slot;
 
-/// Slots of the table that are to be changed, each with its new bytes. `Journal::commit` asks that their numbers rise
+/// Slots of the table that are to be changed, each with its new bytes. A commit asks that their numbers rise
 /// strictly and are below that of the table's slots.
 pub trait SlotChanges {
     /// How many slots change, the number of each, and its new bytes.

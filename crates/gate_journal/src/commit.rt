@@ -1,30 +1,42 @@
 //! How changed slots are committed: into the journal, and behind the commit flag into the table.
-ghost use Rattle.std.specs.Prelude.{◌≡◌, ℕ, ◌+◌, ◌*◌, ◌<◌, ◌≤◌, OnOk};
+//!
+//! An upgrade commits version 2 of the format with them, by a write in each of three passes: its mark, which is the one
+//! behind the last slot's, goes into the journal, its byte into the header, and zero into its mark.
+ghost use Rattle.std.specs.Prelude.{◌≡◌, ℕ, ◌+◌, ◌*◌, ◌<◌, ◌≤◌, [], ◌∷◌, OnOk};
 ghost use Rattle.store_model.specs.Parameters.{image_len, slots_limit};
 ghost use Rattle.disk_model.specs.DiskState.{DiskState, IsObservable, IsDurable};
-ghost use Rattle.disk_model.specs.DiskCalls.{IsCall, Rose};
-ghost use Rattle.gate_journal.specs.Places.{Reaches, Makes};
+ghost use Rattle.disk_model.specs.DiskCalls.{IsCall, Rose, overwrite};
+ghost use Rattle.gate_journal.specs.Places.{IsApart, Reaches, Makes};
 ghost use Rattle.gate_journal.specs.Phases.{HasEmptyJournal};
-ghost use Rattle.gate_journal.specs.Changes.{AreChanges, Commits};
-ghost use Rattle.gate_journal.specs.Passes.{slot_writes, OutsideWrite, HasWritten, OutsidePass, HasPassed};
+ghost use Rattle.gate_journal.specs.Changes.{AreChanges, CommitsTo};
+ghost use Rattle.gate_journal.specs.Passes.{slot_writes, OutsideWrite, HasWritten, version_writes, version_place, version_value, OutsidePass, HasPassed, target};
 
 use crate::changes::SlotChanges;
-use crate::entry::{write_entry, write_flag};
+use crate::entry::{write_byte, write_entry, write_flag};
 use disk_model::Disk;
-use store_base::{DiskFault, table_at};
-use store_model::{BLOCK, Slot};
+use store_base::{DiskFault, mark_at, table_at, version_at, version_byte};
+use store_model::{BLOCK, Slot, Version};
 
 /// The block that clears a shadow block.
 static ZEROS: Slot = [0; BLOCK];
 
-/// What a pass over the changed slots writes of each of them.
+/// What a commit changes.
+#[derive(Clone, Copy)]
+pub enum Kind {
+    /// Slots alone.
+    Slots,
+    /// Slots, if any, and the version of the format with them, from 1 to 2.
+    Upgrade,
+}
+
+/// What a pass over the changed slots writes of each of them, and of the version in an upgrade.
 #[derive(Clone, Copy)]
 enum Pass {
-    /// Its new bytes into its shadow block, and its mark.
+    /// Its new bytes into its shadow block, and its mark; the version's mark.
     Journal,
-    /// Its new bytes into the table.
+    /// Its new bytes into the table; the version's byte into the header.
     Table,
-    /// Zeros into its shadow block and its mark.
+    /// Zeros into its shadow block and its mark; zero into the version's mark.
     Erase,
 }
 
@@ -51,55 +63,79 @@ fn write_slot<D: Disk>(
     }
 }
 
-/// Goes over the changed slots, writes of each what this pass writes, and makes that durable.
+/// Writes of the version what this pass writes, and makes that durable with all that is pending.
+fn write_version<D: Disk>(disk: &mut D, slots: u32, pass: Pass) -> Result<(), DiskFault>
+    requires in_range { slots ≤ slots_limit }
+    requires size { (D.state disk.old).size ≡ image_len slots }
+    ensures call { IsCall (D.state disk.old) (D.state disk.new) result }
+    ensures reaches { IsObservable (D.state disk.old) → Reaches (IsApart (version_place pass slots) 1) (λ image. image ≡ overwrite (D.state disk.old).bytes (version_place pass slots) (version_value pass ∷ [])) (D.state disk.old) (D.state disk.new) result }
+    ensures durable { IsObservable (D.state disk.old) → OnOk result (IsDurable (D.state disk.new)) }
+    ensures makes { IsObservable (D.state disk.old) → Makes 1 1 (D.state disk.old) (D.state disk.new) result }
+    ensures wrote { IsObservable (D.state disk.old) → Rose (D.state disk.old).writes (D.state disk.new).writes }
+{
+    match pass {
+        Pass::Journal => write_byte(disk, mark_at(slots), 1),
+        Pass::Table => write_byte(disk, version_at(), version_byte(Version::Two)),
+        Pass::Erase => write_byte(disk, mark_at(slots), 0),
+    }
+}
+
+/// Goes over the changed slots, writes of each what this pass writes, and of the version in an upgrade, and makes that
+/// durable.
 fn write_slots<D: Disk, S: SlotChanges>(
     disk: &mut D,
     slots: u32,
     changes: &S,
     pass: Pass,
+    kind: Kind,
 ) -> Result<(), DiskFault>
     requires in_range { slots ≤ slots_limit }
     requires size { (D.state disk.old).size ≡ image_len slots }
     requires changes { AreChanges slots (S.changes changes.now) }
     ensures call { IsCall (D.state disk.old) (D.state disk.new) result }
-    ensures reaches { IsObservable (D.state disk.old) → Reaches (OutsidePass pass slots (S.changes changes.now)) (HasPassed pass slots (S.changes changes.now) (S.changes changes.now).count (D.state disk.old).bytes) (D.state disk.old) (D.state disk.new) result }
+    ensures reaches { IsObservable (D.state disk.old) → Reaches (OutsidePass kind pass slots (S.changes changes.now)) (HasPassed kind pass slots (S.changes changes.now) (D.state disk.old).bytes) (D.state disk.old) (D.state disk.new) result }
     ensures durable { IsObservable (D.state disk.old) → OnOk result (IsDurable (D.state disk.new)) }
-    ensures makes { IsObservable (D.state disk.old) → Makes (slot_writes pass * (S.changes changes.now).count) 1 (D.state disk.old) (D.state disk.new) result }
-    ensures wrote { IsObservable (D.state disk.old) → 0 < (S.changes changes.now).count → Rose (D.state disk.old).writes (D.state disk.new).writes }
+    ensures makes { IsObservable (D.state disk.old) → Makes (slot_writes pass * (S.changes changes.now).count + version_writes kind) 1 (D.state disk.old) (D.state disk.new) result }
+    ensures wrote { IsObservable (D.state disk.old) → 0 < (S.changes changes.now).count + version_writes kind → Rose (D.state disk.old).writes (D.state disk.new).writes }
 {
     for k in 0..changes.count() {
         let (slot, bytes) = changes.change(k);
         write_slot(disk, slots, slot, bytes, pass)?;
     }
     // Durable before the next pass or flag: a crash there counts on what this one wrote.
-    disk.sync()
+    match kind {
+        Kind::Slots => disk.sync(),
+        Kind::Upgrade => write_version(disk, slots, pass),
+    }
 }
 
-/// Commits changed slots, of which there is one at least, in a table of so many slots.
+/// Commits changed slots, and the version with them in an upgrade, in a table of so many slots.
+/// In a commit of slots alone one is changed at least.
 pub fn commit_changes<D: Disk, S: SlotChanges>(
     disk: &mut D,
     slots: u32,
     changes: &S,
+    kind: Kind,
 ) -> Result<(), DiskFault>
     requires in_range { slots ≤ slots_limit }
     requires size { (D.state disk.old).size ≡ image_len slots }
     requires changes { AreChanges slots (S.changes changes.now) }
-    requires some { 0 < (S.changes changes.now).count }
+    requires some { 0 < (S.changes changes.now).count + version_writes kind }
     requires durable { IsObservable (D.state disk.old) → IsDurable (D.state disk.old) }
     requires empty { IsObservable (D.state disk.old) → HasEmptyJournal slots (D.state disk.old).bytes }
     ensures call { IsCall (D.state disk.old) (D.state disk.new) result }
-    ensures commits { IsObservable (D.state disk.old) → Commits slots (S.changes changes.now) (D.state disk.old) (D.state disk.new) result }
-    ensures makes { IsObservable (D.state disk.old) → Makes (5 * (S.changes changes.now).count + 2) 5 (D.state disk.old) (D.state disk.new) result }
+    ensures commits { IsObservable (D.state disk.old) → CommitsTo slots (target kind slots (S.changes changes.now) (D.state disk.old).bytes) (D.state disk.old) (D.state disk.new) result }
+    ensures makes { IsObservable (D.state disk.old) → Makes (5 * (S.changes changes.now).count + (2 + 3 * version_writes kind)) 5 (D.state disk.old) (D.state disk.new) result }
     ensures wrote { IsObservable (D.state disk.old) → Rose (D.state disk.old).writes (D.state disk.new).writes }
 {
     // Durable before the flag is set: behind a flag that is set, what the journal holds counts.
-    write_slots(disk, slots, changes, Pass::Journal)?;
-    // Durable before the table is written: where the flag is clear, the table has to be whole.
+    write_slots(disk, slots, changes, Pass::Journal, kind)?;
+    // Durable before header and table are written: where the flag is clear, they have to be whole.
     write_flag(disk, 1)?;
     // Durable before the flag is cleared: from then on nothing redoes it.
-    write_slots(disk, slots, changes, Pass::Table)?;
+    write_slots(disk, slots, changes, Pass::Table, kind)?;
     // Durable before the journal is erased: a flag that is still set would redo what is half erased.
     write_flag(disk, 0)?;
     // Durable before Ok: nothing is pending when the next commit begins.
-    write_slots(disk, slots, changes, Pass::Erase)
+    write_slots(disk, slots, changes, Pass::Erase, kind)
 }

@@ -1,5 +1,5 @@
-//! What is written of the journal of an image: the entry of a slot, which is its shadow block and its mark, and the
-//! commit flag.
+//! What is written of the journal of an image: the entry of a slot, which is its shadow block and its mark, and single
+//! bytes, as the commit flag.
 ghost use Rattle.std.specs.Prelude.{◌≡◌, ℕ, ◌+◌, ◌<◌, ◌≤◌, [], ◌∷◌, OnOk};
 ghost use Rattle.store_model.specs.Parameters.{image_len, slots_limit, gate_at};
 ghost use Rattle.disk_model.specs.DiskState.{DiskState, IsObservable, IsDurable};
@@ -31,6 +31,19 @@ pub fn write_entry<D: Disk>(
     disk.write_at(mark_at(slot), &[mark])
 }
 
+/// Writes one byte, by itself, and makes it durable with all that is pending.
+pub fn write_byte<D: Disk>(disk: &mut D, at: u64, byte: u8) -> Result<(), DiskFault>
+    requires { at + 1 ≤ (D.state disk.old).size }
+    ensures call { IsCall (D.state disk.old) (D.state disk.new) result }
+    ensures reaches { IsObservable (D.state disk.old) → Reaches (IsApart at 1) (λ image. image ≡ overwrite (D.state disk.old).bytes at (byte ∷ [])) (D.state disk.old) (D.state disk.new) result }
+    ensures durable { IsObservable (D.state disk.old) → OnOk result (IsDurable (D.state disk.new)) }
+    ensures makes { IsObservable (D.state disk.old) → Makes 1 1 (D.state disk.old) (D.state disk.new) result }
+    ensures wrote { IsObservable (D.state disk.old) → Rose (D.state disk.old).writes (D.state disk.new).writes }
+{
+    disk.write_at(at, &[byte])?;
+    disk.sync()
+}
+
 /// Writes the commit flag, by itself, and makes it durable.
 pub fn write_flag<D: Disk>(disk: &mut D, flag: u8) -> Result<(), DiskFault>
     requires { gate_at + 1 ≤ (D.state disk.old).size }
@@ -39,6 +52,5 @@ pub fn write_flag<D: Disk>(disk: &mut D, flag: u8) -> Result<(), DiskFault>
     ensures durable { IsObservable (D.state disk.old) → OnOk result (IsDurable (D.state disk.new)) }
     ensures makes { IsObservable (D.state disk.old) → Makes 1 1 (D.state disk.old) (D.state disk.new) result }
 {
-    disk.write_at(gate_at(), &[flag])?;
-    disk.sync()
+    write_byte(disk, gate_at(), flag)
 }

@@ -1,22 +1,26 @@
 //! The calls of the journal.
 ghost use Rattle.std.specs.Prelude.{◌≡◌, ◌≢◌, ◌↔◌, ◌⊎◌, ◌+◌, ◌*◌, ◌/◌, ◌<◌, ◌≤◌, slice_index, IsOk, IfOk, OnOk, OnErr};
+ghost use Rattle.store_model.specs.declared.version.Version.TheVariants.{One};
 ghost use Rattle.store_model.specs.Parameters.{image_len, block_len};
 ghost use Rattle.store_model.specs.Images.{first_byte, recovered_slot};
 ghost use Rattle.disk_model.specs.DiskState.{IsObservable, IsDurable};
 ghost use Rattle.disk_model.specs.DiskCalls.{Rose, raised, LeavesOnly};
 ghost use Rattle.gate_journal.specs.Places.{AreCalls, Makes, ReadsOnly};
 ghost use Rattle.gate_journal.specs.Phases.{HasEmptyJournal};
-ghost use Rattle.gate_journal.specs.Changes.{AreChanges, Commits};
+ghost use Rattle.gate_journal.specs.Changes.{AreChanges, Commits, CommitsUpgrade};
+ghost use Rattle.gate_journal.specs.Costs.{upgrade_writes, upgrade_syncs};
+ghost use Rattle.gate_journal.specs.Headers.{ViewsHeader};
 ghost use Rattle.gate_journal.specs.Recovery.{Recovers, redo_writes, redo_syncs, erase_writes};
 ghost use Rattle.sha2.specs.Sha256.{sha256};
 ghost use Rattle.gate_journal.specs.Wipes.{Wipes, block_count};
 ghost use Rattle.gate_journal.specs.Formats.{IsEmptyOrNone, Formats, faults_after_format};
 
 use crate::changes::SlotChanges;
-use crate::commit::commit_changes;
+use crate::commit::{Kind, commit_changes};
 use crate::digest::digest_disk;
 use crate::fault::JournalFault;
 use crate::format::{is_image, write_image};
+use crate::header::read_viewed;
 use crate::journal_cache::JournalCache;
 use crate::recover::recover_durable;
 use crate::view::read_recovered;
@@ -58,7 +62,33 @@ impl Journal {
         if changes.count() == 0 {
             return Ok(());
         }
-        commit_changes(disk, params.slots(), changes)
+        commit_changes(disk, params.slots(), changes, Kind::Slots)
+    }
+
+    /// Changes these slots of the table together, and makes the image one of version 2 with them.
+    ///
+    /// It asks for parameters of version 1, and goes by their slots. Each image that a crash at any moment of the call may
+    /// leave has the disk's length. It recovers to the old image, or to the one with the slots changed and of version 2.
+    /// So does what the disk reads after `DiskFault`; recover it before it is used again. After Ok the disk is durable and
+    /// reads the second of these. For no change the version is written all the same.
+    pub fn commit_upgrade<D: Disk, S: SlotChanges>(
+        disk: &mut D,
+        params: &Params,
+        changes: &S,
+    ) -> Result<(), DiskFault>
+        requires version { params.now.version ≡ One }
+        requires size { (D.state disk.old).size ≡ image_len params.now.slots }
+        requires changes { AreChanges params.now.slots (S.changes changes.now) }
+        requires durable { IsObservable (D.state disk.old) → IsDurable (D.state disk.old) }
+        requires empty { IsObservable (D.state disk.old) → HasEmptyJournal params.now.slots (D.state disk.old).bytes }
+        ensures calls { AreCalls (D.state disk.old) (D.state disk.new) result }
+        ensures commits { IsObservable (D.state disk.old) → CommitsUpgrade params.now.slots (S.changes changes.now) (D.state disk.old) (D.state disk.new) result }
+        ensures makes { IsObservable (D.state disk.old) → Makes (upgrade_writes (S.changes changes.now).count) upgrade_syncs (D.state disk.old) (D.state disk.new) result }
+
+        // a fault comes at a write or behind one
+        ensures wrote { IsObservable (D.state disk.old) → OnErr result (Rose (D.state disk.old).writes (D.state disk.new).writes) }
+    {
+        commit_changes(disk, params.slots(), changes, Kind::Upgrade)
     }
 
     /// Makes the image that a crash left what it recovers to.
@@ -68,8 +98,8 @@ impl Journal {
     /// recovers to the same; what the disk reads recovers to the same, after `DiskFault` too, and then it is recovered
     /// again before it is used. After Ok the disk is durable and reads what it recovers to.
     ///
-    /// With an empty journal it makes one sync and no write. Otherwise it writes each marked slot and the flag, where
-    /// the flag is set, and each block of the journal that is not zero, once.
+    /// With an empty journal it makes one sync and no write. Otherwise it writes once, where the flag is set, each marked
+    /// slot, the version where that is marked, and the flag; and in any case each block of the journal that is not zero.
     pub fn recover<D: Disk>(disk: &mut D, params: &Params) -> Result<(), DiskFault>
         requires { (D.state disk.old).size ≡ image_len params.now.slots }
         ensures calls { AreCalls (D.state disk.old) (D.state disk.new) result }
@@ -134,6 +164,15 @@ impl Journal {
             return Err(JournalFault::AlreadyImage);
         }
         Ok(write_image(disk, params)?)
+    }
+
+    /// The parameters that the image has that recovery would leave. `None` comes exactly where the disk is no image: its
+    /// header, as it is read, names no parameters, or not those of its length. Nothing is written. After `DiskFault` the
+    /// disk is as it was.
+    pub fn view_header<D: Disk>(disk: &mut D) -> Result<Option<Params>, DiskFault>
+        ensures views { ViewsHeader (D.state disk.old) (D.state disk.new) result }
+    {
+        read_viewed(disk)
     }
 
     /// Reads what recovery would leave in slot `at`, and writes nothing.

@@ -1,5 +1,5 @@
-//! What recovery makes of the image that a crash left: the table with the journal redone, where the commit flag is set,
-//! and an empty journal.
+//! What recovery makes of the image that a crash left: header and table with the journal redone, where the commit flag is
+//! set, and an empty journal.
 ghost use Rattle.std.specs.Prelude.{◌≡◌, ℕ, ◌+◌, ◌^◌, ◌<◌, ◌≤◌};
 ghost use Rattle.store_model.specs.Parameters.{image_len, slots_limit};
 ghost use Rattle.disk_model.specs.DiskState.{DiskState, IsObservable, IsDurable};
@@ -12,7 +12,7 @@ use crate::redo::{erase_area, is_flag_set, is_journal_zero, redo_table};
 use disk_model::Disk;
 use store_base::DiskFault;
 
-/// Redoes the marked slots where the commit flag is set, and clears it.
+/// Redoes the marked slots, and the version where that is marked, if the commit flag is set, and clears the flag.
 fn settle_flag<D: Disk>(disk: &mut D, slots: u32) -> Result<(), DiskFault>
     requires in_range { slots ≤ slots_limit }
     requires size { (D.state disk.old).size ≡ image_len slots }

@@ -1,4 +1,4 @@
-//! What recovery is made of: the table with the journal redone, where the commit flag is set, and an empty journal.
+//! What recovery is made of: header and table with the journal redone, where the commit flag is set, and an empty journal.
 ghost use Rattle.std.specs.Prelude.{◌≡◌, ◌↔◌, ℕ, ◌+◌, ◌-◌, ◌*◌, ◌<◌, ◌≤◌, min, length, slice_index, not, ◌==◌, IsTrue, IfOk, OnOk};
 ghost use Rattle.store_model.specs.Parameters.{image_len, shadow_at, table_at, slots_limit, block_len, gate_at, marks_at};
 ghost use Rattle.store_model.specs.Images.{bytes_at, is_flag_set, is_marked, recovered, journal_len};
@@ -6,11 +6,11 @@ ghost use Rattle.disk_model.specs.DiskState.{DiskState, IsObservable, IsDurable}
 ghost use Rattle.disk_model.specs.DiskCalls.{IsCall};
 ghost use Rattle.gate_journal.specs.Places.{IsApart, AreCalls, Reaches, Makes, ReadsOnly, IsZeroAt};
 ghost use Rattle.gate_journal.specs.Phases.{table_slot, HasEmptyJournal};
-ghost use Rattle.gate_journal.specs.Recovery.{OutsideMarked, AreRedone, marked_count, clear_writes, erase_writes};
+ghost use Rattle.gate_journal.specs.Recovery.{OutsideMarked, AreRedone, OutsideVersion, HasRedoneVersion, OutsideRedone, IsRedone, marked_count, clear_writes, erase_writes};
 
 use disk_model::Disk;
-use store_base::{DiskFault, gate_at, mark_at, shadow_at, table_at};
-use store_model::BLOCK;
+use store_base::{DiskFault, gate_at, mark_at, shadow_at, table_at, version_at, version_byte};
+use store_model::{BLOCK, Version};
 
 /// Whether each byte is zero, of at most those of a block.
 fn is_zero(bytes: &[u8]) -> bool
@@ -34,7 +34,7 @@ fn is_block_zero<D: Disk>(disk: &mut D, at: u64) -> Result<bool, DiskFault>
 }
 
 /// Whether the byte at this offset is not zero.
-fn is_byte_set<D: Disk>(disk: &mut D, at: u64) -> Result<bool, DiskFault>
+pub fn is_byte_set<D: Disk>(disk: &mut D, at: u64) -> Result<bool, DiskFault>
     requires { at + 1 ≤ (D.state disk.old).size }
     ensures call { IsCall (D.state disk.old) (D.state disk.new) result }
     ensures reads { IsObservable (D.state disk.old) → ReadsOnly (D.state disk.old) (D.state disk.new) }
@@ -161,17 +161,34 @@ fn redo_block<D: Disk>(disk: &mut D, slots: u32, first: u32) -> Result<(), DiskF
     Ok(())
 }
 
-/// Puts the shadow blocks of all marked slots into the table, and makes that durable.
+/// Makes the header one of version 2, where the mark behind the last slot's is set: also where it has that version.
+fn redo_version<D: Disk>(disk: &mut D, slots: u32) -> Result<(), DiskFault>
+    requires in_range { slots ≤ slots_limit }
+    requires size { (D.state disk.old).size ≡ image_len slots }
+    ensures call { IsCall (D.state disk.old) (D.state disk.new) result }
+    ensures reaches { IsObservable (D.state disk.old) → Reaches (OutsideVersion slots (D.state disk.old).bytes) (HasRedoneVersion slots (D.state disk.old).bytes) (D.state disk.old) (D.state disk.new) result }
+    ensures makes { IsObservable (D.state disk.old) → Makes (marked_count slots 1 (D.state disk.old).bytes) 0 (D.state disk.old) (D.state disk.new) result }
+{
+    if is_byte_set(disk, mark_at(slots))? {
+        return disk.write_at(version_at(), &[version_byte(Version::Two)]);
+    }
+    Ok(())
+}
+
+/// Puts the shadow blocks of all marked slots into the table, and version 2 into the header where that is marked, and
+/// makes this durable.
 pub fn redo_table<D: Disk>(disk: &mut D, slots: u32) -> Result<(), DiskFault>
     requires in_range { slots ≤ slots_limit }
     requires size { (D.state disk.old).size ≡ image_len slots }
     ensures calls { AreCalls (D.state disk.old) (D.state disk.new) result }
-    ensures reaches { IsObservable (D.state disk.old) → Reaches (OutsideMarked slots 0 slots (D.state disk.old).bytes) (AreRedone slots 0 slots (D.state disk.old).bytes) (D.state disk.old) (D.state disk.new) result }
-    ensures makes { IsObservable (D.state disk.old) → Makes (marked_count 0 slots (D.state disk.old).bytes) 1 (D.state disk.old) (D.state disk.new) result }
+    ensures reaches { IsObservable (D.state disk.old) → Reaches (OutsideRedone slots (D.state disk.old).bytes) (IsRedone slots (D.state disk.old).bytes) (D.state disk.old) (D.state disk.new) result }
+    ensures makes { IsObservable (D.state disk.old) → Makes (marked_count 0 (slots + 1) (D.state disk.old).bytes) 1 (D.state disk.old) (D.state disk.new) result }
     ensures durable { IsObservable (D.state disk.old) → OnOk result (IsDurable (D.state disk.new)) }
 {
     for block in 0..slots.div_ceil(BLOCK as u32) {
         redo_block(disk, slots, block * BLOCK as u32)?;
     }
+    redo_version(disk, slots)?;
+    // Durable before the flag is cleared: from then on nothing redoes it.
     disk.sync()
 }

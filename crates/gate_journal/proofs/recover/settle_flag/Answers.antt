@@ -1,7 +1,7 @@
 use Rattle.std.proofs.Common.{ℕ, ◌+◌, List, true, false, sym, ap, inr, subst, ◌∙◌, arith}
 use Rattle.disk_model.specs.DiskState.{DiskState}
 use Rattle.gate_journal.specs.Places.{IsApart, SameAt, Keeps, ReadsOnly}
-use Rattle.gate_journal.specs.Recovery.{IsBehindFlag, OutsideMarked, marked_count, redo_writes, redo_syncs}
+use Rattle.gate_journal.specs.Recovery.{IsBehindFlag, OutsideRedone, marked_count, redo_writes, redo_syncs}
 use Rattle.gate_journal.proofs.Counting.{redo_when}
 use Rattle.gate_journal.proofs.Places.{SameAt-trans, SameAt-weaken}
 use Rattle.gate_journal.proofs.Redoing.{before_table}
@@ -41,10 +41,10 @@ returns-clause-settles g c observable =
     (c.write_flag.ensures.reaches observable_2) (c.write_flag.ensures.durable observable_2)
 
 -- redoing leaves the journal behind the flag
-behind_flag : (slots : ℕ) (old mid new : DiskState) → ReadsOnly old mid → Keeps (OutsideMarked slots 0 slots mid.bytes) mid new → SameAt (IsBehindFlag slots) old.bytes new.bytes
+behind_flag : (slots : ℕ) (old mid new : DiskState) → ReadsOnly old mid → Keeps (OutsideRedone slots mid.bytes) mid new → SameAt (IsBehindFlag slots) old.bytes new.bytes
 behind_flag slots old mid new reads keeps =
     subst (λ (l : List ℕ). SameAt (IsBehindFlag slots) l new.bytes) reads.bytes
-    (SameAt-weaken (OutsideMarked slots 0 slots mid.bytes) (IsBehindFlag slots) mid.bytes new.bytes (λ place here. before_table slots 0 slots mid.bytes (omega arith) place here.1) keeps.reads)
+    (SameAt-weaken (OutsideRedone slots mid.bytes) (IsBehindFlag slots) mid.bytes new.bytes (λ place here. record { table = before_table slots 0 slots mid.bytes (omega arith) place here.1; version = λ marks. inr (omega (arith, here.0)) }) keeps.reads)
 
 pub returns-in_err-redo_table-clause-journal : goal.returns-in_err-redo_table-clause-journal
 returns-in_err-redo_table-clause-journal g c observable =
@@ -76,10 +76,10 @@ returns-in_err-redo_table-clause-makes g c observable =
     let new = g.D.Disk.state c.redo_table.new.disk in
     let set = redo_when c.args.slots old.bytes true (sym (c.in_ok-is_flag_set.ensures.value observable) ∙ c.if-not-branch.false) in
     let reads = c.is_flag_set.ensures.reads observable in
-    let count = marked_count 0 c.args.slots mid.bytes in
+    let count = marked_count 0 (c.args.slots + 1) mid.bytes in
     let observable_1 = IsObservable-call _ _ _ c.is_flag_set.ensures.call observable in
     Makes-short old new c.redo_table.result _ (0 + count) (0 + 1) (redo_writes c.args.slots old.bytes) (redo_syncs old.bytes) c.from_residual-in_err-redo_table.ensures.0
-    (omega (arith, set.0, ap (marked_count 0 c.args.slots) reads.bytes)) (omega (arith, set.1))
+    (omega (arith, set.0, ap (marked_count 0 (c.args.slots + 1)) reads.bytes)) (omega (arith, set.1))
     (Makes-then old mid new c.redo_table.result 0 0 count 1 (Made-reads old mid reads) (c.redo_table.ensures.makes observable_1))
 
 pub returns-clause-makes : goal.returns-clause-makes
@@ -89,8 +89,8 @@ returns-clause-makes g c observable =
     let next = g.D.Disk.state c.redo_table.new.disk in
     let set = redo_when c.args.slots old.bytes true (sym (c.in_ok-is_flag_set.ensures.value observable) ∙ c.if-not-branch.false) in
     let reads = c.is_flag_set.ensures.reads observable in
-    let count = marked_count 0 c.args.slots mid.bytes in
+    let count = marked_count 0 (c.args.slots + 1) mid.bytes in
     let observable_1 = IsObservable-call _ _ _ c.is_flag_set.ensures.call observable in
     let observable_2 = observable_after _ _ _ c.redo_table.ensures.calls observable_1 in
-    Makes-as old _ c.write_flag.result (0 + count + 1) (0 + 1 + 1) (redo_writes c.args.slots old.bytes) (redo_syncs old.bytes) (omega (arith, set.0, ap (marked_count 0 c.args.slots) reads.bytes)) (omega (arith, set.1))
+    Makes-as old _ c.write_flag.result (0 + count + 1) (0 + 1 + 1) (redo_writes c.args.slots old.bytes) (redo_syncs old.bytes) (omega (arith, set.0, ap (marked_count 0 (c.args.slots + 1)) reads.bytes)) (omega (arith, set.1))
     (Makes-then old next _ c.write_flag.result (0 + count) (0 + 1) 1 1 (Made-then old mid next _ 0 0 count 1 (Made-reads old mid reads) (c.in_ok-redo_table.ensures.makes observable_1)) (c.write_flag.ensures.makes observable_2))

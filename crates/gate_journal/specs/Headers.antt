@@ -1,0 +1,30 @@
+-- The parameters that the header of an image names, as it is read: those that recovery would leave.
+use Rattle.std.specs.Prelude.{◌≡◌, ℕ, List, length, slice_set, Bool, if◌then◌else◌, Option, Some, Result, IfSome, IfOk}
+use Rattle.store_model.specs.declared.version.Version.TheVariants.{Two}
+use Rattle.store_model.specs.Parameters.{Parameters, IsParameters, image_len}
+use Rattle.store_model.specs.Images.{version_byte, version_at, header, viewed_header}
+use Rattle.disk_model.specs.DiskState.{DiskState, IsObservable}
+use Rattle.gate_journal.specs.Places.{AreCalls, ReadsOnly}
+
+-- a header block as it is read, where the journal makes the image one of version 2 and where it does not
+abbrev pub as_read : Bool → List ℕ → List ℕ
+as_read marked block = if marked then slice_set block version_at (version_byte Two) else block
+
+-- the header of the image, as it is read, is that of these parameters, and the image has their length
+pub record HasHeader (image : List ℕ) (p : Parameters) : Type 0 where
+  pub in_range : IsParameters p
+  pub header_is : viewed_header p.slots image ≡ header p
+  pub length_is : length image ≡ image_len p.slots
+
+-- the disk has the length of an image with these parameters, and an observable one has their header
+pub record IsHeadedBy (disk : DiskState) (p : Parameters) : Type 0 where
+  pub in_range : IsParameters p
+  pub size_is : disk.size ≡ image_len p.slots
+  pub headed : IsObservable disk → HasHeader disk.bytes p
+
+-- Reads of a disk's header: parameters are found exactly where the disk has their header, and nothing is written.
+pub record ViewsHeader {E : Type 0} (old new : DiskState) (result : Result (Option Parameters) E) : Type 0 where
+  pub calls : AreCalls old new result
+  pub reads : IsObservable old → ReadsOnly old new
+  pub found : IfOk result (λ found. IfSome found (IsHeadedBy old))
+  pub only : IsObservable old → (p : Parameters) → HasHeader old.bytes p → IfOk result (λ found. found ≡ Some p)
