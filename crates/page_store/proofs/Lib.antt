@@ -6,6 +6,7 @@ pub mod SlotLemmas
 pub mod StagedCalls
 pub mod StagedLemmas
 pub mod TreeLayouts
+pub mod UpgradeLemmas
 pub mod CarriedLemmas
 pub mod CarryLemmas
 pub mod KnownLemmas

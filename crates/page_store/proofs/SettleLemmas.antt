@@ -1,5 +1,5 @@
 -- Lemmas on settles: refused, failed and done.
-use Rattle.std.proofs.Common.{◌≡◌, ◌⊎◌, ℕ, ◌+◌, ◌*◌, ◌<◌, ◌≤◌, Bool, true, false, List, [], length, Result, Ok, Err, refl, sym, ap, ap₂, subst, ◌∙◌, inl, arith}
+use Rattle.std.proofs.Common.{◌≡◌, ◌⊎◌, ℕ, ◌<◌, ◌≤◌, Bool, true, false, List, [], length, Result, Ok, Err, OnOk, refl, sym, ap, ap₂, subst, ◌∙◌, inl, arith}
 use Rattle.std.specs.FinMap as maps
 use Rattle.store_base.specs.Counts.{raised, Rose}
 use Rattle.store_base.specs.Faults.{disk_faults_after}
@@ -12,26 +12,29 @@ use Rattle.disk_model.specs.DiskState.{DiskState, IsObservable, IsDurable, IsSou
 use Rattle.disk_model.specs.DiskCalls.{LeavesOnly}
 use Rattle.disk_model.proofs.Crashes.{LeavesOnly-trans, LeavesOnly-weaken}
 use Rattle.gate_journal.specs.Changes as journal
-use Rattle.gate_journal.specs.Costs.{CountsCommit}
+use Rattle.gate_journal.specs.Costs.{MadeAtMost}
 use Rattle.gate_journal.specs.Disks.{KeepsDisk}
 use Rattle.gate_journal.specs.Phases.{HasEmptyJournal}
-use Rattle.gate_journal.specs.Places.{AreCalls, Makes, ReadsOnly}
+use Rattle.gate_journal.specs.Places.{Made, ReadsOnly}
 use Rattle.gate_journal.specs.ViewState.{KeepsView}
 use Rattle.gate_journal.proofs.Phases.{recovered_empty}
 use Rattle.table_memory.specs.declared.changed.ChangedSlots.{ChangedSlots}
 use Rattle.page_store.specs.declared.fault.SettleFault.{SettleFault}
 use Rattle.page_store.specs.declared.fault.SettleFault.TheVariants as causes
 use Rattle.table_memory.specs.Differences.{AreDifferences}
+use Rattle.page_store.specs.declared.commit_kind.CommitKind.{CommitKind}
+use Rattle.page_store.specs.CommitKinds.{committed, params_by, LeavesPages, writes_by, syncs_by}
+use Rattle.page_store.specs.Committing.{CommitsAs, CommitsSlots}
 use Rattle.page_store.specs.Faults.{settle_faults_after, settle_fault_of}
-use Rattle.table_memory.specs.SlotCaches.{changes_of}
+use Rattle.table_memory.specs.SlotCaches.{Kept, changes_of}
 use Rattle.table_memory.specs.Memos.{Remembered, IsMemoOf, Renews}
 use Rattle.table_memory.specs.OverlayState.{overlaid}
 use Rattle.page_store.specs.PageImages.{table_slots, pages_in_table, placed_slot, IsLayoutOf, SlotStandsAt, RepresentsPages, slots_between}
 use Rattle.page_store.specs.Preparing.{FindsSlots}
-use Rattle.page_store.specs.Settling.{AnswersFull, SettlesDisk, Settles}
+use Rattle.page_store.specs.Settling.{AnswersFull, SettlesDiskBy, SettlesBy}
 use Rattle.page_store.specs.StagedState.{StagedState, staged_state, CountsPages, IsStaged}
 use Rattle.table_memory.specs.Staging.{StagedPages, with_changes}
-use Rattle.page_store.proofs.CommitLemmas.{becomes, either, counts_commit}
+use Rattle.page_store.proofs.CommitLemmas.{becomes, either, made_behind, limit_behind, limit_reading, counts_by, params_stay, params_become, leaves_pages}
 use Rattle.table_memory.proofs.DifferLemmas.{differing-itself}
 use Rattle.table_memory.proofs.MemoLemmas.{renewed}
 use Rattle.page_store.proofs.SlotLemmas.{pages_in_held}
@@ -68,8 +71,8 @@ module _ {D W : Type 0} {state : D → DiskState} {drawn : W → Draw} {p q : Pa
   abbrev pages : PageMap
   pages = with_changes table changes
 
-  abbrev Either : List ℕ → Type 0
-  Either image = RepresentsPages (drawn draw) p table image ⊎ RepresentsPages (drawn draw) p pages image
+  abbrev Either : CommitKind → List ℕ → Type 0
+  Either kind image = RepresentsPages (drawn draw) p table image ⊎ RepresentsPages (drawn draw) (params_by kind p) pages image
 
   counted : IsObservable (state disk) → CountsPages (drawn draw) p (state disk) touched changes used settled
   counted observable = at.staged.counted observable runs
@@ -77,9 +80,9 @@ module _ {D W : Type 0} {state : D → DiskState} {drawn : W → Draw} {p q : Pa
   represents : IsObservable (state disk) → RepresentsPages (drawn draw) p table (state disk).bytes
   represents observable = represents_at (drawn draw) p table (state disk).bytes ((at.sound disk observable).size ∙ at.sized) (counted observable).stands.layout
 
-  crash_read : IsObservable (state disk) → LeavesOnly (state disk) (state mid) Either
-  crash_read observable =
-      LeavesOnly-weaken (state disk) (state mid) (state disk).crash_images Either (λ image left. inl (subst (RepresentsPages (drawn draw) p table) (sym ((counted observable).stands.durable image left)) (represents observable)))
+  crash_read : (kind : CommitKind) → IsObservable (state disk) → LeavesOnly (state disk) (state mid) (Either kind)
+  crash_read kind observable =
+      LeavesOnly-weaken (state disk) (state mid) (state disk).crash_images (Either kind) (λ image left. inl (subst (RepresentsPages (drawn draw) p table) (sym ((counted observable).stands.durable image left)) (represents observable)))
       (at.kept.reads observable).leaves
 
   same_table : IsObservable (state disk) → pages_in_table q.slots (state mid).bytes ≡ table
@@ -99,28 +102,31 @@ module _ {D W : Type 0} {state : D → DiskState} {drawn : W → Draw} {p q : Pa
   pub read_memo : (later : List (ℕ × List ℕ)) → later ≡ [] → (memo : Remembered) → IsMemoOf (drawn draw) (overlaid p.slots touched (state disk)) memo → IsMemoOf (drawn draw) (overlaid q.slots later (state mid)) memo
   read_memo later none memo of = memo_later (drawn draw) p q (state disk) (state mid) touched later memo (read_again later none) of
 
-  read_disk : (fault : SettleFault) → IsObservable (state disk) → AnswersFull {T = Unit {0}} (drawn draw) pages (Err fault) → SettlesDisk {T = Unit {0}} (drawn draw) p table pages (state disk) (state mid) false (Err fault)
-  read_disk fault observable full =
+  abbrev differing_slots : ℕ
+  differing_slots = slots_between (drawn draw) table pages
+
+  read_disk : (kind : CommitKind) (fault : SettleFault) → IsObservable (state disk) → AnswersFull {T = Unit {0}} (drawn draw) pages (Err fault) → SettlesDiskBy {T = Unit {0}} kind (drawn draw) p table pages (state disk) (state mid) false (Err fault)
+  read_disk kind fault observable full =
       let reads = at.kept.reads observable in
       record {
         full = full;
         stands = tt;
-        crash = crash_read observable;
+        crash = crash_read kind observable;
         reads = inl (subst (RepresentsPages (drawn draw) p table) (sym reads.bytes) (represents observable));
         still = λ e. reads;
         no_memory = λ e. reads;
         too_many = λ need slots e. reads;
-        counts = record { made = tt; limit = record { write_limit = omega (arith, reads.write_count); sync_limit = omega (arith, reads.sync_count) } };
+        counts = counts_by kind differing_slots (state disk) (state mid) (Err fault) tt (limit_reading (writes_by kind differing_slots) (syncs_by kind differing_slots) (state disk) (state mid) reads);
         spends = λ e. absurd (cc);
         goes_on = λ e is. reads;
       }
 
   -- a settle that is refused, or fails before the first write
-  pub refused : (now_memo : Remembered) (fault : SettleFault) → (state mid).faults ≡ settle_faults_after {T = Unit {0}} (state disk).faults (Err fault) → (IsObservable (state disk) → AnswersFull {T = Unit {0}} (drawn draw) pages (Err fault))
-      → Settles {T = Unit {0}} state drawn was (staged_state state q draw mid changes now_memo lookups is_spent) (Err fault)
-  refused now_memo fault faults full =
-      subst (λ (x : StagedState D W). Settles {T = Unit {0}} state drawn x (staged_state state q draw mid changes now_memo lookups is_spent) (Err fault)) at.view_is (record {
-        params = at.kept.params;
+  pub refused : (kind : CommitKind) (now_memo : Remembered) (fault : SettleFault) → (state mid).faults ≡ settle_faults_after {T = Unit {0}} (state disk).faults (Err fault) → (IsObservable (state disk) → AnswersFull {T = Unit {0}} (drawn draw) pages (Err fault))
+      → SettlesBy {T = Unit {0}} kind state drawn was (staged_state state q draw mid changes now_memo lookups is_spent) (Err fault)
+  refused kind now_memo fault faults full =
+      subst (λ (x : StagedState D W). SettlesBy {T = Unit {0}} kind state drawn x (staged_state state q draw mid changes now_memo lookups is_spent) (Err fault)) at.view_is (record {
+        params = at.kept.params ∙ sym (params_stay (Unit {0}) kind p fault);
         draw = refl;
         lookups = refl;
         kept = record { size = at.kept.size; observable = at.kept.observable; faults = at.kept.rise; writes = at.kept.writes; syncs = at.kept.syncs };
@@ -130,8 +136,8 @@ module _ {D W : Type 0} {state : D → DiskState} {drawn : W → Draw} {p q : Pa
         table = λ observable. tt;
         table_stays = λ observable still. same_table observable;
         observed = λ observable.
-            subst (λ (b : Bool). SettlesDisk {T = Unit {0}} (drawn draw) p table pages (state disk) (state mid) b (Err fault)) (sym runs)
-            (read_disk fault observable (full observable));
+            subst (λ (b : Bool). SettlesDiskBy {T = Unit {0}} kind (drawn draw) p table pages (state disk) (state mid) b (Err fault)) (sym runs)
+            (read_disk kind fault observable (full observable));
       })
 
   seen : IsObservable (state disk) → IsObservable (state mid)
@@ -163,13 +169,13 @@ module _ {D W : Type 0} {state : D → DiskState} {drawn : W → Draw} {p q : Pa
   few fewer observable more = let fewer_pages = fits fewer observable in absurd (omega (arith, fewer_pages, more))
 
   -- the slots that differ were not found
-  pub not_found : (now_memo : Remembered) (fault : Fault) → used ≤ p.slots → (state mid).faults ≡ disk_faults_after {T = ChangedSlots} (state disk).faults (Err fault)
-      → Settles {T = Unit {0}} state drawn was (staged_state state q draw mid changes now_memo lookups is_spent) (Err (settle_fault_of fault))
-  not_found now_memo below.Disk fewer faults = refused now_memo causes.Disk faults (few fewer)
-  not_found now_memo below.NoMemory fewer faults = refused now_memo causes.NoMemory faults (few fewer)
+  pub not_found : (kind : CommitKind) (now_memo : Remembered) (fault : Fault) → used ≤ p.slots → (state mid).faults ≡ disk_faults_after {T = ChangedSlots} (state disk).faults (Err fault)
+      → SettlesBy {T = Unit {0}} kind state drawn was (staged_state state q draw mid changes now_memo lookups is_spent) (Err (settle_fault_of fault))
+  not_found kind now_memo below.Disk fewer faults = refused kind now_memo causes.Disk faults (few fewer)
+  not_found kind now_memo below.NoMemory fewer faults = refused kind now_memo causes.NoMemory faults (few fewer)
 
   -- the slots that differ were found, and are committed
-  module _ (fewer : used ≤ p.slots) (law : IsLawful (drawn draw)) (changed : ChangedSlots) {found : Result ChangedSlots Fault} (is : found ≡ Ok changed) (found_by : FindsSlots (drawn draw) p touched changes (state disk) (state mid) found) (after : D) where
+  module _ (kind : CommitKind) (fewer : used ≤ p.slots) (law : IsLawful (drawn draw)) (changed : ChangedSlots) {found : Result ChangedSlots Fault} (is : found ≡ Ok changed) (found_by : FindsSlots (drawn draw) p touched changes (state disk) (state mid) found) (after : D) where
     finds : FindsSlots (drawn draw) p touched changes (state disk) (state mid) (Ok changed)
     finds = subst (FindsSlots (drawn draw) p touched changes (state disk) (state mid)) is found_by
 
@@ -181,52 +187,63 @@ module _ {D W : Type 0} {state : D → DiskState} {drawn : W → Draw} {p q : Pa
         let now = counted observable in
         finds.differ table observable now.stands.layout.holds now.untouched now.valid (fits fewer observable)
 
-    becomes_pages : IsObservable (state disk) → IsLayoutOf (drawn draw) p pages (journal.with_slots p.slots commit (state mid).bytes)
+    becomes_pages : IsObservable (state disk) → IsLayoutOf (drawn draw) (params_by kind p) pages (committed kind p.slots commit (state mid).bytes)
     becomes_pages observable =
-        becomes (drawn draw) p table pages (state mid) at.staged.drawn (at.sound mid (seen observable)) (at.kept.size ∙ at.sized) (stands_mid observable) (counted observable).valid (fits fewer observable) commit finds.rise (differ observable)
+        becomes (drawn draw) p table pages (state mid) at.staged.drawn (at.sound mid (seen observable)) (at.kept.size ∙ at.sized) (stands_mid observable) (counted observable).valid (fits fewer observable) commit finds.rise (differ observable) kind
 
-    to_either : IsObservable (state disk) → (image : List ℕ) → journal.RecoversToEither p.slots (state mid).bytes (journal.with_slots p.slots commit (state mid).bytes) image → Either image
+    to_either : IsObservable (state disk) → (image : List ℕ) → journal.RecoversToEither p.slots (state mid).bytes (committed kind p.slots commit (state mid).bytes) image → Either kind image
     to_either observable =
-        either (drawn draw) p table pages (state mid) at.staged.drawn (at.sound mid (seen observable)) (at.kept.size ∙ at.sized) (stands_mid observable) (counted observable).valid (fits fewer observable) commit finds.rise (differ observable)
+        either (drawn draw) p table pages (state mid) at.staged.drawn (at.sound mid (seen observable)) (at.kept.size ∙ at.sized) (stands_mid observable) (counted observable).valid (fits fewer observable) commit finds.rise (differ observable) kind
 
-    module _ {T E : Type 0} (result : Result T E) (calls : AreCalls (state mid) (state after) result) (commits : IsObservable (state mid) → journal.Commits p.slots commit (state mid) (state after) result) (none : commit.count ≡ 0 → after ≡ mid)
-        (makes : IsObservable (state mid) → 0 < commit.count → Makes (5 * commit.count + 2) 5 (state mid) (state after) result) where
+    module _ {E : Type 0} {result : Result (Unit {0}) E} {cache : Kept} (commits : CommitsSlots kind state p.slots commit mid after cache result) where
+      observed : IsObservable (state disk) → CommitsAs kind p.slots commit (state mid) (state after) result
+      observed observable = commits.observed (seen observable)
+
       keeps : KeepsDisk (state disk) (state after)
-      keeps = record {
-        size = calls.size ∙ at.kept.size;
-        observable = calls.observable ∙ at.kept.observable;
-        faults = omega (arith, at.kept.rise, calls.rise);
-        writes = omega (arith, at.kept.writes, calls.writes);
-        syncs = omega (arith, at.kept.syncs, calls.syncs);
-      }
+      keeps =
+          let calls = commits.calls in
+          record {
+            size = calls.size ∙ at.kept.size;
+            observable = calls.observable ∙ at.kept.observable;
+            faults = omega (arith, at.kept.rise, calls.rise);
+            writes = omega (arith, at.kept.writes, calls.writes);
+            syncs = omega (arith, at.kept.syncs, calls.syncs);
+          }
 
-      crash : IsObservable (state disk) → LeavesOnly (state disk) (state after) Either
+      crash : IsObservable (state disk) → LeavesOnly (state disk) (state after) (Either kind)
       crash observable =
-          LeavesOnly-trans (state disk) (state mid) (state after) Either (crash_read observable)
-          (LeavesOnly-weaken (state mid) (state after) (journal.RecoversToEither p.slots (state mid).bytes (journal.with_slots p.slots commit (state mid).bytes)) Either (to_either observable) (commits (seen observable)).crash)
+          LeavesOnly-trans (state disk) (state mid) (state after) (Either kind) (crash_read kind observable)
+          (LeavesOnly-weaken (state mid) (state after) (journal.RecoversToEither p.slots (state mid).bytes (committed kind p.slots commit (state mid).bytes)) (Either kind) (to_either observable) (observed observable).commits.crash)
 
-      reads : IsObservable (state disk) → Either (state after).bytes
-      reads observable = to_either observable (state after).bytes (commits (seen observable)).reads
+      reads : IsObservable (state disk) → Either kind (state after).bytes
+      reads observable = to_either observable (state after).bytes (observed observable).commits.reads
 
-      counts : IsObservable (state disk) → CountsCommit (slots_between (drawn draw) table pages) (state disk) (state after) result
-      counts observable = counts_commit (slots_between (drawn draw) table pages) commit.count (state disk) (state mid) (state after) result (at.kept.reads observable) (differ observable).count_is (λ e. ap state (none e)) (makes (seen observable))
+      made : IsObservable (state disk) → OnOk result (Made (writes_by kind differing_slots) (syncs_by kind differing_slots) (state disk) (state after))
+      made observable =
+          subst (λ (n : ℕ). OnOk result (Made (writes_by kind n) (syncs_by kind n) (state disk) (state after))) (differ observable).count_is
+          (made_behind (writes_by kind commit.count) (syncs_by kind commit.count) (state disk) (state mid) (state after) result (at.kept.reads observable) (observed observable).made)
 
-      -- where no page changed no slot differs, and nothing was committed
-      still : IsObservable (state disk) → pages ≡ table → ReadsOnly (state disk) (state after)
-      still observable same =
+      limit : IsObservable (state disk) → MadeAtMost (writes_by kind differing_slots) (syncs_by kind differing_slots) (state disk) (state after)
+      limit observable =
+          subst (λ (n : ℕ). MadeAtMost (writes_by kind n) (syncs_by kind n) (state disk) (state after)) (differ observable).count_is
+          (limit_behind (writes_by kind commit.count) (syncs_by kind commit.count) (state disk) (state mid) (state after) (at.kept.reads observable) (observed observable).limit)
+
+      -- where the commit leaves the image no slot differs, and nothing was committed
+      still : IsObservable (state disk) → LeavesPages kind table pages → ReadsOnly (state disk) (state after)
+      still observable leaves =
+          let (plain, same) = leaves_pages kind table pages leaves in
           let count_is : commit.count ≡ 0 = (differ observable).count_is ∙ ap (slots_between (drawn draw) table) same ∙ differing-itself (placed_slot (drawn draw) table) (drawn draw).slots in
-          subst (λ (x : D). ReadsOnly (state disk) (state x)) (sym (none count_is)) (at.kept.reads observable)
+          subst (λ (x : D). ReadsOnly (state disk) (state x)) (sym (commits.none plain count_is)) (at.kept.reads observable)
 
     -- the disk failed
-    pub failed : (now_memo : Remembered) {E : Type 0} (fault : E) → AreCalls {T = Unit {0}} (state mid) (state after) (Err fault) → (IsObservable (state mid) → journal.Commits {T = Unit {0}} p.slots commit (state mid) (state after) (Err fault)) → (commit.count ≡ 0 → after ≡ mid)
-        → (IsObservable (state mid) → 0 < commit.count → Makes {T = Unit {0}} (5 * commit.count + 2) 5 (state mid) (state after) (Err fault)) → (IsObservable (state mid) → Rose (state mid).writes (state after).writes)
-        → Settles {T = Unit {0}} state drawn was (staged_state state q draw after changes now_memo lookups true) (Err causes.Disk)
-    failed now_memo {E} fault calls commits none makes wrote = subst (λ (x : StagedState D W). Settles {T = Unit {0}} state drawn x (staged_state state q draw after changes now_memo lookups true) (Err causes.Disk)) at.view_is (record {
-      params = at.kept.params;
+    pub failed : (now_memo : Remembered) {E : Type 0} (fault : E) {cache : Kept} → CommitsSlots {T = Unit {0}} kind state p.slots commit mid after cache (Err fault)
+        → SettlesBy {T = Unit {0}} kind state drawn was (staged_state state q draw after changes now_memo lookups true) (Err causes.Disk)
+    failed now_memo fault commits = subst (λ (x : StagedState D W). SettlesBy {T = Unit {0}} kind state drawn x (staged_state state q draw after changes now_memo lookups true) (Err causes.Disk)) at.view_is (record {
+      params = at.kept.params ∙ sym (params_stay (Unit {0}) kind p causes.Disk);
       draw = refl;
       lookups = refl;
-      kept = keeps {T = Unit {0}} {E = E} (Err fault) calls commits none makes;
-      faults = calls.faults ∙ ap raised finds.faults;
+      kept = keeps commits;
+      faults = commits.calls.faults ∙ ap raised finds.faults;
       runs = λ other. absurd (other refl);
       map = λ observable still. absurd (cc);
       table = λ observable. tt;
@@ -234,13 +251,13 @@ module _ {D W : Type 0} {state : D → DiskState} {drawn : W → Draw} {p q : Pa
       observed = λ observable. record {
         full = few fewer observable;
         stands = tt;
-        crash = crash {T = Unit {0}} {E = E} (Err fault) calls commits none makes observable;
-        reads = reads {T = Unit {0}} {E = E} (Err fault) calls commits none makes observable;
-        still = still {T = Unit {0}} {E = E} (Err fault) calls commits none makes observable;
+        crash = crash commits observable;
+        reads = reads commits observable;
+        still = still commits observable;
         no_memory = λ e. absurd (cc);
         too_many = λ need slots e. absurd (cc);
-        counts = record { made = tt; limit = (counts {T = Unit {0}} {E = E} (Err fault) calls commits none makes observable).limit };
-        spends = λ e. (refl, inl (subst (λ (n : ℕ). Rose n (state after).writes) (at.kept.reads observable).write_count (wrote (seen observable))));
+        counts = counts_by kind differing_slots (state disk) (state after) (Err causes.Disk) tt (limit commits observable);
+        spends = λ e. (refl, inl (subst (λ (n : ℕ). Rose n (state after).writes) (at.kept.reads observable).write_count (observed commits observable).wrote));
         goes_on = λ e f. absurd (cc);
       };
     })
@@ -249,27 +266,29 @@ module _ {D W : Type 0} {state : D → DiskState} {drawn : W → Draw} {p q : Pa
     failed_staged later = record { drawn = at.staged.drawn ∙ ap (λ (r : Parameters). r.slots) (sym at.kept.params); counted = λ observable still. absurd (cc) }
 
     -- all was done
-    module _ {E : Type 0} (value : Unit {0}) (calls : AreCalls {E = E} (state mid) (state after) (Ok value)) (commits : IsObservable (state mid) → journal.Commits {E = E} p.slots commit (state mid) (state after) (Ok value)) where
-      stands_after : IsObservable (state disk) → SlotStandsAt (drawn draw) p pages (state after)
+    module _ {E : Type 0} (value : Unit {0}) {cache : Kept} (commits : CommitsSlots {E = E} kind state p.slots commit mid after cache (Ok value)) (r : Parameters) (r_is : r ≡ params_by kind p) where
+      stands_after : IsObservable (state disk) → SlotStandsAt (drawn draw) (params_by kind p) pages (state after)
       stands_after observable =
-          let done = commits (seen observable) in
-          record { layout = subst (IsLayoutOf (drawn draw) p pages) (sym done.done) (becomes_pages observable); durable = done.durable }
+          let done = (observed commits observable).commits in
+          record { layout = subst (IsLayoutOf (drawn draw) (params_by kind p) pages) (sym done.done) (becomes_pages observable); durable = done.durable }
 
       new_table : IsObservable (state disk) → pages_in_table p.slots (state after).bytes ≡ pages
       new_table observable = pages_in_held (drawn draw) (table_slots p.slots (state after).bytes) pages law (stands_after observable).layout.holds
 
-      pub done_staged : (later : List (ℕ × List ℕ)) (no_change : StagedPages) → later ≡ [] → no_change ≡ [] → IsStaged (drawn draw) q (state after) later no_change used used is_spent
+      before : IsObservable (state after) → IsObservable (state disk)
+      before observable = sym (commits.calls.observable ∙ at.kept.observable) ∙ observable
+
+      pub done_staged : (later : List (ℕ × List ℕ)) (no_change : StagedPages) → later ≡ [] → no_change ≡ [] → IsStaged (drawn draw) r (state after) later no_change used used is_spent
       done_staged later no_change untouched empty = record {
-        drawn = at.staged.drawn ∙ ap (λ (r : Parameters). r.slots) (sym at.kept.params);
+        drawn = at.staged.drawn ∙ ap (λ (x : Parameters). x.slots) (sym r_is);
         counted = λ observable still.
-            let before : IsObservable (state disk) = sym (calls.observable ∙ at.kept.observable) ∙ observable in
-            let table_is = new_table before in
-            let used_is = (counted before).used_is ∙ ap maps.len (sym table_is) in
-            subst (λ (es : StagedPages). CountsPages (drawn draw) q (state after) later es used used) (sym empty)
-            (subst (λ (t : List (ℕ × List ℕ)). CountsPages (drawn draw) q (state after) t [] used used) (sym untouched)
-            (subst (λ (r : Parameters). CountsPages (drawn draw) r (state after) [] [] used used) (sym at.kept.params) (record {
-              stands = subst (λ (m : PageMap). SlotStandsAt (drawn draw) p m (state after)) (sym table_is) (stands_after before);
-              valid = subst IsPageMap (sym table_is) (counted before).valid;
+            let table_is = new_table (before observable) in
+            let used_is = (counted (before observable)).used_is ∙ ap maps.len (sym table_is) in
+            subst (λ (es : StagedPages). CountsPages (drawn draw) r (state after) later es used used) (sym empty)
+            (subst (λ (t : List (ℕ × List ℕ)). CountsPages (drawn draw) r (state after) t [] used used) (sym untouched)
+            (subst (λ (x : Parameters). CountsPages (drawn draw) x (state after) [] [] used used) (sym r_is) (record {
+              stands = subst (λ (m : PageMap). SlotStandsAt (drawn draw) (params_by kind p) m (state after)) (sym table_is) (stands_after (before observable));
+              valid = subst IsPageMap (sym table_is) (counted (before observable)).valid;
               used_is = used_is;
               untouched = refl;
               settled_is = used_is;
@@ -277,44 +296,41 @@ module _ {D W : Type 0} {state : D → DiskState} {drawn : W → Draw} {p q : Pa
       }
 
       -- what is remembered then is of the new table
-      pub done_memo : (later : List (ℕ × List ℕ)) → later ≡ [] → (memo renewed_memo : Remembered) → IsMemoOf (drawn draw) (overlaid p.slots touched (state disk)) memo → Renews changes memo renewed_memo → IsMemoOf (drawn draw) (overlaid q.slots later (state after)) renewed_memo
+      pub done_memo : (later : List (ℕ × List ℕ)) → later ≡ [] → (memo renewed_memo : Remembered) → IsMemoOf (drawn draw) (overlaid p.slots touched (state disk)) memo → Renews changes memo renewed_memo → IsMemoOf (drawn draw) (overlaid r.slots later (state after)) renewed_memo
       done_memo later untouched memo renewed_memo of renews = record {
         tells = λ m observable holds l page is.
-            let before : IsObservable (state disk) = sym (calls.observable ∙ at.kept.observable) ∙ observable in
-            let slots_are : (overlaid q.slots later (state after)).slots ≡ table_slots p.slots (state after).bytes =
-            ap (λ (t : List (ℕ × List ℕ)). (overlaid q.slots t (state after)).slots) untouched ∙ ap (λ (r : Parameters). table_slots r.slots (state after).bytes) at.kept.params in
+            let slots_are : (overlaid r.slots later (state after)).slots ≡ table_slots p.slots (state after).bytes =
+            ap (λ (t : List (ℕ × List ℕ)). (overlaid r.slots t (state after)).slots) untouched ∙ ap (λ (x : Parameters). table_slots x.slots (state after).bytes) r_is in
             let held = subst (λ (slots : List (List ℕ)). HoldsPages (drawn draw) slots m) slots_are holds in
-            let map_is : m ≡ pages = sym (pages_in_held (drawn draw) (table_slots p.slots (state after).bytes) m law held) ∙ new_table before in
-            let now = counted before in
+            let map_is : m ≡ pages = sym (pages_in_held (drawn draw) (table_slots p.slots (state after).bytes) m law held) ∙ new_table (before observable) in
+            let now = counted (before observable) in
             let held_before = subst (λ (slots : List (List ℕ)). HoldsPages (drawn draw) slots table) (sym now.untouched) now.stands.layout.holds in
-            renewed table changes memo renewed_memo l page (of.tells table before held_before l page) renews is ∙ ap (λ (n : PageMap). page_at n l) (sym map_is);
+            renewed table changes memo renewed_memo l page (of.tells table (before observable) held_before l page) renews is ∙ ap (λ (n : PageMap). page_at n l) (sym map_is);
       }
 
-      pub done : (now_memo : Remembered) (no_change : StagedPages) → no_change ≡ [] → (commit.count ≡ 0 → after ≡ mid) → (IsObservable (state mid) → 0 < commit.count → Makes {E = E} (5 * commit.count + 2) 5 (state mid) (state after) (Ok value))
-          → Settles state drawn was (staged_state state q draw after no_change now_memo lookups is_spent) (Ok value)
-      done now_memo no_change empty none makes =
-          let table_is = λ (observable : IsObservable (state disk)). ap (λ (r : Parameters). pages_in_table r.slots (state after).bytes) at.kept.params ∙ new_table observable in
-          subst (λ (x : StagedState D W). Settles state drawn x (staged_state state q draw after no_change now_memo lookups is_spent) (Ok value)) at.view_is (record {
-            params = at.kept.params;
+      pub done : (now_memo : Remembered) (no_change : StagedPages) → no_change ≡ [] → SettlesBy kind state drawn was (staged_state state r draw after no_change now_memo lookups is_spent) (Ok value)
+      done now_memo no_change empty =
+          let table_is = λ (observable : IsObservable (state disk)). ap (λ (x : Parameters). pages_in_table x.slots (state after).bytes) r_is ∙ new_table observable in
+          subst (λ (x : StagedState D W). SettlesBy kind state drawn x (staged_state state r draw after no_change now_memo lookups is_spent) (Ok value)) at.view_is (record {
+            params = r_is ∙ sym (params_become SettleFault kind p value);
             draw = refl;
             lookups = refl;
-            kept = keeps {E = E} (Ok value) calls commits none makes;
-            faults = calls.faults ∙ finds.faults;
+            kept = keeps commits;
+            faults = commits.calls.faults ∙ finds.faults;
             runs = λ other. runs;
-            map = λ observable still. ap (with_changes (pages_in_table q.slots (state after).bytes)) empty ∙ table_is observable;
+            map = λ observable still. ap (with_changes (pages_in_table r.slots (state after).bytes)) empty ∙ table_is observable;
             table = table_is;
             table_stays = λ observable still. tt;
             observed = λ observable.
-                let counted_all = counts {E = E} (Ok value) calls commits none makes observable in
-                subst (λ (b : Bool). SettlesDisk (drawn draw) p table pages (state disk) (state after) b (Ok value)) (sym runs) (record {
+                subst (λ (b : Bool). SettlesDiskBy kind (drawn draw) p table pages (state disk) (state after) b (Ok value)) (sym runs) (record {
                   full = few fewer observable;
                   stands = stands_after observable;
-                  crash = crash {E = E} (Ok value) calls commits none makes observable;
-                  reads = reads {E = E} (Ok value) calls commits none makes observable;
-                  still = still {E = E} (Ok value) calls commits none makes observable;
+                  crash = crash commits observable;
+                  reads = reads commits observable;
+                  still = still commits observable;
                   no_memory = λ e. absurd (cc);
                   too_many = λ need slots e. absurd (cc);
-                  counts = record { made = counted_all.made; limit = counted_all.limit };
+                  counts = counts_by kind differing_slots (state disk) (state after) (Ok value) (made commits observable) (limit commits observable);
                   spends = λ e. absurd (cc);
                   goes_on = λ e f. absurd (cc);
                 });

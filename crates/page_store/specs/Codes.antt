@@ -4,6 +4,8 @@ use Rattle.std.specs.Coded.{Coded, code_by, coded×, coded_ℕ, coded_bool, code
 use Rattle.std.specs.FinMap as maps
 use Rattle.store_model.specs.declared.draw_kind.DrawKind.{DrawKind}
 use Rattle.store_model.specs.declared.draw_kind.DrawKind.TheVariants.{Ruler, Sha256}
+use Rattle.store_model.specs.declared.version.Version.{Version}
+use Rattle.store_model.specs.declared.version.Version.TheVariants.{One, Two}
 use Rattle.store_model.specs.Parameters.{Parameters}
 use Rattle.store_model.specs.PageMaps.{PageMap}
 use Rattle.table_memory.specs.Codes.{label_code, page_code, remembered_code}
@@ -32,10 +34,28 @@ kind_again Sha256 = refl
 abbrev pub kind_code : Coded DrawKind
 kind_code = code_by ℕ coded_ℕ number_of_kind kind_of_number kind_again
 
+-- and so of the versions of the format
+abbrev pub versions : List Version
+versions = One ∷ Two ∷ []
+
+abbrev pub number_of_version : Version → ℕ
+number_of_version One = 0
+number_of_version Two = 1
+
+abbrev pub version_of_number : ℕ → Version
+version_of_number n = slice_index_or versions n One
+
+abbrev pub version_again : (version : Version) → version_of_number (number_of_version version) ≡ version
+version_again One = refl
+version_again Two = refl
+
+abbrev pub version_code : Coded Version
+version_code = code_by ℕ coded_ℕ number_of_version version_of_number version_again
+
 abbrev pub parameters_code : Coded Parameters
 parameters_code =
-    code_by (ℕ × (ℕ × (DrawKind × List ℕ))) (coded× coded_ℕ (coded× coded_ℕ (coded× kind_code (coded_list coded_ℕ)))) (λ p. (p.slots, (p.height, (p.kind, p.seed))))
-    (λ t. record { slots = t.0; height = t.1.0; kind = t.1.1.0; seed = t.1.1.1 }) (λ _. refl)
+    code_by (ℕ × (ℕ × (DrawKind × (List ℕ × Version)))) (coded× coded_ℕ (coded× coded_ℕ (coded× kind_code (coded× (coded_list coded_ℕ) version_code))))
+    (λ p. (p.slots, (p.height, (p.kind, (p.seed, p.version))))) (λ t. record { slots = t.0; height = t.1.0; kind = t.1.1.0; seed = t.1.1.1.0; version = t.1.1.1.1 }) (λ _. refl)
 
 abbrev pub staged_pages_code : Coded StagedPages
 staged_pages_code = coded_list (coded× label_code (coded_option page_code))

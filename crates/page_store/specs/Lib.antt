@@ -1,4 +1,5 @@
 pub mod Codes
+pub mod CommitKinds
 pub mod Committing
 pub mod Faults
 pub mod PageImages

@@ -8,9 +8,11 @@ use Rattle.disk_model.specs.DiskState.{DiskState, IsObservable}
 use Rattle.disk_model.specs.DiskCalls.{Rose, LeavesOnly}
 use Rattle.gate_journal.specs.Places.{ReadsOnly}
 use Rattle.gate_journal.specs.Disks.{KeepsDisk}
-use Rattle.gate_journal.specs.Costs.{CountsCommit}
+use Rattle.page_store.specs.declared.commit_kind.CommitKind.{CommitKind}
+use Rattle.page_store.specs.declared.commit_kind.CommitKind.TheVariants.{Plain, Upgrade}
 use Rattle.page_store.specs.declared.fault.SettleFault.{SettleFault}
 use Rattle.page_store.specs.declared.fault.SettleFault.TheVariants as causes
+use Rattle.page_store.specs.CommitKinds.{params_by, params_after, LeavesPages, CountsBy}
 use Rattle.page_store.specs.Faults.{settle_faults_after}
 use Rattle.page_store.specs.PageImages.{SlotStandsAt, RepresentsPages, slots_between}
 use Rattle.page_store.specs.StagedState.{StagedState}
@@ -28,26 +30,27 @@ AnswersFull d m (Err (causes.Full need slots)) = IsTooMany d m need slots
 AnswersFull d m (Err causes.Disk) = d.slots < maps.len m → ⊥
 AnswersFull d m (Err causes.NoMemory) = d.slots < maps.len m → ⊥
 
--- What a settle does to an observable disk that stands at the one map, where the pages are those of the other.
-pub record SettlesDisk {T : Type 0} (d : Draw) (p : Parameters) (table map : PageMap) (old new : DiskState) (is_spent : Bool) (result : Result T SettleFault) : Type 0 where
+-- What a settle that ends with a commit of this kind does to an observable disk that stands at the one map, where the
+-- pages are those of the other.
+pub record SettlesDiskBy {T : Type 0} (kind : CommitKind) (d : Draw) (p : Parameters) (table map : PageMap) (old new : DiskState) (is_spent : Bool) (result : Result T SettleFault) : Type 0 where
   pub full : AnswersFull d map result
-  pub stands : OnOk result (SlotStandsAt d p map new)
+  pub stands : OnOk result (SlotStandsAt d (params_by kind p) map new)
   -- a crash at any moment of the call leaves an image of the one map or of the other, and the disk reads one
-  pub crash : LeavesOnly old new (λ image. RepresentsPages d p table image ⊎ RepresentsPages d p map image)
-  pub reads : RepresentsPages d p table new.bytes ⊎ RepresentsPages d p map new.bytes
-  -- where no page changed, and where it is refused before the first write, the disk was only read
-  pub still : map ≡ table → ReadsOnly old new
+  pub crash : LeavesOnly old new (λ image. RepresentsPages d p table image ⊎ RepresentsPages d (params_by kind p) map image)
+  pub reads : RepresentsPages d p table new.bytes ⊎ RepresentsPages d (params_by kind p) map new.bytes
+  -- where the commit leaves the image, and where the settle is refused before the first write, the disk was only read
+  pub still : LeavesPages kind table map → ReadsOnly old new
   pub no_memory : IsErrOf result causes.NoMemory → ReadsOnly old new
   pub too_many : (need slots : ℕ) → IsErrOf result (causes.Full need slots) → ReadsOnly old new
   -- the slots that differ are committed, and no others
-  pub counts : CountsCommit (slots_between d table map) old new result
+  pub counts : CountsBy kind (slots_between d table map) old new result
   -- the value is spent by a fault that came behind a write or a sync alone, and any other fault leaves the disk as it was
   pub spends : is_spent ≡ true → IsErrOf result causes.Disk × (Rose old.writes new.writes ⊎ Rose old.syncs new.syncs)
   pub goes_on : is_spent ≡ false → IsErrOf result causes.Disk → ReadsOnly old new
 
--- The pages of a value that is not spent are settled.
-pub record Settles {D W T : Type 0} (state : D → DiskState) (drawn : W → Draw) (old new : StagedState D W) (result : Result T SettleFault) : Type 0 where
-  pub params : new.params ≡ old.params
+-- The pages of a value that is not spent are settled, with a commit of this kind at the end.
+pub record SettlesBy {D W T : Type 0} (kind : CommitKind) (state : D → DiskState) (drawn : W → Draw) (old new : StagedState D W) (result : Result T SettleFault) : Type 0 where
+  pub params : new.params ≡ params_after kind old.params result
   pub draw : new.draw ≡ old.draw
   pub lookups : new.lookups ≡ old.lookups
   pub kept : KeepsDisk (state old.disk) (state new.disk)
@@ -58,4 +61,18 @@ pub record Settles {D W T : Type 0} (state : D → DiskState) (drawn : W → Dra
   pub map : IsObservable (state old.disk) → new.is_spent ≡ false → new.map ≡ old.map
   pub table : IsObservable (state old.disk) → OnOk result (new.table ≡ old.map)
   pub table_stays : IsObservable (state old.disk) → new.is_spent ≡ false → OnErr result (new.table ≡ old.table)
-  pub observed : IsObservable (state old.disk) → SettlesDisk (drawn old.draw) old.params old.table old.map (state old.disk) (state new.disk) new.is_spent result
+  pub observed : IsObservable (state old.disk) → SettlesDiskBy kind (drawn old.draw) old.params old.table old.map (state old.disk) (state new.disk) new.is_spent result
+
+-- What a settle does to an observable disk that stands at the one map, where the pages are those of the other: its
+-- parameters stay, and where no page changed it is only read.
+abbrev pub SettlesDisk : {T : Type 0} → Draw → Parameters → PageMap → PageMap → DiskState → DiskState → Bool → Result T SettleFault → Type 0
+SettlesDisk d p table map old new is_spent result = SettlesDiskBy Plain d p table map old new is_spent result
+
+-- The pages of a value that is not spent are settled.
+abbrev pub Settles : {D W T : Type 0} → (D → DiskState) → (W → Draw) → StagedState D W → StagedState D W → Result T SettleFault → Type 0
+Settles state drawn old new result = SettlesBy Plain state drawn old new result
+
+-- They are settled, and the image is one of version 2 with them: after Ok the parameters are those of before under
+-- version 2, and that is written where no page changed too.
+abbrev pub SettlesUpgrade : {D W T : Type 0} → (D → DiskState) → (W → Draw) → StagedState D W → StagedState D W → Result T SettleFault → Type 0
+SettlesUpgrade state drawn old new result = SettlesBy Upgrade state drawn old new result

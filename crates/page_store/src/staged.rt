@@ -13,9 +13,11 @@ ghost use Rattle.node_pages.specs.PagesState.{IsPageGet, IsPagePut, IsPageDrop, 
 ghost use Rattle.table_memory.specs.Memos.{memo_place, IsKnown};
 ghost use Rattle.page_store.specs.PageImages.{pages_in_table, SlotStandsAt};
 ghost use Rattle.table_memory.specs.Staging.{with_change, used_after};
-ghost use Rattle.page_store.specs.Settling.{Settles};
+ghost use Rattle.store_model.specs.declared.version.Version.TheVariants.{One};
+ghost use Rattle.page_store.specs.Settling.{SettlesBy, Settles, SettlesUpgrade};
 
 use crate::changes::Changes;
+use crate::commit_kind::CommitKind;
 use crate::fault::SettleFault;
 use crate::lookup::Lookup;
 use crate::overlay::Overlay;
@@ -227,6 +229,29 @@ impl<D: Disk, W: Draw> Staged<D, W> {
         requires { self.old.is_spent ≡ false }
         ensures call { Settles D.state W.drawn self.old self.new result }
     {
+        self.settle_by(CommitKind::Plain)
+    }
+
+    /// Settles the pages as `settle` does, and makes the image one of version 2 with them: the parameters are those of
+    /// version 1 before, and after Ok those of version 2.
+    ///
+    /// Each image that a crash at any moment of the call may leave is of version 1 and holds the pages that the table
+    /// had, or is of version 2 and holds those that there are now. An upgrade that changes d slots makes 5d + 5 writes
+    /// and 5 syncs, and so does one that changes none. After a fault the parameters are those of before.
+    pub fn settle_upgrade(&mut self) -> Result<(), SettleFault>
+        requires runs { self.old.is_spent ≡ false }
+        requires version { self.old.params.version ≡ One }
+        ensures call { SettlesUpgrade D.state W.drawn self.old self.new result }
+    {
+        self.settle_by(CommitKind::Upgrade)
+    }
+
+    /// Settles the pages, with a commit of this kind at the end.
+    fn settle_by(&mut self, kind: CommitKind) -> Result<(), SettleFault>
+        requires runs { self.old.is_spent ≡ false }
+        requires version { kind ≡ CommitKind.Upgrade → self.old.params.version ≡ One }
+        ensures call { SettlesBy kind D.state W.drawn self.old self.new result }
+    {
         let params = self.lookup.overlay.params;
         let slots = params.slots();
         if self.used > slots {
@@ -251,8 +276,10 @@ impl<D: Disk, W: Draw> Staged<D, W> {
             &params,
             changed,
             spares,
+            kind,
         ) {
             Ok(()) => {
+                overlay.params = kind.params(&params);
                 self.changes.hand_to(memo);
                 self.settled = self.used;
                 Ok(())

@@ -194,9 +194,10 @@ module _ (slots : ℕ) (old new : DiskState) (same : new.is_observable ≡ old.i
   ]
 
   -- the slots that were committed are rewritten
-  pub cache_committed : (changes : journal.Changes) → journal.AreChanges slots changes → (IsObservable old → length old.bytes ≡ image_len slots) → (IsObservable old → new.bytes ≡ journal.with_slots slots changes old.bytes)
+  pub cache_committed : (changes : journal.Changes) → journal.AreChanges slots changes → (IsObservable old → length old.bytes ≡ image_len slots)
+      → (IsObservable old → (i : ℕ) → table_slot slots new.bytes i ≡ table_slot slots (journal.with_slots slots changes old.bytes) i)
       → (after : Kept) → RewritesFirst changes.count changes kept after → IsSlotCacheOf slots new after
-  cache_committed changes are long bytes after rewrites i slot is = elim (rewrites i slot is) [
+  cache_committed changes are long table after rewrites i slot is = elim (rewrites i slot is) [
     | inl others ↦
         let was = cached i slot others.1 in
         record {
@@ -204,7 +205,7 @@ module _ (slots : ℕ) (old new : DiskState) (same : new.is_observable ≡ old.i
           long = was.long;
           is = λ observable.
               let at = before observable in
-              was.is at ∙ sym (with-slots-kept slots changes old.bytes are (long at) i was.within others.0) ∙ ap (λ (image : List ℕ). table_slot slots image i) (sym (bytes at));
+              was.is at ∙ sym (with-slots-kept slots changes old.bytes are (long at) i was.within others.0) ∙ sym (table at i);
         }
     | inr now ↦
         let k = now.0 in
@@ -214,7 +215,7 @@ module _ (slots : ℕ) (old new : DiskState) (same : new.is_observable ≡ old.i
           is = λ observable.
               let at = before observable in
               now.3 ∙ sym (with-slots-changed slots changes old.bytes are (long at) k now.1)
-              ∙ ap (λ (n : ℕ). table_slot slots (journal.with_slots slots changes old.bytes) n) now.2 ∙ ap (λ (image : List ℕ). table_slot slots image i) (sym (bytes at));
+              ∙ ap (λ (n : ℕ). table_slot slots (journal.with_slots slots changes old.bytes) n) now.2 ∙ sym (table at i);
         }
   ]
 
