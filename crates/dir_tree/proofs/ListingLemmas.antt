@@ -13,7 +13,7 @@ use Rattle.store_model.specs.Parameters.{Parameters}
 use Rattle.store_model.specs.Paths.{Path, is_root, is_path, path_cmp, same_path, is_inside, is_at_or_inside, parent, last_name, name_bytes, field_len, fits_field, is_name, key, key_cmp}
 use Rattle.store_model.specs.Trees.{Tree, Node, IsTree, IsEntry, exists, is_directory, node_at, children}
 use Rattle.store_model.specs.Trees.Node.{Directory, File}
-use Rattle.store_model.specs.Pairs.{node_pairs, pairs}
+use Rattle.store_model.specs.Pairs.{is_inline, file_pairs, node_pairs, pairs}
 use Rattle.store_model.specs.Commands.{Child}
 use Rattle.store_model.specs.Steps.{child_of}
 use Rattle.store_model.proofs.ListsLemmas.{second_true, all_with, all_weaker, rising_from_is_sorted, rising_head, rising_tail}
@@ -104,11 +104,11 @@ between_first x from path is = record {
 }
 
 -- what is found is a child
-pub found_child : (t : Tree) (x : Path) (from : List ℕ) (y : Path) (i : ℕ) → IsTree t → IsTrue (is_path x) → is_directory t x ≡ true → IsBetween x from → IsWithin x y i → IsFirstFrom from (tree_blocks t) y i
+pub found_child : (t : Tree) (p : Parameters) (x : Path) (from : List ℕ) (y : Path) (i : ℕ) → IsTree t → IsTrue (is_path x) → is_directory t x ≡ true → IsBetween x from → IsWithin x y i → IsFirstFrom from (tree_blocks t p) y i
     → (parent y ≡ x) × (0 ≡ i)
-found_child t x from y i h path directory between within first =
-    let stands = block_stands t y i first.there in
-    let inside = strictly_below t x y i h directory path within.in_range within.within (le_le (key x 1) from (key y i) between.low first.behind) first.there in
+found_child t p x from y i h path directory between within first =
+    let stands = block_stands t p y i first.there in
+    let inside = strictly_below t p x y i h directory path within.in_range within.within (le_le (key x 1) from (key y i) between.low first.behind) first.there in
     let below = below_child y x inside in
     let child : Path = x ++ below.0 ∷ [] in
     let root : is_root child ≡ false = not_root-push x below.0 in
@@ -121,7 +121,7 @@ found_child t x from y i h path directory between within first =
     from_child c root up at valid false e = absurd (below_and_le (key y i) from (between.whole c y i valid root up (below_from_not_le from (key c 0) e) within.valid within.in_range at) first.behind)
 
     by_order : (c : Path) → is_root c ≡ false → parent c ≡ x → is_at_or_inside y c ≡ true → IsTrue (is_path c) → exists t c ≡ true → (o : Ordering) → key_cmp (key c 0) (key y i) ≡ o → (c ≡ y) × (0 ≡ i)
-    by_order c root up at valid is Less e = absurd (first_block_there t c root is (first.first c 0 valid (omega arith) (from_child c root up at valid (is_le (key_cmp from (key c 0))) refl) e))
+    by_order c root up at valid is Less e = absurd (first_block_there t p c root is (first.first c 0 valid (omega arith) (from_child c root up at valid (is_le (key_cmp from (key c 0))) refl) e))
     by_order c root up at valid is Equal e = same_place c y i valid within.valid within.in_range e
     by_order c root up at valid is Greater e = absurd (both_ways _ (ap is_le e) (top_is_lowest c y i valid within.valid within.in_range at))
 
@@ -159,9 +159,9 @@ rest_first t x from h path is =
     by_test e of true same = ap (λ q. is_le (key_cmp q (key e.0 0))) is ∙ ap is_le (child_behind x e.0 1 0 path of.path (omega arith) (omega arith) (child_inside e.0 x of.below_root (same_from_test (parent e.0) x same)))
     by_test e of false same = refl
 
-rest_past : (t : Tree) (x y : Path) (n : Node) (from past : List ℕ) → IsTree t → IsTrue (is_path y) → is_root y ≡ false → parent y ≡ x → find path_cmp y t ≡ Some n → IsFirstFrom from (tree_blocks t) y 0 → IsPast y past
+rest_past : (t : Tree) (p : Parameters) (x y : Path) (n : Node) (from past : List ℕ) → IsTree t → IsTrue (is_path y) → is_root y ≡ false → parent y ≡ x → find path_cmp y t ≡ Some n → IsFirstFrom from (tree_blocks t p) y 0 → IsPast y past
     → filter (to_come x from) t ≡ (y, n) ∷ filter (to_come x past) t
-rest_past t x y n from past h path root up found first at =
+rest_past t p x y n from past h path root up found first at =
     filter_first (to_come x from) (to_come x past) y n t (rising_from_is_sorted path_cmp t h.sorted) found
     (and_from _ _ (same_path-from_equal (parent y) x up) first.behind)
     (and_right _ _ (not_le_from_below past (key y 0) (at.above y 0 path (at_itself y))))
@@ -171,7 +171,7 @@ rest_past t x y n from past h path root up found first at =
     before : (e : Path × Node) → IsEntry t e → exists t e.0 ≡ true → path_cmp e.0 y ≡ Less → (to_come x from e ≡ false) × (to_come x past e ≡ false)
     before e of is l =
         let less = less_keys e.0 y 0 0 of.path path (omega arith) (omega arith) l in (
-          and_right _ _ (false_from_ne_true _ (λ from_e. first_block_there t e.0 of.below_root is (first.first e.0 0 of.path (omega arith) from_e less))),
+          and_right _ _ (false_from_ne_true _ (λ from_e. first_block_there t p e.0 of.below_root is (first.first e.0 0 of.path (omega arith) from_e less))),
           and_right _ _ (not_le_from_below past (key e.0 0) (nat_list_cmp_total.trans (key e.0 0) (key y 0) past less (at.above y 0 path (at_itself y)))),
         )
 
@@ -182,8 +182,8 @@ rest_past t x y n from past h path root up found first at =
     behind e of l false same = refl
 
 -- nothing is left
-rest_none : (t : Tree) (x : Path) (from : List ℕ) → IsTree t → LacksFrom from x (tree_blocks t) → filter (to_come x from) t ≡ []
-rest_none t x from h lacks = none t (all_with (IsEntry t) (λ e. exists t e.0 ≡ true) (λ e. to_come x from e ≡ false) not_left t h.entries (all_exist t))
+rest_none : (t : Tree) (p : Parameters) (x : Path) (from : List ℕ) → IsTree t → LacksFrom from x (tree_blocks t p) → filter (to_come x from) t ≡ []
+rest_none t p x from h lacks = none t (all_with (IsEntry t) (λ e. exists t e.0 ≡ true) (λ e. to_come x from e ≡ false) not_left t h.entries (all_exist t))
   where
     none : (u : Tree) → AllByRecursion (λ e. to_come x from e ≡ false) u → filter (to_come x from) u ≡ []
     none [] g = refl
@@ -193,7 +193,7 @@ rest_none t x from h lacks = none t (all_with (IsEntry t) (λ e. exists t e.0 �
     not_left e of is = by_tests (same_path (parent e.0) x) (is_le (key_cmp from (key e.0 0))) refl refl
       where
         by_tests : (a b : Bool) → same_path (parent e.0) x ≡ a → is_le (key_cmp from (key e.0 0)) ≡ b → (a && b) ≡ false
-        by_tests true true s l = absurd (first_block_there t e.0 of.below_root is (lacks e.0 0 of.path (omega arith) (or_right (same_path e.0 x) (is_inside e.0 x) (child_inside e.0 x of.below_root (same_from_test (parent e.0) x s))) l))
+        by_tests true true s l = absurd (first_block_there t p e.0 of.below_root is (lacks e.0 0 of.path (omega arith) (or_right (same_path e.0 x) (is_inside e.0 x) (child_inside e.0 x of.below_root (same_from_test (parent e.0) x s))) l))
         by_tests true false s l = refl
         by_tests false b s l = refl
 
@@ -213,14 +213,14 @@ unfolding child_of
 child_is y Directory o e = ap (λ z. (last_name y, size_at z)) (sym e)
 child_is y (File bytes) o e = ap (λ z. (last_name y, size_at z)) (sym e)
 
-pub one_more_listed : (t : Tree) (x y : Path) (i turns : ℕ) (from past : List ℕ) (entries after : List Child) (name : List ℕ) (size : Option ℕ) → IsTree t → IsTrue (is_path x) → is_directory t x ≡ true → IsPartListed t x from turns entries
-    → IsWithin x y i → IsFirstFrom from (tree_blocks t) y i → IsPast y past → name ≡ last_name y → size ≡ size_at (node_at t y) → after ≡ entries ++ (name, size) ∷ [] → IsPartListed t x past (turns + 1) after
-one_more_listed t x y i turns from past entries after name size h path directory part within first at name_is size_is added =
-    let child = found_child t x from y i h path directory part.between within first in
-    let here : IsFirstFrom from (tree_blocks t) y 0 = subst (λ (j : ℕ). IsFirstFrom from (tree_blocks t) y j) (sym child.1) first in
-    let entry = entry_at t y h within.below_root (block_stands t y i first.there) in
+pub one_more_listed : (t : Tree) (p : Parameters) (x y : Path) (i turns : ℕ) (from past : List ℕ) (entries after : List Child) (name : List ℕ) (size : Option ℕ) → IsTree t → IsTrue (is_path x) → is_directory t x ≡ true → IsPartListed t x from turns entries
+    → IsWithin x y i → IsFirstFrom from (tree_blocks t p) y i → IsPast y past → name ≡ last_name y → size ≡ size_at (node_at t y) → after ≡ entries ++ (name, size) ∷ [] → IsPartListed t x past (turns + 1) after
+one_more_listed t p x y i turns from past entries after name size h path directory part within first at name_is size_is added =
+    let child = found_child t p x from y i h path directory part.between within first in
+    let here : IsFirstFrom from (tree_blocks t p) y 0 = subst (λ (j : ℕ). IsFirstFrom from (tree_blocks t p) y j) (sym child.1) first in
+    let entry = entry_at t y h within.below_root (block_stands t p y i first.there) in
     let found : find path_cmp y t ≡ Some entry.0 = sym (node_at-find t y within.below_root) ∙ entry.1 in
-    let rest = rest_past t x y entry.0 from past h within.valid within.below_root child.0 found here at in
+    let rest = rest_past t p x y entry.0 from past h within.valid within.below_root child.0 found here at in
     let is : child_of (y, entry.0) ≡ (name, size) = child_is y entry.0 (node_at t y) entry.1 ∙ ap₂ (λ (a : List ℕ) (b : Option ℕ). (a, b)) (sym name_is) (sym size_is) in
     let count = part.counted in
     record {
@@ -233,18 +233,22 @@ one_more_listed t x y i turns from past entries after name size h path directory
       counted = omega (arith, ap length added, length-append entries ((name, size) ∷ []));
     }
 
-pub all_listed : (t : Tree) (x : Path) (from : List ℕ) (turns : ℕ) (entries : List Child) → IsTree t → IsPartListed t x from turns entries → LacksFrom from x (tree_blocks t) → entries ≡ map child_of (children t x)
-all_listed t x from turns entries h part lacks = sym (append-nil entries) ∙ ap (λ l. entries ++ map child_of l) (sym (rest_none t x from h lacks)) ∙ part.listed
+pub all_listed : (t : Tree) (p : Parameters) (x : Path) (from : List ℕ) (turns : ℕ) (entries : List Child) → IsTree t → IsPartListed t x from turns entries → LacksFrom from x (tree_blocks t p) → entries ≡ map child_of (children t x)
+all_listed t p x from turns entries h part lacks = sym (append-nil entries) ∙ ap (λ l. entries ++ map child_of l) (sym (rest_none t p x from h lacks)) ∙ part.listed
 
 -- there are no more turns than pairs
 length-filter_le : (P : Path × Node → Bool) (t : Tree) → length (filter P t) ≤ length t
 length-filter_le P [] = omega arith
 length-filter_le P (e ∷ t) = let rest = length-filter_le P t in elim (P e) as (λ b. length (cond b (e ∷ filter P t) (filter P t)) ≤ suc (length t)) [ true ↦ omega arith | false ↦ omega arith ]
 
+length-file_pairs_ge : (inline : Bool) (x : Path) (bytes : List ℕ) → 1 ≤ length (file_pairs inline x bytes)
+length-file_pairs_ge true x bytes = omega arith
+length-file_pairs_ge false x bytes = omega arith
+
 length-node_pairs_ge : (x : Path) (n : Node) (p : Parameters) → 1 ≤ length (node_pairs x n p)
 unfolding node_pairs
 length-node_pairs_ge x Directory p = omega arith
-length-node_pairs_ge x (File bytes) p = omega arith
+length-node_pairs_ge x (File bytes) p = length-file_pairs_ge (is_inline p.version (length bytes)) x bytes
 
 length-pairs_ge : (t : Tree) (p : Parameters) → length t ≤ length (pairs t p)
 unfolding pairs
@@ -266,18 +270,18 @@ few_listed state t p x from turns entries holds few part =
 pub low_enough : (x : Path) (from : List ℕ) → IsTrue (is_path x) → IsBetween x from → is_le (key_cmp (key x 0) from) ≡ true
 low_enough x from path between = le_le (key x 0) (key x 1) from (top_is_lowest x x 1 path path (omega arith) (at_itself x)) between.low
 
-pub next_listed : (t : Tree) (x : Path) (turns : ℕ) (from past : List ℕ) (entries after : List Child) (name : List ℕ) (size : Option ℕ) (found : Option Block) (b : Block) → IsTree t → IsTrue (is_path x) → is_directory t x ≡ true → IsPartListed t x from turns entries
-    → found ≡ Some b → IfSome found (λ at. IsWithin x at.path at.number) → MatchOption found (LacksFrom from x (tree_blocks t)) (λ at. IsFirstFrom from (tree_blocks t) at.path at.number)
+pub next_listed : (t : Tree) (p : Parameters) (x : Path) (turns : ℕ) (from past : List ℕ) (entries after : List Child) (name : List ℕ) (size : Option ℕ) (found : Option Block) (b : Block) → IsTree t → IsTrue (is_path x) → is_directory t x ≡ true → IsPartListed t x from turns entries
+    → found ≡ Some b → IfSome found (λ at. IsWithin x at.path at.number) → MatchOption found (LacksFrom from x (tree_blocks t p)) (λ at. IsFirstFrom from (tree_blocks t p) at.path at.number)
     → IsPast b.path past → name ≡ last_name b.path → size ≡ size_at (node_at t b.path) → after ≡ entries ++ (name, size) ∷ [] → IsPartListed t x past (turns + 1) after
-next_listed t x turns from past entries after name size None b h path directory part is within first at name_is size_is added = cc
-next_listed t x turns from past entries after name size (Some at) b h path directory part is within first past_is name_is size_is added =
+next_listed t p x turns from past entries after name size None b h path directory part is within first at name_is size_is added = cc
+next_listed t p x turns from past entries after name size (Some at) b h path directory part is within first past_is name_is size_is added =
     let same : at ≡ b = cc in
-    one_more_listed t x b.path b.number turns from past entries after name size h path directory part (subst (λ (z : Block). IsWithin x z.path z.number) same within) (subst (λ (z : Block). IsFirstFrom from (tree_blocks t) z.path z.number) same first) past_is name_is size_is added
+    one_more_listed t p x b.path b.number turns from past entries after name size h path directory part (subst (λ (z : Block). IsWithin x z.path z.number) same within) (subst (λ (z : Block). IsFirstFrom from (tree_blocks t p) z.path z.number) same first) past_is name_is size_is added
 
-pub none_listed_more : (t : Tree) (x : Path) (turns : ℕ) (from : List ℕ) (entries : List Child) (found : Option Block) → IsTree t → IsPartListed t x from turns entries
-    → ((b : Block) → found ≡ Some b → ⊥) → MatchOption found (LacksFrom from x (tree_blocks t)) (λ at. IsFirstFrom from (tree_blocks t) at.path at.number) → entries ≡ map child_of (children t x)
-none_listed_more t x turns from entries None h part none lacks = all_listed t x from turns entries h part lacks
-none_listed_more t x turns from entries (Some at) h part none first = absurd (none at refl)
+pub none_listed_more : (t : Tree) (p : Parameters) (x : Path) (turns : ℕ) (from : List ℕ) (entries : List Child) (found : Option Block) → IsTree t → IsPartListed t x from turns entries
+    → ((b : Block) → found ≡ Some b → ⊥) → MatchOption found (LacksFrom from x (tree_blocks t p)) (λ at. IsFirstFrom from (tree_blocks t p) at.path at.number) → entries ≡ map child_of (children t x)
+none_listed_more t p x turns from entries None h part none lacks = all_listed t p x from turns entries h part lacks
+none_listed_more t p x turns from entries (Some at) h part none first = absurd (none at refl)
 
 -- a block within a subtree, by the answer of a search
 pub is_within : (x : Path) (found : Option Block) (b : Block) → found ≡ Some b → IfSome found (λ at. IsWithin x at.path at.number) → IsWithin x b.path b.number

@@ -7,6 +7,7 @@ use Rattle.std.specs.Cmp.{tied_itself}
 use Rattle.std.specs.FinMap.{find, put}
 use Rattle.std.proofs.lemmas.Bool.{both_ways, and_from, or_right, false_from_ne_true}
 use Rattle.std.proofs.lemmas.List.{append_assoc, append-nil}
+use Rattle.store_model.specs.declared.version.Version.{Version}
 use Rattle.store_model.specs.Parameters.{Parameters}
 use Rattle.store_model.specs.Paths.{Path, Name, is_root, is_path, path_cmp, same_path, is_inside, is_at_or_inside, parent, key, key_cmp}
 use Rattle.store_model.specs.Pairs.{Pair, pairs, directory_value}
@@ -25,6 +26,7 @@ use Rattle.tree_pairs.specs.TreeCalls.{HoldsTree}
 use Rattle.tree_pairs.proofs.TreeBlocks.{block_value, tree_blocks}
 use Rattle.tree_pairs.proofs.BlocksLemmas.{pairs_have_blocks, pairs_from_blocks, blocks_alike}
 use Rattle.tree_pairs.proofs.ChangesLemmas.{put_block, blocks_at, pairs-with_node, tree_blocks-without, tree_blocks-without_subtree}
+use Rattle.tree_pairs.proofs.KindLemmas.{first_of_some}
 use Rattle.path_keys.proofs.InsideBytes.{inside_split}
 use Rattle.dir_tree.specs.declared.subtree.Block.{Block}
 use Rattle.dir_tree.specs.SubtreeCalls.{HasPathBlocks, IsFrom, LacksFrom, IsFirstFrom, IsWithin, blocks_outside}
@@ -40,20 +42,15 @@ root_not_found t h = by_found (find path_cmp [] t) refl
     by_found None e = refl
     by_found (Some n) e = let below : is_root [] ≡ false = (find_from_all (IsEntry t) [] n t h.entries e).below_root in cc
 
-pub tree_has_blocks : (t : Tree) (p : Parameters) → IsTree t → HasPathBlocks (tree_blocks t) (pairs t p)
-tree_has_blocks t p h = record { has = pairs_have_blocks t p h; bare = λ j. ap (λ o. block_value o j) (root_not_found t h) }
+pub tree_has_blocks : (t : Tree) (p : Parameters) → IsTree t → HasPathBlocks (tree_blocks t p) (pairs t p)
+tree_has_blocks t p h = record { has = pairs_have_blocks t p h; bare = λ j. ap (λ o. block_value o p.version j) (root_not_found t h) }
 
-pub held_blocks : (state : PairsState) (t : Tree) (p : Parameters) → HoldsTree state t p → HasPathBlocks (tree_blocks t) state.pairs
-held_blocks state t p h = subst (HasPathBlocks (tree_blocks t)) (sym h.pairs_are) (tree_has_blocks t p h.tree)
+pub held_blocks : (state : PairsState) (t : Tree) (p : Parameters) → HoldsTree state t p → HasPathBlocks (tree_blocks t p) state.pairs
+held_blocks state t p h = subst (HasPathBlocks (tree_blocks t p)) (sym h.pairs_are) (tree_has_blocks t p h.tree)
 
 -- a later key of a path is not below its first
 pub low_behind : (x : Path) (k : List ℕ) (i : ℕ) → IsTrue (is_path x) → i < 4294967296 → k ≡ key x i → is_le (key_cmp (key x 0) k) ≡ true
 low_behind x k i path l e = ap (λ q. is_le (key_cmp (key x 0) q)) e ∙ top_is_lowest x x i path path l (at_itself x)
-
--- what has a block is found
-pub found_from_block : (o : Option Node) (j : ℕ) (v : List ℕ) → block_value o j ≡ Some v → is_some o ≡ true
-found_from_block None j v e = cc
-found_from_block (Some n) j v e = refl
 
 -- ---- what stands below a path
 
@@ -128,27 +125,27 @@ nothing_inside t x top h empty inside = by_found (find path_cmp x t) refl
 -- ---- what is left
 
 -- without a path alone, where nothing stands below it
-removed_blocks : (t : Tree) (top y : Path) (j : ℕ) → IsTree t → (is_directory t top && has_child t top) ≡ false → blocks_outside top (tree_blocks t) y j ≡ tree_blocks (without t top) y j
-removed_blocks t top y j h empty = by_tests (same_path y top) (is_inside y top) refl refl ∙ tree_blocks-without t top y j
+removed_blocks : (t : Tree) (p : Parameters) (top y : Path) (j : ℕ) → IsTree t → (is_directory t top && has_child t top) ≡ false → blocks_outside top (tree_blocks t p) y j ≡ tree_blocks (without t top) p y j
+removed_blocks t p top y j h empty = by_tests (same_path y top) (is_inside y top) refl refl ∙ tree_blocks-without t p top y j
   where
-    by_tests : (a b : Bool) → same_path y top ≡ a → is_inside y top ≡ b → cond (a || b) None (tree_blocks t y j) ≡ cond a None (tree_blocks t y j)
+    by_tests : (a b : Bool) → same_path y top ≡ a → is_inside y top ≡ b → cond (a || b) None (tree_blocks t p y j) ≡ cond a None (tree_blocks t p y j)
     by_tests true b e f = refl
-    by_tests false true e f = sym (ap (λ o. block_value o j) (nothing_inside t y top h empty f))
+    by_tests false true e f = sym (ap (λ o. block_value o p.version j) (nothing_inside t y top h empty f))
     by_tests false false e f = refl
 
-pub removed : (t : Tree) (p : Parameters) (top : Path) (s : List Pair) → IsTree t → IsTrue (is_path top) → refusal_of t (Remove top) ≡ None → HasPathBlocks (blocks_outside top (tree_blocks t)) s → s ≡ pairs (next_tree t (Remove top)) p
+pub removed : (t : Tree) (p : Parameters) (top : Path) (s : List Pair) → IsTree t → IsTrue (is_path top) → refusal_of t (Remove top) ≡ None → HasPathBlocks (blocks_outside top (tree_blocks t p)) s → s ≡ pairs (next_tree t (Remove top)) p
 unfolding conditions next_tree
 removed t p top s h path none has =
     let fails = all_fail (conditions t (Remove top)) none in
     pairs_from_blocks (without t top) p s (IsTree-next_tree t (Remove top) h path none)
-    (blocks_alike (blocks_outside top (tree_blocks t)) (tree_blocks (without t top)) s (λ y j. removed_blocks t top y j h fails.1.1.0) has.has)
+    (blocks_alike (blocks_outside top (tree_blocks t p)) (tree_blocks (without t top) p) s (λ y j. removed_blocks t p top y j h fails.1.1.0) has.has)
 
 -- without a subtree
-pub pruned : (t : Tree) (p : Parameters) (top : Path) (s : List Pair) → IsTree t → IsTrue (is_path top) → refusal_of t (Prune top) ≡ None → HasPathBlocks (blocks_outside top (tree_blocks t)) s → s ≡ pairs (next_tree t (Prune top)) p
+pub pruned : (t : Tree) (p : Parameters) (top : Path) (s : List Pair) → IsTree t → IsTrue (is_path top) → refusal_of t (Prune top) ≡ None → HasPathBlocks (blocks_outside top (tree_blocks t p)) s → s ≡ pairs (next_tree t (Prune top)) p
 unfolding next_tree
 pruned t p top s h path none has =
     pairs_from_blocks (without_subtree t top) p s (IsTree-next_tree t (Prune top) h path none)
-    (blocks_alike (blocks_outside top (tree_blocks t)) (tree_blocks (without_subtree t top)) s (tree_blocks-without_subtree t top) has.has)
+    (blocks_alike (blocks_outside top (tree_blocks t p)) (tree_blocks (without_subtree t top) p) s (tree_blocks-without_subtree t p top) has.has)
 
 -- ---- a new directory
 
@@ -156,9 +153,9 @@ none_stands : (o : Option Node) → is_some o ≡ false → o ≡ None
 none_stands None h = refl
 none_stands (Some n) h = cc
 
-new_blocks : (o : Option Node) (j : ℕ) → o ≡ None → (j ≡ 0 → ⊥) → block_value (Some Directory) j ≡ block_value o j
-new_blocks o zero e apart = absurd (apart refl)
-new_blocks o (suc j) e apart = sym (ap (λ z. block_value z (suc j)) e)
+new_blocks : (o : Option Node) (version : Version) (j : ℕ) → o ≡ None → (j ≡ 0 → ⊥) → block_value (Some Directory) version j ≡ block_value o version j
+new_blocks o version zero e apart = absurd (apart refl)
+new_blocks o version (suc j) e apart = sym (ap (λ z. block_value z version (suc j)) e)
 
 pub made : (t : Tree) (p : Parameters) (x : Path) (s : List Pair) → IsTree t → IsTrue (is_path x) → refusal_of t (Make x) ≡ None → s ≡ pairs t p → put key_cmp (key x 0) directory_value s ≡ pairs (next_tree t (Make x)) p
 unfolding conditions next_tree
@@ -167,17 +164,17 @@ made t p x s h path none is =
     let absent : find path_cmp x t ≡ None = sym (node_at-find t x fails.0) ∙ none_stands (node_at t x) fails.1.1.0 in
     ap (put key_cmp (key x 0) directory_value) is
     ∙ pairs-with_node t p x Directory (put key_cmp (key x 0) directory_value (pairs t p)) (IsTree-next_tree t (Make x) h path none)
-    (put_block x (λ j. tree_blocks t x j) (λ j. block_value (Some Directory) j) (tree_blocks t) 0 directory_value (pairs t p) path (omega arith) refl
-    (λ j apart. new_blocks (find path_cmp x t) j absent apart) (blocks_at t p x h))
+    (put_block x (λ j. tree_blocks t p x j) (λ j. block_value (Some Directory) p.version j) (tree_blocks t p) 0 directory_value (pairs t p) path (omega arith) refl
+    (λ j apart. new_blocks (find path_cmp x t) p.version j absent apart) (blocks_at t p x h))
 
 -- ---- what a search behind a directory's own pair finds
 
 -- a directory has one pair
-no_more_blocks : (t : Tree) (x : Path) (j : ℕ) → IsTree t → is_directory t x ≡ true → tree_blocks t x (suc j) ≡ None
-no_more_blocks t [] j h directory = ap (λ o. block_value o (suc j)) (root_not_found t h)
-no_more_blocks t (n ∷ x) j h directory = of_directory (find path_cmp (n ∷ x) t) directory
+no_more_blocks : (t : Tree) (p : Parameters) (x : Path) (j : ℕ) → IsTree t → is_directory t x ≡ true → tree_blocks t p x (suc j) ≡ None
+no_more_blocks t p [] j h directory = ap (λ o. block_value o p.version (suc j)) (root_not_found t h)
+no_more_blocks t p (n ∷ x) j h directory = of_directory (find path_cmp (n ∷ x) t) directory
   where
-    of_directory : (o : Option Node) → is_directory_node o ≡ true → block_value o (suc j) ≡ None
+    of_directory : (o : Option Node) → is_directory_node o ≡ true → block_value o p.version (suc j) ≡ None
     of_directory None e = refl
     of_directory (Some Directory) e = refl
     of_directory (Some (File bytes)) e = cc
@@ -186,14 +183,14 @@ pub no_block : (o : Option (List ℕ)) → IsSome o → o ≡ None → ⊥
 no_block None h e = cc
 no_block (Some v) h e = cc
 
-pub strictly_below : (t : Tree) (x y : Path) (i : ℕ) → IsTree t → is_directory t x ≡ true → IsTrue (is_path x) → i < 4294967296 → is_at_or_inside y x ≡ true → IsFrom (key x 1) y i → IsSome (tree_blocks t y i) → is_inside y x ≡ true
-strictly_below t x y i h directory path l inside behind there = by_tests (same_path y x) (is_inside y x) refl refl inside
+pub strictly_below : (t : Tree) (p : Parameters) (x y : Path) (i : ℕ) → IsTree t → is_directory t x ≡ true → IsTrue (is_path x) → i < 4294967296 → is_at_or_inside y x ≡ true → IsFrom (key x 1) y i → IsSome (tree_blocks t p y i) → is_inside y x ≡ true
+strictly_below t p x y i h directory path l inside behind there = by_tests (same_path y x) (is_inside y x) refl refl inside
   where
     not_itself : (j : ℕ) → i ≡ j → same_path y x ≡ true → ⊥
     not_itself zero e same =
         both_ways _ (ap is_le (order_of_keys x x 1 0 path path (omega arith) (omega arith) ∙ ap (λ o. ordering_then o (nat_cmp 1 0)) (tied_itself path_cmp_total x)))
         (ap₂ (λ z k. is_le (key_cmp (key x 1) (key z k))) (sym (same_from_test y x same)) (sym e) ∙ behind)
-    not_itself (suc j) e same = no_block (tree_blocks t y i) there (ap₂ (tree_blocks t) (same_from_test y x same) e ∙ no_more_blocks t x j h directory)
+    not_itself (suc j) e same = no_block (tree_blocks t p y i) there (ap₂ (tree_blocks t p) (same_from_test y x same) e ∙ no_more_blocks t p x j h directory)
 
     by_tests : (a b : Bool) → same_path y x ≡ a → is_inside y x ≡ b → (a || b) ≡ true → is_inside y x ≡ true
     by_tests true b e f g = absurd (not_itself i refl e)
@@ -201,21 +198,16 @@ strictly_below t x y i h directory path l inside behind there = by_tests (same_p
     by_tests false false e f g = cc
 
 -- where a block is, something stands
-pub block_stands : (t : Tree) (y : Path) (i : ℕ) → IsSome (tree_blocks t y i) → exists t y ≡ true
-block_stands t y i there = by_found (find path_cmp y t) refl
+pub block_stands : (t : Tree) (p : Parameters) (y : Path) (i : ℕ) → IsSome (tree_blocks t p y i) → exists t y ≡ true
+block_stands t p y i there = by_found (find path_cmp y t) refl
   where
     by_found : (o : Option Node) → find path_cmp y t ≡ o → exists t y ≡ true
-    by_found None e = absurd (no_block (tree_blocks t y i) there (ap (λ o. block_value o i) e))
+    by_found None e = absurd (no_block (tree_blocks t p y i) there (ap (λ o. block_value o p.version i) e))
     by_found (Some n) e = found_stands t y n e
 
 -- what stands at a path other than the root has a first block
-pub first_block_there : (t : Tree) (y : Path) → is_root y ≡ false → exists t y ≡ true → tree_blocks t y 0 ≡ None → ⊥
-first_block_there t y below is = of_node (find path_cmp y t) (ap is_some (sym (node_at-find t y below)) ∙ is)
-  where
-    of_node : (o : Option Node) → is_some o ≡ true → block_value o 0 ≡ None → ⊥
-    of_node None h e = cc
-    of_node (Some Directory) h e = cc
-    of_node (Some (File bytes)) h e = cc
+pub first_block_there : (t : Tree) (p : Parameters) (y : Path) → is_root y ≡ false → exists t y ≡ true → tree_blocks t p y 0 ≡ None → ⊥
+first_block_there t p y below is = first_of_some (find path_cmp y t) p.version (ap is_some (sym (node_at-find t y below)) ∙ is)
 
 -- a child stands behind its parent's keys
 pub child_behind : (x c : Path) (i j : ℕ) → IsTrue (is_path x) → IsTrue (is_path c) → i < 4294967296 → j < 4294967296 → is_inside c x ≡ true → key_cmp (key x i) (key c j) ≡ Less
@@ -232,15 +224,15 @@ child_behind x c i j path valid l m inside = order_of_keys x c i j path valid l 
 pub child_inside : (c x : Path) → is_root c ≡ false → parent c ≡ x → is_inside c x ≡ true
 child_inside c x below up = inside_from_parent c x below (ap (λ z. is_at_or_inside z x) up ∙ at_itself x)
 
-pub child_answer : (t : Tree) (x : Path) (k : List ℕ) (found : Option Block) → IsTree t → IsTrue (is_path x) → is_directory t x ≡ true → k ≡ key x 1 → IfSome found (λ at. IsWithin x at.path at.number)
-    → MatchOption found (LacksFrom k x (tree_blocks t)) (λ at. IsFirstFrom k (tree_blocks t) at.path at.number) → is_some found ≡ has_child t x
-child_answer t x k None h path directory key_is within lacks = sym (childless t x (all_with (IsEntry t) (λ e. exists t e.0 ≡ true) _ no_child t h.entries (all_exist t)))
+pub child_answer : (t : Tree) (p : Parameters) (x : Path) (k : List ℕ) (found : Option Block) → IsTree t → IsTrue (is_path x) → is_directory t x ≡ true → k ≡ key x 1 → IfSome found (λ at. IsWithin x at.path at.number)
+    → MatchOption found (LacksFrom k x (tree_blocks t p)) (λ at. IsFirstFrom k (tree_blocks t p) at.path at.number) → is_some found ≡ has_child t x
+child_answer t p x k None h path directory key_is within lacks = sym (childless t x (all_with (IsEntry t) (λ e. exists t e.0 ≡ true) _ no_child t h.entries (all_exist t)))
   where
     no_child : (e : Path × Node) → IsEntry t e → exists t e.0 ≡ true → same_path (parent e.0) x ≡ false
     no_child e of is =
         false_from_ne_true _ (λ same.
         let inside = child_inside e.0 x of.below_root (same_from_test (parent e.0) x same) in
-        first_block_there t e.0 of.below_root is
+        first_block_there t p e.0 of.below_root is
         (lacks e.0 0 of.path (omega arith) (or_right (same_path e.0 x) (is_inside e.0 x) inside) (ap (λ q. is_le (key_cmp q (key e.0 0))) key_is ∙ ap is_le (child_behind x e.0 1 0 path of.path (omega arith) (omega arith) inside))))
-child_answer t x k (Some at) h path directory key_is within first =
-    sym (child_stands t at.path x h (block_stands t at.path at.number first.there) (strictly_below t x at.path at.number h directory path within.in_range within.within (subst (λ (q : List ℕ). IsFrom q at.path at.number) key_is first.behind) first.there)).1
+child_answer t p x k (Some at) h path directory key_is within first =
+    sym (child_stands t at.path x h (block_stands t p at.path at.number first.there) (strictly_below t p x at.path at.number h directory path within.in_range within.within (subst (λ (q : List ℕ). IsFrom q at.path at.number) key_is first.behind) first.there)).1

@@ -15,9 +15,11 @@ use Rattle.ordered_pairs.specs.PairsState.{PairsState, IsObservable, IsPairGet, 
 use Rattle.tree_pairs.specs.Blocks.{BlockMap, run_value}
 use Rattle.tree_pairs.proofs.BlocksLemmas.{run_value-some, run_value-none, length-run_at}
 use Rattle.tree_pairs.proofs.ChangesLemmas.{put_block, take_block}
-use Rattle.file_blocks.specs.FileCalls.{file_blocks, HasFile, CutsBytes, block_bytes}
+use Rattle.tree_pairs.specs.Kinds.{LacksBytes}
+use Rattle.file_blocks.specs.FileCalls.{file_blocks, HasFile, CutsBytes, DropsBlocks, block_bytes}
 use Rattle.file_blocks.proofs.RunLemmas.{run_at-take}
 use Rattle.file_blocks.proofs.FileLemmas.{on_ok, found_run, added_by_put}
+use Rattle.file_blocks.proofs.FormLemmas.{stands_in_blocks}
 
 -- ---- the blocks of a front
 
@@ -139,3 +141,15 @@ cuts_both x size m n len old between new result l fits h g = record {
 -- a call for a larger file serves a smaller one
 pub cuts_smaller : {T : Type 0} (x : Path) (size n len : ℕ) (old new : PairsState) (result : Result T Fault) → size ≤ n → CutsBytes x n len old new result → CutsBytes x size len old new result
 cuts_smaller x size n len old new result l h = record { faults = h.faults; observable = h.observable; cut = λ seen first y others within has. h.cut seen first y others (omega arith) has }
+
+-- ---- all blocks are taken
+
+-- a file whose first pair lacks its bytes is left none
+pub drops_blocks : {T : Type 0} (x : Path) (first : Option (List ℕ)) (size : ℕ) (old new : PairsState) (result : Result T Fault) → LacksBytes first → CutsBytes x size 0 old new result
+    → (IsObservable old → OnOk result (length new.pairs ≤ length old.pairs + 1)) → DropsBlocks x first size old new result
+drops_blocks x first size old new result lacks h fewer = record {
+  faults = h.faults;
+  observable = h.observable;
+  dropped = λ seen inline bytes others short stands. h.cut seen first bytes others short (stands_in_blocks inline x bytes first others old.pairs stands lacks);
+  added = fewer;
+}

@@ -1,14 +1,16 @@
 -- Lemmas on calls that put bytes one after another.
-use Rattle.std.proofs.Common.{◌≡◌, ℕ, ◌+◌, ◌-◌, ◌≤◌, List, [], ◌++◌, length, take, drop, Ok, Err, refl, sym, ap, subst, ◌∙◌, arith, take-add}
+use Rattle.std.proofs.Common.{◌≡◌, ℕ, ◌+◌, ◌-◌, ◌<◌, ◌≤◌, List, [], ◌++◌, length, take, drop, Option, Some, Ok, Err, refl, sym, ap, subst, ◌∙◌, arith, take-add}
 use Rattle.std.specs.Prelude.{Result}
 use Rattle.std.proofs.lemmas.List.{length-append, length-take, take_all}
 use Rattle.store_model.specs.Paths.{Path}
+use Rattle.store_model.specs.Pairs.{value_limit, inline_value}
 use Rattle.store_base.specs.declared.store_fault.Fault.{Fault}
 use Rattle.store_base.specs.Faults.{disk_faults_after}
 use Rattle.ordered_pairs.specs.PairsState.{PairsState}
-use Rattle.file_blocks.specs.FileCalls.{HasFile, PutsFileBytes}
-use Rattle.file_blocks.proofs.RunLemmas.{length-overwrite, overwrite-nothing, overwrite-overwrite}
+use Rattle.file_blocks.specs.FileCalls.{HasFile, PutsFileBytes, FillsBlocks}
+use Rattle.file_blocks.proofs.RunLemmas.{length-overwrite, overwrite-nothing, overwrite-whole, overwrite-overwrite}
 use Rattle.file_blocks.proofs.FileLemmas.{on_ok}
+use Rattle.file_blocks.proofs.FormLemmas.{stands_in_first}
 
 -- before the first byte nothing is put
 pub puts_nothing : (x : Path) (size at : ℕ) (s : PairsState) → PutsFileBytes {T = Unit {0}} x size at [] s s (Ok (tt {0}))
@@ -54,4 +56,16 @@ puts_failed x size at place a b bytes old between new fault h g = record {
   observable = λ seen. tt;
   written = λ seen first y others l short has. tt;
   added = λ seen. tt;
+}
+
+-- the bytes of a first pair are put into blocks
+pub fills_blocks : {T : Type 0} (x : Path) (first : Option (List ℕ)) (found : List ℕ) (size : ℕ) (old new : PairsState) (result : Result T Fault) → length found < value_limit → first ≡ Some (inline_value found)
+    → PutsFileBytes x size 0 found old new result → FillsBlocks x first old new result
+fills_blocks x first found size old new result fits is h = record {
+  faults = h.faults;
+  observable = h.observable;
+  filled = λ seen inline bytes others stands.
+      let form = stands_in_first inline x bytes found first others old.pairs stands is in
+      on_ok result (subst (λ (z : List ℕ). HasFile x first z others new.pairs) (overwrite-whole [] found (omega arith) ∙ sym form.0)) (h.written seen first [] others (omega arith) (omega arith) form.1);
+  added = λ seen. on_ok result (λ l. omega arith) (h.added seen);
 }

@@ -1,15 +1,19 @@
 -- Lemmas on bytes that are read block after block.
 use Rattle.std.proofs.Common.{◌≡◌, ℕ, ◌+◌, ◌-◌, ◌*◌, ◌/◌, ◌%◌, ◌<◌, List, [], ◌++◌, length, take, drop, suc, ◌∷◌, ◌==◌, Option, Ok, refl, sym, ap, ap₂, subst, ◌∙◌, arith, IsTrue, Bool, true, false, nat_le, leb-true, leb-false, take-add}
 use Rattle.std.proofs.lemmas.Bool.{eqb-true}
+use Rattle.std.specs.Prelude.{Result}
 use Rattle.std.specs.FinMap.{find}
 use Rattle.std.proofs.lemmas.List.{length-append, length-take, length-drop, take_all, take_min, take-take, drop-drop, drop-take}
 use Rattle.store_model.specs.Lists.{run_at}
 use Rattle.store_model.specs.Paths.{Path, is_path, key, key_cmp}
-use Rattle.store_model.specs.Pairs.{file_block}
+use Rattle.store_model.specs.Pairs.{file_block, inline_value}
+use Rattle.store_base.specs.declared.store_fault.Fault.{Fault}
 use Rattle.ordered_pairs.specs.PairsState.{PairsState, IsObservable, IsPairGet}
 use Rattle.tree_pairs.specs.Blocks.{BlockMap}
-use Rattle.file_blocks.specs.FileCalls.{HasFile, ReadsFileBytes, block_bytes}
+use Rattle.tree_pairs.specs.Kinds.{LacksBytes}
+use Rattle.file_blocks.specs.FileCalls.{HasFile, ReadsFileBytes, ReadsFile, ReadsFront, block_bytes}
 use Rattle.file_blocks.proofs.FileLemmas.{found_run}
+use Rattle.file_blocks.proofs.FormLemmas.{stands_in_blocks}
 
 -- a front is as long as it says
 front_of : (k : ℕ) (z xs : List ℕ) → xs ≡ take k z → xs ≡ take (length xs) z
@@ -88,3 +92,19 @@ reads_all x at n count items answer old between new e same is h =
     subst (λ (m : ℕ). ReadsFileBytes x at m old new (Ok answer)) e
     (subst (λ (s : PairsState). ReadsFileBytes x at n old s (Ok answer)) (sym same)
     (subst (λ (z : List ℕ). ReadsFileBytes x at n old between (Ok z)) (sym is) h))
+
+-- a file whose first pair lacks its bytes is read from its blocks
+pub reads_blocks : (x : Path) (first : Option (List ℕ)) (at count : ℕ) (old new : PairsState) (result : Result (List ℕ) Fault) → LacksBytes first → ReadsFileBytes x at count old new result → ReadsFile x first at count old new result
+reads_blocks x first at count old new result lacks h = record {
+  faults = h.faults;
+  keeps = h.keeps;
+  read = λ seen inline bytes others fits stands. h.read seen first bytes others fits (stands_in_blocks inline x bytes first others old.pairs stands lacks);
+}
+
+-- the first bytes that are read, as a value
+pub reads_front : (x : Path) (first : Option (List ℕ)) (len : ℕ) (front value : List ℕ) (old new : PairsState) → value ≡ inline_value front → ReadsFile x first 0 len old new (Ok front) → ReadsFront x first len old new (Ok value)
+reads_front x first len front value old new is h = record {
+  faults = h.faults;
+  keeps = h.keeps;
+  read = λ seen inline bytes others fits stands. is ∙ ap inline_value (h.read seen inline bytes others (omega arith) stands);
+}

@@ -2,35 +2,51 @@
 
 ghost use Rattle.std.specs.Prelude.{◌≡◌, ◌+◌, ◌-◌, ◌*◌, ◌/◌, ◌≤◌, length, take, OnOk};
 ghost use Rattle.ordered_pairs.specs.PairsState.{IsObservable};
+ghost use Rattle.store_model.specs.Pairs.{inline_limit};
 ghost use Rattle.store_model.specs.Commands.Command.{Cut};
 ghost use Rattle.store_model.specs.Commands.Reply.{Acknowledged};
-ghost use Rattle.tree_pairs.specs.TreeCalls.{CarriesOut, HasRoom};
-ghost use Rattle.file_blocks.specs.FileCalls.{CutsBytes};
+ghost use Rattle.tree_pairs.specs.TreeCalls.{CarriesOutUnder, HasRoom};
+ghost use Rattle.file_blocks.specs.FileCalls.{CutsBytes, DropsBlocks, ReadsFront};
 ghost use Rattle.file_blocks.specs.Refusals.{IsUnless, cut_conditions, size_of};
 
+use crate::reading::read_file;
 use ordered_pairs::OrderedPairs;
 use path_keys::Path;
 use store_base::{Answer, Fault, Value};
-use store_model::Refusal;
-use tree_pairs::{FILE_BLOCK, Kind, file_value, kind_of};
+use store_model::{Refusal, Version};
+use tree_pairs::{
+    FILE_BLOCK, Kind, file_value, first_of, inline_in, inline_value, is_inline, kind_told,
+};
 
-/// Leaves the first bytes of the file alone, so many.
+/// Leaves the first bytes of the file alone, so many. Where the version has them in one pair, the file's blocks are
+/// taken away.
 ///
 /// It is refused, in this order: `Missing` where nothing stands there, `Kind` where a directory does, `Gap` where the
 /// file has fewer bytes. A refusal changes nothing. A fault of the pairs is handed on; nothing is promised of the pairs
 /// after it.
-pub fn cut<P: OrderedPairs>(pairs: &mut P, path: &Path, len: u32) -> Result<Answer<()>, Fault>
+pub fn cut<P: OrderedPairs>(
+    pairs: &mut P,
+    path: &Path,
+    len: u32,
+    version: Version,
+) -> Result<Answer<()>, Fault>
     requires room { HasRoom (P.state pairs.old) }
-    ensures call { CarriesOut (λ _. Acknowledged) (Cut path.now len) (P.state pairs.old) (P.state pairs.new) result }
+    ensures call { CarriesOutUnder version (λ _. Acknowledged) (Cut path.now len) (P.state pairs.old) (P.state pairs.new) result }
     ensures hidden { IsObservable (P.state pairs.new) → IsObservable (P.state pairs.old) }
     ensures follows { P.follows pairs.old pairs.new }
 {
-    let kind = kind_of(pairs, path)?;
-    let size = match size_to_cut(kind, len) {
+    let first = first_of(pairs, path)?;
+    let size = match size_to_cut(kind_told(&first), len) {
         Ok(size) => size,
         Err(refusal) => return Ok(Err(refusal)),
     };
     if size == len {
+        return Ok(Ok(()));
+    }
+    if is_inline(version, len) {
+        let front = inline_front(pairs, path, &first, len)?;
+        drop_file(pairs, path, &first, size)?;
+        pairs.put(path.key(0), front)?;
         return Ok(Ok(()));
     }
     cut_bytes(pairs, path, size, len)?;
@@ -52,6 +68,42 @@ fn size_to_cut(kind: Option<Kind>, len: u32) -> Answer<u32>
         return Err(Refusal::Gap);
     }
     Ok(size)
+}
+
+/// The one pair's value of the first bytes, so many, of the file that begins with this pair.
+// Joined to `cut`, its bytes would be cleared also where the file stays in blocks.
+#[inline(never)]
+fn inline_front<P: OrderedPairs>(
+    pairs: &mut P,
+    path: &Path,
+    first: &Option<Value>,
+    len: u32,
+) -> Result<Value, Fault>
+    requires short { len ≤ inline_limit }
+    ensures call { ReadsFront path.now first.now len (P.state pairs.old) (P.state pairs.new) result }
+    ensures hidden { IsObservable (P.state pairs.new) → IsObservable (P.state pairs.old) }
+    ensures follows { P.follows pairs.old pairs.new }
+{
+    let bytes = read_file(pairs, path, first, 0, len as usize)?;
+    Ok(inline_value(bytes.as_slice()))
+}
+
+/// Takes the blocks away of the file of so many bytes that begins with this pair, where it has blocks.
+fn drop_file<P: OrderedPairs>(
+    pairs: &mut P,
+    path: &Path,
+    first: &Option<Value>,
+    size: u32,
+) -> Result<(), Fault>
+    requires room { HasRoom (P.state pairs.old) }
+    ensures call { DropsBlocks path.now first.now size (P.state pairs.old) (P.state pairs.new) result }
+    ensures hidden { IsObservable (P.state pairs.new) → IsObservable (P.state pairs.old) }
+    ensures follows { P.follows pairs.old pairs.new }
+{
+    match inline_in(first) {
+        Some(_) => Ok(()),
+        None => cut_bytes(pairs, path, size, 0),
+    }
 }
 
 /// Takes the file's bytes past the first ones away, from its blocks alone.

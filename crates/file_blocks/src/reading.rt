@@ -1,20 +1,20 @@
 //! Reading bytes of a file.
 
-ghost use Rattle.std.specs.Prelude.{◌≡◌, ◌+◌, ◌-◌, ◌<◌, ◌≤◌, ◌^◌, length, min, take, drop};
+ghost use Rattle.std.specs.Prelude.{◌≡◌, ◌+◌, ◌-◌, ◌<◌, ◌≤◌, ◌^◌, IfOk, length, min, take, drop};
 ghost use Rattle.store_model.specs.Commands.Command.{Read};
 ghost use Rattle.store_model.specs.Commands.Reply.{Content};
 ghost use Rattle.ordered_pairs.specs.PairsState.{IsObservable};
 ghost use Rattle.tree_pairs.specs.TreeCalls.{CarriesOut, KeepsPairs};
-ghost use Rattle.file_blocks.specs.FileCalls.{ReadsFileBytes};
+ghost use Rattle.file_blocks.specs.FileCalls.{ReadsFileBytes, ReadsFile};
 ghost use Rattle.file_blocks.specs.Refusals.{IsUnless, read_conditions, size_of};
 
 use crate::bytes_of;
 use arrayvec::ArrayVec;
 use ordered_pairs::OrderedPairs;
 use path_keys::Path;
-use store_base::{Answer, Bytes, Fault};
+use store_base::{Answer, Bytes, Fault, Value};
 use store_model::Refusal;
-use tree_pairs::{FILE_BLOCK, Kind, kind_of};
+use tree_pairs::{FILE_BLOCK, Kind, first_of, inline_in, kind_told};
 
 /// The most bytes that one read answers.
 const READ_LIMIT: u32 = Bytes::MAX_LEN as u32;
@@ -35,9 +35,9 @@ pub fn read_at<P: OrderedPairs>(
     ensures hidden { IsObservable (P.state pairs.new) → IsObservable (P.state pairs.old) }
     ensures follows { P.follows pairs.old pairs.new }
 {
-    let kind = kind_of(pairs, path)?;
-    match readable_len(kind, at, len) {
-        Ok(count) => Ok(Ok(read_bytes(pairs, path, at, count as usize)?)),
+    let first = first_of(pairs, path)?;
+    match readable_len(kind_told(&first), at, len) {
+        Ok(count) => Ok(Ok(read_file(pairs, path, &first, at, count as usize)?)),
         Err(refusal) => Ok(Err(refusal)),
     }
 }
@@ -61,6 +61,27 @@ fn readable_len(kind: Option<Kind>, at: u32, len: u32) -> Answer<u32>
     Ok(len.min(size - at))
 }
 
+/// Reads bytes of the file that begins with this pair: from there where it has them, and else from the blocks.
+pub(crate) fn read_file<P: OrderedPairs>(
+    pairs: &mut P,
+    path: &Path,
+    first: &Option<Value>,
+    at: u32,
+    count: usize,
+) -> Result<Bytes, Fault>
+    requires few { count ≤ Bytes.MAX_LEN }
+    requires in_range { at + count < 2 ^ 32 }
+    ensures call { ReadsFile path.now first.now at count (P.state pairs.old) (P.state pairs.new) result }
+    ensures few { IfOk result (λ bytes. length bytes ≤ count) }
+    ensures hidden { IsObservable (P.state pairs.new) → IsObservable (P.state pairs.old) }
+    ensures follows { P.follows pairs.old pairs.new }
+{
+    match inline_in(first) {
+        Some(bytes) => Ok(Bytes::new(piece_of(bytes, at as usize, count))),
+        None => read_bytes(pairs, path, at, count),
+    }
+}
+
 /// Reads bytes of the file, block after block. Where a block lacks them, which no tree's does, the answer ends there.
 fn read_bytes<P: OrderedPairs>(
     pairs: &mut P,
@@ -71,6 +92,7 @@ fn read_bytes<P: OrderedPairs>(
     requires few { count ≤ Bytes.MAX_LEN }
     requires in_range { at + count < 2 ^ 32 }
     ensures call { ReadsFileBytes path.now at count (P.state pairs.old) (P.state pairs.new) result }
+    ensures few { IfOk result (λ bytes. length bytes ≤ count) }
     ensures hidden { IsObservable (P.state pairs.new) → IsObservable (P.state pairs.old) }
     ensures follows { P.follows pairs.old pairs.new }
 {

@@ -1,46 +1,60 @@
 //! Writing bytes of a file.
 
-ghost use Rattle.std.specs.Prelude.{◌≡◌, ◌↔◌, ◌⊎◌, ◌+◌, ◌%◌, ◌<◌, ◌≤◌, IsTrue, length, max};
+ghost use Rattle.std.specs.Prelude.{◌≡◌, ◌↔◌, ◌⊎◌, ◌+◌, ◌%◌, ◌<◌, ◌≤◌, IsTrue, true, ℕ, List, length, max};
 ghost use Rattle.store_model.specs.Trees.{file_limit};
 ghost use Rattle.store_model.specs.Lists.{overwrite};
+ghost use Rattle.store_model.specs.Pairs as model;
 ghost use Rattle.store_model.specs.Commands.Command.{Write};
 ghost use Rattle.store_model.specs.Commands.Reply.{Acknowledged};
 ghost use Rattle.ordered_pairs.specs.PairsState.{IsObservable, most_pairs};
-ghost use Rattle.tree_pairs.specs.TreeCalls.{CarriesOut, HasRoom, HasParent};
-ghost use Rattle.file_blocks.specs.FileCalls.{PutsFileBytes};
+ghost use Rattle.tree_pairs.specs.TreeCalls.{CarriesOutUnder, HasRoom, HasParent};
+ghost use Rattle.file_blocks.specs.FileCalls.{IsFirst, PutsFileBytes, FillsBlocks};
 ghost use Rattle.file_blocks.specs.Refusals.{IsUnless, write_conditions, size_of};
 
 use crate::bytes_of;
 use ordered_pairs::OrderedPairs;
 use path_keys::Path;
 use store_base::{Answer, Bytes, Fault, Value};
-use store_model::Refusal;
-use tree_pairs::{FILE_BLOCK, FILE_LIMIT, Kind, file_value, kind_of};
+use store_model::{Refusal, Version};
+use tree_pairs::{
+    FILE_BLOCK, FILE_LIMIT, INLINE_START, Kind, file_value, first_of, inline_in, inline_value,
+    is_inline, kind_told,
+};
 
 /// Writes the bytes into the file from a place on: they replace those that stand there, and the file grows where they
-/// pass its end. An absent file is made. A block of which no byte stays is not read, and the first pair stays where the
-/// length does.
+/// pass its end. An absent file is made. Where the version has the new bytes in one pair, that is put and nothing else.
+/// Else a block of which no byte stays is not read, and the first pair stays where the length does.
 ///
 /// It is refused, in this order: `Kind` where a directory stands there, `Gap` where the place is greater than the
-/// file's length (0 where it is absent), `Big` where the file would pass `FILE_LIMIT` bytes. A refusal changes nothing. A
-/// fault of the pairs is handed on; nothing is promised of the pairs after it.
+/// file's length (0 where it is absent), `Big` where the file would pass `FILE_LIMIT` bytes. A refusal changes nothing.
+/// A fault of the pairs is handed on; nothing is promised of the pairs after it.
 pub fn write_at<P: OrderedPairs>(
     pairs: &mut P,
     path: &Path,
     at: u32,
     bytes: &Bytes,
+    version: Version,
 ) -> Result<Answer<()>, Fault>
     requires parent { HasParent (P.state pairs.old) path.now }
     requires room { HasRoom (P.state pairs.old) }
-    ensures call { CarriesOut (λ _. Acknowledged) (Write path.now at bytes.now) (P.state pairs.old) (P.state pairs.new) result }
+    ensures call { CarriesOutUnder version (λ _. Acknowledged) (Write path.now at bytes.now) (P.state pairs.old) (P.state pairs.new) result }
     ensures hidden { IsObservable (P.state pairs.new) → IsObservable (P.state pairs.old) }
     ensures follows { P.follows pairs.old pairs.new }
 {
-    let kind = kind_of(pairs, path)?;
+    let first = first_of(pairs, path)?;
+    let kind = kind_told(&first);
     let len = match written_len(kind, at, bytes.as_slice().len()) {
         Ok(len) => len,
         Err(refusal) => return Ok(Err(refusal)),
     };
+    if is_inline(version, len) {
+        pairs.put(
+            path.key(0),
+            inline_written(&first, at as usize, bytes.as_slice()),
+        )?;
+        return Ok(Ok(()));
+    }
+    fill_blocks(pairs, path, &first)?;
     put_bytes(pairs, path, len, at, bytes.as_slice())?;
     if kind == Some(Kind::File(len)) {
         return Ok(Ok(()));
@@ -70,6 +84,35 @@ fn written_len(kind: Option<Kind>, at: u32, count: usize) -> Answer<u32>
     Ok(size.max(end as u32))
 }
 
+/// The one pair's value of a file that begins with this pair, with the piece at a place of its bytes.
+fn inline_written(first: &Option<Value>, at: usize, piece: &[u8]) -> Value
+    requires { at + length piece.now ≤ model.inline_limit }
+    ensures { (bytes : List ℕ) → IsFirst true bytes first.now → at ≤ length bytes → result ≡ model.inline_value (overwrite bytes at piece.now) }
+{
+    match first {
+        Some(value) if piece.is_empty() => Value::new(value.as_slice()),
+        Some(value) => overlaid(value.as_slice(), INLINE_START + at, piece),
+        None => inline_value(piece),
+    }
+}
+
+/// Puts the bytes of a file that begins with this pair into its blocks, where they stand in the pair.
+fn fill_blocks<P: OrderedPairs>(
+    pairs: &mut P,
+    path: &Path,
+    first: &Option<Value>,
+) -> Result<(), Fault>
+    requires room { HasRoom (P.state pairs.old) }
+    ensures call { FillsBlocks path.now first.now (P.state pairs.old) (P.state pairs.new) result }
+    ensures hidden { IsObservable (P.state pairs.new) → IsObservable (P.state pairs.old) }
+    ensures follows { P.follows pairs.old pairs.new }
+{
+    match inline_in(first) {
+        Some(bytes) => put_bytes(pairs, path, bytes.len() as u32, 0, bytes),
+        None => Ok(()),
+    }
+}
+
 /// Puts the bytes into the file's blocks, block after block. Neither they nor the file go past `len`.
 fn put_bytes<P: OrderedPairs>(
     pairs: &mut P,
@@ -81,7 +124,7 @@ fn put_bytes<P: OrderedPairs>(
     requires few { length bytes.now ≤ Bytes.MAX_LEN }
     requires fits { at + length bytes.now ≤ file_limit }
     requires ends { at + length bytes.now ≤ len }
-    requires room { HasRoom (P.state pairs.old) }
+    requires room { IsObservable (P.state pairs.old) → length (P.state pairs.old).pairs + length bytes.now ≤ most_pairs }
     ensures call { PutsFileBytes path.now len at bytes.now (P.state pairs.old) (P.state pairs.new) result }
     ensures hidden { IsObservable (P.state pairs.new) → IsObservable (P.state pairs.old) }
     ensures follows { P.follows pairs.old pairs.new }

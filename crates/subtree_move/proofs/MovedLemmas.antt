@@ -3,6 +3,7 @@ use Rattle.std.proofs.Common.{◌≡◌, ℕ, [], ◌∷◌, ◌++◌, map, leng
 use Rattle.std.specs.List.{AllByRecursion}
 use Rattle.std.specs.FinMap.{find}
 use Rattle.std.proofs.lemmas.Bool.{both_ways, false_from_ne_true, or_parts, not-false, or_cases}
+use Rattle.store_model.specs.Parameters.{Parameters}
 use Rattle.store_model.specs.Paths.{Path, is_root, path_cmp, same_path, is_inside, is_at_or_inside, replanted}
 use Rattle.store_model.specs.Trees.{Tree, IsTree, exists, moved_path, moved}
 use Rattle.store_model.specs.Commands.Command.{Rename}
@@ -115,14 +116,14 @@ module _ (t : Tree) (from to : Path) (h : IsTree t) (m : IsMove t from to) where
           both_ways _ (new_not_old t from to h m (moved_path from to z) (ap (λ w. is_at_or_inside w to) (moved_path_there from to z at) ∙ at_or_inside-append to (drop (length from) z))) (ap (λ w. is_at_or_inside w from) same ∙ inside)
       no_image z false at same = both_ways _ at (ap (λ w. is_at_or_inside w from) (sym (moved_path_elsewhere from to z at) ∙ same) ∙ inside)
 
-  pub tree_blocks-moved : (y : Path) (j : ℕ) → moved_blocks from to (tree_blocks t) y j ≡ tree_blocks (moved t from to) y j
+  pub tree_blocks-moved : (p : Parameters) (y : Path) (j : ℕ) → moved_blocks from to (tree_blocks t p) y j ≡ tree_blocks (moved t from to) p y j
   unfolding replanted
-  tree_blocks-moved y j = by_tests (is_at_or_inside y from) (is_at_or_inside y to) refl refl
+  tree_blocks-moved p y j = by_tests (is_at_or_inside y from) (is_at_or_inside y to) refl refl
     where
-      by_tests : (a b : Bool) → is_at_or_inside y from ≡ a → is_at_or_inside y to ≡ b → cond a None (cond b (tree_blocks t (replanted to from y) j) (tree_blocks t y j)) ≡ tree_blocks (moved t from to) y j
-      by_tests true b f g = sym (ap (λ o. block_value o j) (not_found_at y f))
+      by_tests : (a b : Bool) → is_at_or_inside y from ≡ a → is_at_or_inside y to ≡ b → cond a None (cond b (tree_blocks t p (replanted to from y) j) (tree_blocks t p y j)) ≡ tree_blocks (moved t from to) p y j
+      by_tests true b f g = sym (ap (λ o. block_value o p.version j) (not_found_at y f))
       by_tests false true f g =
           let s : Path = drop (length to) y in
           let place : moved_path from to (from ++ s) ≡ y = moved_path-below from to s ∙ sym (at_or_inside-split y to g) in
-          ap (λ o. block_value o j) (sym (found_at (from ++ s) (old_not_new t from to h m (from ++ s) (at_or_inside-append from s))) ∙ ap (λ z. find path_cmp z (moved t from to)) place)
-      by_tests false false f g = ap (λ o. block_value o j) (sym (found_at y g) ∙ ap (λ z. find path_cmp z (moved t from to)) (moved_path_elsewhere from to y f))
+          ap (λ o. block_value o p.version j) (sym (found_at (from ++ s) (old_not_new t from to h m (from ++ s) (at_or_inside-append from s))) ∙ ap (λ z. find path_cmp z (moved t from to)) place)
+      by_tests false false f g = ap (λ o. block_value o p.version j) (sym (found_at y g) ∙ ap (λ z. find path_cmp z (moved t from to)) (moved_path_elsewhere from to y f))

@@ -152,25 +152,25 @@ module _ (from to : Path) (done : Path → ℕ → Bool) (blocks : BlockMap) (y 
 -- ---- how far the move has come
 
 -- after so many turns: which blocks are done, and how many pairs of the old stretch are left
-pub record IsPartMoved (t : Tree) (from to : Path) (turns : ℕ) (s : List Pair) : Type 0 where
+pub record IsPartMoved (t : Tree) (p : Parameters) (from to : Path) (turns : ℕ) (s : List Pair) : Type 0 where
   pub done : Path → ℕ → Bool
-  pub holds : HasPathBlocks (half_moved from to done (tree_blocks t)) s
+  pub holds : HasPathBlocks (half_moved from to done (tree_blocks t p)) s
   pub counted : turns + count (in_stretch from) s ≤ most_pairs
 
-pub none_moved : (t : Tree) (from to : Path) (s : List Pair) → IsTree t → IsMove t from to → HasPathBlocks (tree_blocks t) s → length s ≤ most_pairs → IsPartMoved t from to 0 s
-none_moved t from to s h m has few = record {
+pub none_moved : (t : Tree) (p : Parameters) (from to : Path) (s : List Pair) → IsTree t → IsMove t from to → HasPathBlocks (tree_blocks t p) s → length s ≤ most_pairs → IsPartMoved t p from to 0 s
+none_moved t p from to s h m has few = record {
   done = λ x j. false;
-  holds = record { has = blocks_alike (tree_blocks t) (half_moved from to (λ x j. false) (tree_blocks t)) s alike has.has; bare = λ j. sym (alike [] j) ∙ has.bare j };
+  holds = record { has = blocks_alike (tree_blocks t p) (half_moved from to (λ x j. false) (tree_blocks t p)) s alike has.has; bare = λ j. sym (alike [] j) ∙ has.bare j };
   counted = let l = count_le (in_stretch from) s in omega arith;
 }
   where
-    alike : (y : Path) (j : ℕ) → tree_blocks t y j ≡ half_moved from to (λ x j. false) (tree_blocks t) y j
+    alike : (y : Path) (j : ℕ) → tree_blocks t p y j ≡ half_moved from to (λ x j. false) (tree_blocks t p) y j
     alike y j = by_tests (is_at_or_inside y from) (is_at_or_inside y to) refl (find path_cmp y t) refl
       where
-        by_tests : (a b : Bool) → is_at_or_inside y to ≡ b → (o : Option Node) → find path_cmp y t ≡ o → tree_blocks t y j ≡ cond a (tree_blocks t y j) (cond b None (tree_blocks t y j))
+        by_tests : (a b : Bool) → is_at_or_inside y to ≡ b → (o : Option Node) → find path_cmp y t ≡ o → tree_blocks t p y j ≡ cond a (tree_blocks t p y j) (cond b None (tree_blocks t p y j))
         by_tests true b g o e = refl
         by_tests false false g o e = refl
-        by_tests false true g None e = ap (λ o. block_value o j) e
+        by_tests false true g None e = ap (λ o. block_value o p.version j) e
         by_tests false true g (Some n) e = absurd (both_ways _ (nothing_below t to h m.free y (found_stands t y n e)) g)
 
 -- the value of a block that is there
@@ -183,62 +183,62 @@ not_done : (d : Bool) (o : Option (List ℕ)) (v : List ℕ) → cond d None o �
 not_done true o v e = cc
 not_done false o v e = e
 
-pub short_enough : (t : Tree) (from to y : Path) (i : ℕ) → IsTree t → IsMove t from to → IsWithin from y i → IsSome (tree_blocks t y i) → fits_field (replanted from to y) ≡ true
+pub short_enough : (t : Tree) (p : Parameters) (from to y : Path) (i : ℕ) → IsTree t → IsMove t from to → IsWithin from y i → IsSome (tree_blocks t p y i) → fits_field (replanted from to y) ≡ true
 unfolding outgrows
-short_enough t from to y i h m within there =
-    let entry = entry_at t y h within.below_root (block_stands t y i there) in
+short_enough t p from to y i h m within there =
+    let entry = entry_at t y h within.below_root (block_stands t p y i there) in
     let found : find path_cmp y t ≡ Some entry.0 = sym (node_at-find t y within.below_root) ∙ entry.1 in
     let test : (true && not (fits_field (replanted from to y))) ≡ false = ap (λ b. b && not (fits_field (replanted from to y))) (sym within.within) ∙ find_from_all (λ e. is_long from to e ≡ false) y entry.0 t (all_fails (is_long from to) t m.short) found in
     not-false (fits_field (replanted from to y)) test
 
-one_more_moved : (t : Tree) (from to y : Path) (i turns : ℕ) (s after : List Pair) (k : List ℕ) → IsTree t → IsMove t from to → IsTrue (is_path from) → IsTrue (is_path to) → (part : IsPartMoved t from to turns s)
-    → IsWithin from y i → IsFirstFrom k (half_moved from to part.done (tree_blocks t)) y i
-    → ((v : List ℕ) → find key_cmp (key y i) s ≡ Some v → fits_field (replanted from to y) ≡ true → after ≡ put key_cmp (key (replanted from to y) i) v (without (key y i) s)) → IsPartMoved t from to (turns + 1) after
-one_more_moved t from to y i turns s after k h m path path_to part within first moves =
-    let half : half_moved from to part.done (tree_blocks t) y i ≡ cond (part.done y i) None (tree_blocks t y i) =
-    ap (λ b. cond b (cond (part.done y i) None (tree_blocks t y i)) (cond (is_at_or_inside y to) (cond (part.done (replanted to from y) i) (tree_blocks t (replanted to from y) i) None) (tree_blocks t y i))) within.within in
-    let value = there_is (half_moved from to part.done (tree_blocks t) y i) first.there in
-    let in_tree : tree_blocks t y i ≡ Some value.0 = not_done (part.done y i) (tree_blocks t y i) value.0 (sym half ∙ value.1) in
+one_more_moved : (t : Tree) (p : Parameters) (from to y : Path) (i turns : ℕ) (s after : List Pair) (k : List ℕ) → IsTree t → IsMove t from to → IsTrue (is_path from) → IsTrue (is_path to) → (part : IsPartMoved t p from to turns s)
+    → IsWithin from y i → IsFirstFrom k (half_moved from to part.done (tree_blocks t p)) y i
+    → ((v : List ℕ) → find key_cmp (key y i) s ≡ Some v → fits_field (replanted from to y) ≡ true → after ≡ put key_cmp (key (replanted from to y) i) v (without (key y i) s)) → IsPartMoved t p from to (turns + 1) after
+one_more_moved t p from to y i turns s after k h m path path_to part within first moves =
+    let half : half_moved from to part.done (tree_blocks t p) y i ≡ cond (part.done y i) None (tree_blocks t p y i) =
+    ap (λ b. cond b (cond (part.done y i) None (tree_blocks t p y i)) (cond (is_at_or_inside y to) (cond (part.done (replanted to from y) i) (tree_blocks t p (replanted to from y) i) None) (tree_blocks t p y i))) within.within in
+    let value = there_is (half_moved from to part.done (tree_blocks t p) y i) first.there in
+    let in_tree : tree_blocks t p y i ≡ Some value.0 = not_done (part.done y i) (tree_blocks t p y i) value.0 (sym half ∙ value.1) in
     let found : find key_cmp (key y i) s ≡ Some value.0 = part.holds.has.each y i within.valid within.in_range ∙ value.1 in
-    let fits = short_enough t from to y i h m within (subst IsSome (sym in_tree) refl) in
+    let fits = short_enough t p from to y i h m within (subst IsSome (sym in_tree) refl) in
     let new : Path = replanted from to y in
     let valid : IsTrue (is_path new) = replanted_valid from to y path_to within.valid within.within fits in
     let outside : is_at_or_inside new from ≡ false = new_not_old t from to h m new (replanted_within from to y) in
     let list : after ≡ put key_cmp (key new i) value.0 (without (key y i) s) = moves value.0 found fits in
-    let taken = take_one (half_moved from to part.done (tree_blocks t)) s y i within.valid within.below_root within.in_range part.holds in
-    let put_back = put_one (without_block y i (half_moved from to part.done (tree_blocks t))) (without (key y i) s) new i value.0 valid (replanted_below from to y m.to_below) within.in_range taken in
-    let alike = λ (z : Path) (j : ℕ). one_more_half from to part.done (tree_blocks t) y i value.0 within.within outside in_tree z j in
+    let taken = take_one (half_moved from to part.done (tree_blocks t p)) s y i within.valid within.below_root within.in_range part.holds in
+    let put_back = put_one (without_block y i (half_moved from to part.done (tree_blocks t p))) (without (key y i) s) new i value.0 valid (replanted_below from to y m.to_below) within.in_range taken in
+    let alike = λ (z : Path) (j : ℕ). one_more_half from to part.done (tree_blocks t p) y i value.0 within.within outside in_tree z j in
     let less = count_without (in_stretch from) (key y i) s (stretch_within from y i m.from_below path within.valid within.in_range within.within) (subst IsSome (sym found) refl) in
     let kept = count_put (in_stretch from) (key new i) value.0 (without (key y i) s) (stretch_outside from new i m.from_below path valid within.in_range outside) in
     let counted = part.counted in
     record {
       done = also_done part.done y i;
-      holds = subst (HasPathBlocks (half_moved from to (also_done part.done y i) (tree_blocks t))) (sym list)
-          (record { has = blocks_alike (with_block new i value.0 (without_block y i (half_moved from to part.done (tree_blocks t)))) (half_moved from to (also_done part.done y i) (tree_blocks t)) (put key_cmp (key new i) value.0 (without (key y i) s)) alike put_back.has; bare = λ j. sym (alike [] j) ∙ put_back.bare j });
+      holds = subst (HasPathBlocks (half_moved from to (also_done part.done y i) (tree_blocks t p))) (sym list)
+          (record { has = blocks_alike (with_block new i value.0 (without_block y i (half_moved from to part.done (tree_blocks t p)))) (half_moved from to (also_done part.done y i) (tree_blocks t p)) (put key_cmp (key new i) value.0 (without (key y i) s)) alike put_back.has; bare = λ j. sym (alike [] j) ∙ put_back.bare j });
       counted = let same = ap (count (in_stretch from)) list in omega arith;
     }
 
 -- nothing is left at the old place
-all_moved : (t : Tree) (p : Parameters) (from to : Path) (turns : ℕ) (s : List Pair) → IsTree t → IsTrue (is_path from) → IsTrue (is_path to) → IsMove t from to → refusal_of t (Rename from to) ≡ None → (part : IsPartMoved t from to turns s)
-    → LacksFrom (key from 0) from (half_moved from to part.done (tree_blocks t)) → s ≡ pairs (next_tree t (Rename from to)) p
+all_moved : (t : Tree) (p : Parameters) (from to : Path) (turns : ℕ) (s : List Pair) → IsTree t → IsTrue (is_path from) → IsTrue (is_path to) → IsMove t from to → refusal_of t (Rename from to) ≡ None → (part : IsPartMoved t p from to turns s)
+    → LacksFrom (key from 0) from (half_moved from to part.done (tree_blocks t p)) → s ≡ pairs (next_tree t (Rename from to)) p
 unfolding next_tree
 all_moved t p from to turns s h path path_to m none part lacks =
     pairs_from_blocks (moved t from to) p s (IsTree-next_tree t (Rename from to) h (path, path_to) none)
-    (record { sorted = part.holds.has.sorted; each = λ x j valid l. part.holds.has.each x j valid l ∙ by_tests x j valid l (is_at_or_inside x from) (is_at_or_inside x to) refl refl ∙ tree_blocks-moved t from to h m x j; only = part.holds.has.only })
+    (record { sorted = part.holds.has.sorted; each = λ x j valid l. part.holds.has.each x j valid l ∙ by_tests x j valid l (is_at_or_inside x from) (is_at_or_inside x to) refl refl ∙ tree_blocks-moved t from to h m p x j; only = part.holds.has.only })
   where
-    gone : (x : Path) (j : ℕ) → IsTrue (is_path x) → j < 4294967296 → is_at_or_inside x from ≡ true → cond (part.done x j) None (tree_blocks t x j) ≡ None
+    gone : (x : Path) (j : ℕ) → IsTrue (is_path x) → j < 4294967296 → is_at_or_inside x from ≡ true → cond (part.done x j) None (tree_blocks t p x j) ≡ None
     gone x j valid l f =
-        sym (ap (λ b. cond b (cond (part.done x j) None (tree_blocks t x j)) (cond (is_at_or_inside x to) (cond (part.done (replanted to from x) j) (tree_blocks t (replanted to from x) j) None) (tree_blocks t x j))) f)
+        sym (ap (λ b. cond b (cond (part.done x j) None (tree_blocks t p x j)) (cond (is_at_or_inside x to) (cond (part.done (replanted to from x) j) (tree_blocks t p (replanted to from x) j) None) (tree_blocks t p x j))) f)
         ∙ lacks x j valid l f (top_is_lowest from x j path valid l f)
 
-    all_there : (x : Path) (j : ℕ) → j < 4294967296 → is_at_or_inside x from ≡ true → (d : Bool) → part.done x j ≡ d → (o : Option Node) → find path_cmp x t ≡ o → cond d (tree_blocks t x j) None ≡ tree_blocks t x j
+    all_there : (x : Path) (j : ℕ) → j < 4294967296 → is_at_or_inside x from ≡ true → (d : Bool) → part.done x j ≡ d → (o : Option Node) → find path_cmp x t ≡ o → cond d (tree_blocks t p x j) None ≡ tree_blocks t p x j
     all_there x j l f true e o is = refl
-    all_there x j l f false e None is = sym (ap (λ o. block_value o j) is)
-    all_there x j l f false e (Some n) is = sym (ap (λ d. cond d None (tree_blocks t x j)) (sym e) ∙ gone x j (find_from_all (IsEntry t) x n t h.entries is).path l f)
+    all_there x j l f false e None is = sym (ap (λ o. block_value o p.version j) is)
+    all_there x j l f false e (Some n) is = sym (ap (λ d. cond d None (tree_blocks t p x j)) (sym e) ∙ gone x j (find_from_all (IsEntry t) x n t h.entries is).path l f)
 
     by_tests : (x : Path) (j : ℕ) → IsTrue (is_path x) → j < 4294967296 → (a b : Bool) → is_at_or_inside x from ≡ a → is_at_or_inside x to ≡ b
-        → cond a (cond (part.done x j) None (tree_blocks t x j)) (cond b (cond (part.done (replanted to from x) j) (tree_blocks t (replanted to from x) j) None) (tree_blocks t x j))
-        ≡ cond a None (cond b (tree_blocks t (replanted to from x) j) (tree_blocks t x j))
+        → cond a (cond (part.done x j) None (tree_blocks t p x j)) (cond b (cond (part.done (replanted to from x) j) (tree_blocks t p (replanted to from x) j) None) (tree_blocks t p x j))
+        ≡ cond a None (cond b (tree_blocks t p (replanted to from x) j) (tree_blocks t p x j))
     by_tests x j valid l true b f g = gone x j valid l f
     by_tests x j valid l false true f g = all_there (replanted to from x) j l (replanted_within to from x) (part.done (replanted to from x) j) refl (find path_cmp (replanted to from x) t) refl
     by_tests x j valid l false false f g = refl
@@ -248,17 +248,17 @@ all_moved t p from to turns s h path path_to m none part lacks =
 abbrev pub Searched : Path → List Pair → Option Block → Type 0
 Searched from s found = (blocks : BlockMap) → HasPathBlocks blocks s → MatchOption found (LacksFrom (key from 0) from blocks) (λ at. IsFirstFrom (key from 0) blocks at.path at.number)
 
-pub next_moved : (t : Tree) (from to : Path) (turns : ℕ) (s between after : List Pair) (found : Option Block) (b : Block) → IsTree t → IsMove t from to → IsTrue (is_path from) → IsTrue (is_path to) → IsPartMoved t from to turns s
+pub next_moved : (t : Tree) (p : Parameters) (from to : Path) (turns : ℕ) (s between after : List Pair) (found : Option Block) (b : Block) → IsTree t → IsMove t from to → IsTrue (is_path from) → IsTrue (is_path to) → IsPartMoved t p from to turns s
     → found ≡ Some b → IfSome found (λ at. IsWithin from at.path at.number) → Searched from s found → between ≡ s
-    → ((v : List ℕ) → find key_cmp (key b.path b.number) between ≡ Some v → fits_field (replanted from to b.path) ≡ true → after ≡ put key_cmp (key (replanted from to b.path) b.number) v (without (key b.path b.number) between)) → IsPartMoved t from to (turns + 1) after
-next_moved t from to turns s between after None b h m path path_to part is within searched kept moves = cc
-next_moved t from to turns s between after (Some z) b h m path path_to part is within searched kept moves =
+    → ((v : List ℕ) → find key_cmp (key b.path b.number) between ≡ Some v → fits_field (replanted from to b.path) ≡ true → after ≡ put key_cmp (key (replanted from to b.path) b.number) v (without (key b.path b.number) between)) → IsPartMoved t p from to (turns + 1) after
+next_moved t p from to turns s between after None b h m path path_to part is within searched kept moves = cc
+next_moved t p from to turns s between after (Some z) b h m path path_to part is within searched kept moves =
     let same : z ≡ b = cc in
-    one_more_moved t from to b.path b.number turns s after (key from 0) h m path path_to part (subst (λ (w : Block). IsWithin from w.path w.number) same within)
-    (subst (λ (w : Block). IsFirstFrom (key from 0) (half_moved from to part.done (tree_blocks t)) w.path w.number) same (searched (half_moved from to part.done (tree_blocks t)) part.holds))
+    one_more_moved t p from to b.path b.number turns s after (key from 0) h m path path_to part (subst (λ (w : Block). IsWithin from w.path w.number) same within)
+    (subst (λ (w : Block). IsFirstFrom (key from 0) (half_moved from to part.done (tree_blocks t p)) w.path w.number) same (searched (half_moved from to part.done (tree_blocks t p)) part.holds))
     (λ v found fits. moves v (ap (find key_cmp (key b.path b.number)) kept ∙ found) fits ∙ ap (λ l. put key_cmp (key (replanted from to b.path) b.number) v (without (key b.path b.number) l)) kept)
 
-pub none_left : (t : Tree) (p : Parameters) (from to : Path) (turns : ℕ) (s between : List Pair) (found : Option Block) → IsTree t → IsTrue (is_path from) → IsTrue (is_path to) → IsMove t from to → refusal_of t (Rename from to) ≡ None → IsPartMoved t from to turns s
+pub none_left : (t : Tree) (p : Parameters) (from to : Path) (turns : ℕ) (s between : List Pair) (found : Option Block) → IsTree t → IsTrue (is_path from) → IsTrue (is_path to) → IsMove t from to → refusal_of t (Rename from to) ≡ None → IsPartMoved t p from to turns s
     → ((b : Block) → found ≡ Some b → ⊥) → Searched from s found → between ≡ s → between ≡ pairs (next_tree t (Rename from to)) p
-none_left t p from to turns s between None h path path_to m free part none searched kept = kept ∙ all_moved t p from to turns s h path path_to m free part (searched (half_moved from to part.done (tree_blocks t)) part.holds)
+none_left t p from to turns s between None h path path_to m free part none searched kept = kept ∙ all_moved t p from to turns s h path path_to m free part (searched (half_moved from to part.done (tree_blocks t p)) part.holds)
 none_left t p from to turns s between (Some z) h path path_to m free part none searched kept = absurd (none z refl)

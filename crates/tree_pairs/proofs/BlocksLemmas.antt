@@ -12,7 +12,7 @@ use Rattle.std.proofs.lemmas.Bool.{both_ways}
 use Rattle.store_model.specs.Lists.{runs, run_at, run_count, numbers_from}
 use Rattle.store_model.specs.Parameters.{Parameters}
 use Rattle.store_model.specs.Paths.{Path, is_path, path_cmp, same_path, key, key_cmp}
-use Rattle.store_model.specs.Pairs.{Pair, file_block, directory_value, file_value, node_pairs, pairs}
+use Rattle.store_model.specs.Pairs.{Pair, file_block, directory_value, file_value, inline_value, is_inline, file_pairs, node_pairs, pairs}
 use Rattle.store_model.specs.Trees.{Tree, Node, IsNode, IsEntry, IsTree, file_limit}
 use Rattle.store_model.specs.Trees.Node.{Directory, File}
 use Rattle.store_model.proofs.ListsLemmas.{all_weaker, all_map, all_flat_map, numbers_in_range, length-runs, nat_cmp-eq, rising_from_is_sorted, rising_head, rising_tail}
@@ -20,7 +20,7 @@ use Rattle.store_model.proofs.PathsLemmas.{order_of_keys}
 use Rattle.store_model.proofs.PairsLemmas.{is_sorted-pairs}
 use Rattle.store_model.proofs.TreesLemmasPaths.{same_from_test, same_path-itself, tie_from_test}
 use Rattle.tree_pairs.specs.Blocks.{BlockMap, run_value, IsBlockPair, HasBlocks}
-use Rattle.tree_pairs.proofs.TreeBlocks.{block_value, tree_blocks}
+use Rattle.tree_pairs.proofs.TreeBlocks.{file_block_value, block_value, tree_blocks}
 
 -- ---- keys that tie
 
@@ -148,27 +148,38 @@ find_block x bytes i h hi few =
 
 -- ---- the pairs of what stands at a path have its blocks
 
+-- those of a file have the blocks of the file
+find-file_pairs : (inline : Bool) (x : Path) (bytes : List ℕ) (i : ℕ) → IsTrue (is_path x) → length bytes ≤ file_limit → i < 4294967296
+    → find key_cmp (key x i) (file_pairs inline x bytes) ≡ file_block_value inline bytes i
+unfolding runs
+find-file_pairs true x bytes zero h few l = ap (λ b. cond b (Some (inline_value bytes)) None) (tie_of_blocks x 0 0 h (omega arith) (omega arith))
+find-file_pairs true x bytes (suc i) h few l = ap (λ b. cond b (Some (inline_value bytes)) None) (tie_of_blocks x (suc i) 0 h l (omega arith) ∙ other_numbers (suc i) 0 (λ is. absurd (omega arith)))
+find-file_pairs false x bytes zero h few l = ap (λ b. cond b (Some (file_value (length bytes))) (find key_cmp (key x 0) (run_pairs x bytes 1 0 (run_count file_block (length bytes))))) (tie_of_blocks x 0 0 h (omega arith) (omega arith))
+find-file_pairs false x bytes (suc i) h few l =
+    ap (λ b. cond b (Some (file_value (length bytes))) (find key_cmp (key x (suc i)) (run_pairs x bytes 1 0 (run_count file_block (length bytes))))) (tie_of_blocks x (suc i) 0 h l (omega arith) ∙ other_numbers (suc i) 0 (λ is. absurd (omega arith)))
+    ∙ find_block x bytes i h (omega arith) few
+
 pub find-node_pairs : (x : Path) (node : Node) (p : Parameters) (i : ℕ) → IsTrue (is_path x) → IsNode node → i < 4294967296
-    → find key_cmp (key x i) (node_pairs x node p) ≡ block_value (Some node) i
-unfolding node_pairs runs
+    → find key_cmp (key x i) (node_pairs x node p) ≡ block_value (Some node) p.version i
+unfolding node_pairs
 find-node_pairs x Directory p zero h g l = ap (λ b. cond b (Some directory_value) None) (tie_of_blocks x 0 0 h (omega arith) (omega arith))
 find-node_pairs x Directory p (suc i) h g l = ap (λ b. cond b (Some directory_value) None) (tie_of_blocks x (suc i) 0 h l (omega arith) ∙ other_numbers (suc i) 0 (λ is. absurd (omega arith)))
-find-node_pairs x (File bytes) p zero h g l = ap (λ b. cond b (Some (file_value (length bytes))) (find key_cmp (key x 0) (run_pairs x bytes 1 0 (run_count file_block (length bytes))))) (tie_of_blocks x 0 0 h (omega arith) (omega arith))
-find-node_pairs x (File bytes) p (suc i) h g l =
-    ap (λ b. cond b (Some (file_value (length bytes))) (find key_cmp (key x (suc i)) (run_pairs x bytes 1 0 (run_count file_block (length bytes))))) (tie_of_blocks x (suc i) 0 h l (omega arith) ∙ other_numbers (suc i) 0 (λ is. absurd (omega arith)))
-    ∙ find_block x bytes i h (omega arith) g.0
+find-node_pairs x (File bytes) p i h g l = find-file_pairs (is_inline p.version (length bytes)) x bytes i h g.0 l
 
 -- each pair is of a block of the path
 abbrev IsOf : Path → Pair → Type 0
 IsOf x pair = (i : ℕ) × (i < 4294967296) × (pair.0 ≡ key x i)
 
+file_pairs_of_path : (inline : Bool) (x : Path) (bytes : List ℕ) → length bytes ≤ file_limit → AllByRecursion (IsOf x) (file_pairs inline x bytes)
+file_pairs_of_path true x bytes fits = ((0, omega arith, refl), tt)
+file_pairs_of_path false x bytes fits =
+    let few = length-runs file_block bytes in
+    ((0, omega arith, refl), all_map (λ b. (1 ≤ b.0) × (b.0 < 1 + length (runs file_block bytes))) (IsOf x) (run_pair x) (λ b r. (b.0, omega arith, refl)) (enumerate_from 1 (runs file_block bytes)) (numbers_in_range 1 (runs file_block bytes)))
+
 node_pairs_of_path : (x : Path) (node : Node) (p : Parameters) → IsNode node → AllByRecursion (IsOf x) (node_pairs x node p)
 unfolding node_pairs
 node_pairs_of_path x Directory p g = ((0, omega arith, refl), tt)
-node_pairs_of_path x (File bytes) p g =
-    let few = length-runs file_block bytes in
-    let fits = g.0 in
-    ((0, omega arith, refl), all_map (λ b. (1 ≤ b.0) × (b.0 < 1 + length (runs file_block bytes))) (IsOf x) (run_pair x) (λ b r. (b.0, omega arith, refl)) (enumerate_from 1 (runs file_block bytes)) (numbers_in_range 1 (runs file_block bytes)))
+node_pairs_of_path x (File bytes) p g = file_pairs_of_path (is_inline p.version (length bytes)) x bytes g.0
 
 -- at another path nothing of it is found
 pub find-other_pairs : (x y : Path) (node : Node) (p : Parameters) (i : ℕ) → IsTrue (is_path x) → IsTrue (is_path y) → IsNode node → i < 4294967296 → same_path x y ≡ false
@@ -184,19 +195,19 @@ not_found_before x [] h = refl
 not_found_before x (e ∷ t) h = ap (λ o. cond (is_eq o) (Some e.1) (find path_cmp x t)) h.0 ∙ not_found_before x t h.1
 
 find-pairs : (x : Path) (i : ℕ) (t u : Tree) (p : Parameters) → IsTrue (is_path x) → i < 4294967296 → AllByRecursion (IsEntry u) t → IsStrictlySortedBy (λ a b. path_cmp a.0 b.0) t
-    → find key_cmp (key x i) (pairs t p) ≡ block_value (find path_cmp x t) i
+    → find key_cmp (key x i) (pairs t p) ≡ block_value (find path_cmp x t) p.version i
 unfolding pairs
 find-pairs x i [] u p h l es rise = refl
 find-pairs x i (e ∷ t) u p h l es rise =
     let first = es.0 in
     let rest = find-pairs x i t u p h l es.1 (rising_tail _ e t rise) in
     find-append (key x i) (node_pairs e.0 e.1 p) (pairs t p)
-    ∙ (elim (same_path x e.0) as (λ b. same_path x e.0 ≡ b → option_or (find key_cmp (key x i) (node_pairs e.0 e.1 p)) (find key_cmp (key x i) (pairs t p)) ≡ block_value (cond b (Some e.1) (find path_cmp x t)) i) [
+    ∙ (elim (same_path x e.0) as (λ b. same_path x e.0 ≡ b → option_or (find key_cmp (key x i) (node_pairs e.0 e.1 p)) (find key_cmp (key x i) (pairs t p)) ≡ block_value (cond b (Some e.1) (find path_cmp x t)) p.version i) [
       | true ↦ λ s.
           let same : x ≡ e.0 = same_from_test x e.0 s in
-          let here : find key_cmp (key x i) (node_pairs e.0 e.1 p) ≡ block_value (Some e.1) i = ap (λ y. find key_cmp (key y i) (node_pairs e.0 e.1 p)) same ∙ find-node_pairs e.0 e.1 p i first.path first.node l in
-          let none : find key_cmp (key x i) (pairs t p) ≡ None = rest ∙ ap (λ o. block_value o i) (not_found_before x t (subst (λ (y : Path). AllByRecursion (λ f. path_cmp y f.0 ≡ Less) t) (sym same) (rising_head _ e t rise))) in
-          ap₂ option_or here none ∙ or_none (block_value (Some e.1) i)
+          let here : find key_cmp (key x i) (node_pairs e.0 e.1 p) ≡ block_value (Some e.1) p.version i = ap (λ y. find key_cmp (key y i) (node_pairs e.0 e.1 p)) same ∙ find-node_pairs e.0 e.1 p i first.path first.node l in
+          let none : find key_cmp (key x i) (pairs t p) ≡ None = rest ∙ ap (λ o. block_value o p.version i) (not_found_before x t (subst (λ (y : Path). AllByRecursion (λ f. path_cmp y f.0 ≡ Less) t) (sym same) (rising_head _ e t rise))) in
+          ap₂ option_or here none ∙ or_none (block_value (Some e.1) p.version i)
       | false ↦ λ s. ap (λ o. option_or o (find key_cmp (key x i) (pairs t p))) (find-other_pairs x e.0 e.1 p i h first.path first.node l s) ∙ rest
     ]) refl
   where
@@ -211,7 +222,7 @@ block_pairs_of_tree t u p h =
     all_flat_map (IsEntry u) IsBlockPair (λ e. node_pairs e.0 e.1 p) (λ e g. all_weaker (IsOf e.0) IsBlockPair (λ pair of. record { path = e.0; block = of.0; valid = g.path; in_range = of.1; key_is = of.2 }) (node_pairs e.0 e.1 p) (node_pairs_of_path e.0 e.1 p g.node)) t h
 
 -- the pairs of a tree have its blocks
-pub pairs_have_blocks : (t : Tree) (p : Parameters) → IsTree t → HasBlocks (tree_blocks t) (pairs t p)
+pub pairs_have_blocks : (t : Tree) (p : Parameters) → IsTree t → HasBlocks (tree_blocks t p) (pairs t p)
 pairs_have_blocks t p h = record {
   sorted = is_sorted-pairs t p h;
   each = λ x i path l. find-pairs x i t t p path l h.entries (rising_from_is_sorted path_cmp t h.sorted);
@@ -252,5 +263,5 @@ pub blocks_alike : (f g : BlockMap) (s : List Pair) → ((x : Path) (i : ℕ) �
 blocks_alike f g s alike h = record { sorted = h.sorted; each = λ x i path l. h.each x i path l ∙ alike x i; only = h.only }
 
 -- so a list with the blocks of a tree is its list of pairs
-pub pairs_from_blocks : (t : Tree) (p : Parameters) (s : List Pair) → IsTree t → HasBlocks (tree_blocks t) s → s ≡ pairs t p
-pairs_from_blocks t p s h g = same_blocks (tree_blocks t) s (pairs t p) g (pairs_have_blocks t p h)
+pub pairs_from_blocks : (t : Tree) (p : Parameters) (s : List Pair) → IsTree t → HasBlocks (tree_blocks t p) s → s ≡ pairs t p
+pairs_from_blocks t p s h g = same_blocks (tree_blocks t p) s (pairs t p) g (pairs_have_blocks t p h)

@@ -1,7 +1,8 @@
 -- Lemmas on calls that carry out a command: what they owe where it is refused and where it is done.
-use Rattle.std.proofs.Common.{false, ◌&&◌, nat_lt, if◌then◌else◌, ◌≡◌, Option, Some, None, Ok, Err, refl, sym, ap, ◌∙◌}
+use Rattle.std.proofs.Common.{false, ◌&&◌, nat_lt, if◌then◌else◌, ◌≡◌, Option, Some, None, Result, Ok, Err, refl, sym, ap, ◌∙◌}
 use Rattle.store_model.specs.declared.refusal.Refusal.{Refusal}
 use Rattle.store_model.specs.declared.refusal.Refusal.TheVariants as refusals
+use Rattle.store_model.specs.declared.version.Version.{Version}
 use Rattle.store_model.specs.Parameters.{Parameters}
 use Rattle.store_model.specs.Trees.{Tree}
 use Rattle.store_model.specs.Pairs.{pairs}
@@ -9,8 +10,9 @@ use Rattle.store_model.specs.Commands.{Command, Reply}
 use Rattle.store_model.specs.Commands.Reply.{Refused}
 use Rattle.store_model.specs.Pages.{page_count}
 use Rattle.store_model.specs.Steps.{refusal_of, next_tree, reply_of, may_fill, step, step_by}
+use Rattle.store_base.specs.declared.store_fault.Fault.{Fault}
 use Rattle.ordered_pairs.specs.PairsState.{PairsState}
-use Rattle.tree_pairs.specs.TreeCalls.{uncounted_by, uncounted_step, IsStepOf}
+use Rattle.tree_pairs.specs.TreeCalls.{uncounted_by, uncounted_step, IsStepOf, CarriesOut, CarriesOutUnder}
 
 -- a command that is not refused: its reply, and the pairs of the next tree
 pub step_done : {T : Type 0} (see : T → Reply) (value : T) (t : Tree) (command : Command) (p : Parameters) (new : PairsState)
@@ -42,3 +44,7 @@ step_where_it_fits t command p e = uncounted_by_fits t command p (refusal_of t c
 pub step_where_refused : (t : Tree) (command : Command) (p : Parameters) (refusal : Refusal) → refusal_of t command ≡ Some refusal → step t command p ≡ uncounted_step t command p
 unfolding step
 step_where_refused t command p refusal e = ap (step_by t command p) e ∙ sym (ap (uncounted_by t command p) e)
+
+-- a call that carries out a command under each version does so under one
+pub carries_under : {T : Type 0} (version : Version) (see : T → Reply) (command : Command) (old new : PairsState) (result : Result (Result T Refusal) Fault) → CarriesOut see command old new result → CarriesOutUnder version see command old new result
+carries_under version see command old new result done = record { faults = done.faults; observable = done.observable; carried = λ seen t p under holds. done.carried seen t p holds }

@@ -102,58 +102,58 @@ take_block x old new rest i s path l is others h = take_any (with_blocks x old r
 -- ---- the blocks of changed trees
 
 -- the blocks of a tree, said with those at one path apart
-pub tree_blocks-split : (t : Tree) (x y : Path) (i : ℕ) → tree_blocks t y i ≡ with_blocks x (λ j. tree_blocks t x j) (tree_blocks t) y i
-tree_blocks-split t x y i = by_test (same_path y x) refl
+pub tree_blocks-split : (t : Tree) (p : Parameters) (x y : Path) (i : ℕ) → tree_blocks t p y i ≡ with_blocks x (λ j. tree_blocks t p x j) (tree_blocks t p) y i
+tree_blocks-split t p x y i = by_test (same_path y x) refl
   where
-    by_test : (b : Bool) → same_path y x ≡ b → tree_blocks t y i ≡ cond b (tree_blocks t x i) (tree_blocks t y i)
-    by_test true e = ap (λ z. tree_blocks t z i) (same_from_test y x e)
+    by_test : (b : Bool) → same_path y x ≡ b → tree_blocks t p y i ≡ cond b (tree_blocks t p x i) (tree_blocks t p y i)
+    by_test true e = ap (λ z. tree_blocks t p z i) (same_from_test y x e)
     by_test false e = refl
 
 -- a node at a path gives the path its blocks, and changes no other
-pub tree_blocks-with_node : (t : Tree) (x : Path) (node : Node) (y : Path) (i : ℕ) → with_blocks x (λ j. block_value (Some node) j) (tree_blocks t) y i ≡ tree_blocks (with_node t x node) y i
-tree_blocks-with_node t x node y i = sym (ap (λ o. block_value o i) (find-put path_cmp path_cmp_total y x node t) ∙ by_test (same_path y x))
+pub tree_blocks-with_node : (t : Tree) (p : Parameters) (x : Path) (node : Node) (y : Path) (i : ℕ) → with_blocks x (λ j. block_value (Some node) p.version j) (tree_blocks t p) y i ≡ tree_blocks (with_node t x node) p y i
+tree_blocks-with_node t p x node y i = sym (ap (λ o. block_value o p.version i) (find-put path_cmp path_cmp_total y x node t) ∙ by_test (same_path y x))
   where
-    by_test : (b : Bool) → block_value (cond b (Some node) (find path_cmp y t)) i ≡ cond b (block_value (Some node) i) (block_value (find path_cmp y t) i)
+    by_test : (b : Bool) → block_value (cond b (Some node) (find path_cmp y t)) p.version i ≡ cond b (block_value (Some node) p.version i) (block_value (find path_cmp y t) p.version i)
     by_test true = refl
     by_test false = refl
 
 -- without a path it has no blocks, and others have theirs
-pub tree_blocks-without : (t : Tree) (x y : Path) (i : ℕ) → with_blocks x (λ j. None) (tree_blocks t) y i ≡ tree_blocks (without t x) y i
+pub tree_blocks-without : (t : Tree) (p : Parameters) (x y : Path) (i : ℕ) → with_blocks x (λ j. None) (tree_blocks t p) y i ≡ tree_blocks (without t x) p y i
 unfolding without
-tree_blocks-without t x y i =
-    sym (ap (λ o. block_value o i) (find-where_key path_cmp (λ z. not (same_path z x)) y (λ z e. ap (λ w. not (same_path w x)) (sym (same_from_tie y z e))) t) ∙ by_test (same_path y x))
+tree_blocks-without t p x y i =
+    sym (ap (λ o. block_value o p.version i) (find-where_key path_cmp (λ z. not (same_path z x)) y (λ z e. ap (λ w. not (same_path w x)) (sym (same_from_tie y z e))) t) ∙ by_test (same_path y x))
   where
-    by_test : (b : Bool) → block_value (cond (not b) (find path_cmp y t) None) i ≡ cond b None (block_value (find path_cmp y t) i)
+    by_test : (b : Bool) → block_value (cond (not b) (find path_cmp y t) None) p.version i ≡ cond b None (block_value (find path_cmp y t) p.version i)
     by_test true = refl
     by_test false = refl
 
 -- without a subtree the paths in it have no blocks, and others have theirs
-pub tree_blocks-without_subtree : (t : Tree) (x y : Path) (i : ℕ) → cond (is_at_or_inside y x) None (tree_blocks t y i) ≡ tree_blocks (without_subtree t x) y i
+pub tree_blocks-without_subtree : (t : Tree) (p : Parameters) (x y : Path) (i : ℕ) → cond (is_at_or_inside y x) None (tree_blocks t p y i) ≡ tree_blocks (without_subtree t x) p y i
 unfolding without_subtree
-tree_blocks-without_subtree t x y i =
-    sym (ap (λ o. block_value o i) (find-where_key path_cmp (λ z. not (is_at_or_inside z x)) y (λ z e. ap (λ w. not (is_at_or_inside w x)) (sym (same_from_tie y z e))) t) ∙ by_test (is_at_or_inside y x))
+tree_blocks-without_subtree t p x y i =
+    sym (ap (λ o. block_value o p.version i) (find-where_key path_cmp (λ z. not (is_at_or_inside z x)) y (λ z e. ap (λ w. not (is_at_or_inside w x)) (sym (same_from_tie y z e))) t) ∙ by_test (is_at_or_inside y x))
   where
-    by_test : (b : Bool) → block_value (cond (not b) (find path_cmp y t) None) i ≡ cond b None (block_value (find path_cmp y t) i)
+    by_test : (b : Bool) → block_value (cond (not b) (find path_cmp y t) None) p.version i ≡ cond b None (block_value (find path_cmp y t) p.version i)
     by_test true = refl
     by_test false = refl
 
 -- ---- from a list of blocks to the pairs of a changed tree
 
 -- the pairs of a tree have the blocks of what stands at a path there, and those of the other paths
-pub blocks_at : (t : Tree) (p : Parameters) (x : Path) → IsTree t → HasBlocks (with_blocks x (λ i. tree_blocks t x i) (tree_blocks t)) (pairs t p)
-blocks_at t p x h = blocks_alike (tree_blocks t) _ (pairs t p) (λ y i. tree_blocks-split t x y i) (pairs_have_blocks t p h)
+pub blocks_at : (t : Tree) (p : Parameters) (x : Path) → IsTree t → HasBlocks (with_blocks x (λ i. tree_blocks t p x i) (tree_blocks t p)) (pairs t p)
+blocks_at t p x h = blocks_alike (tree_blocks t p) _ (pairs t p) (λ y i. tree_blocks-split t p x y i) (pairs_have_blocks t p h)
 
 -- a list with a node's blocks at a path is that of the tree with the node
 pub pairs-with_node : (t : Tree) (p : Parameters) (x : Path) (node : Node) (s : List Pair) → IsTree (with_node t x node)
-    → HasBlocks (with_blocks x (λ i. block_value (Some node) i) (tree_blocks t)) s → s ≡ pairs (with_node t x node) p
-pairs-with_node t p x node s h g = pairs_from_blocks (with_node t x node) p s h (blocks_alike _ (tree_blocks (with_node t x node)) s (λ y i. tree_blocks-with_node t x node y i) g)
+    → HasBlocks (with_blocks x (λ i. block_value (Some node) p.version i) (tree_blocks t p)) s → s ≡ pairs (with_node t x node) p
+pairs-with_node t p x node s h g = pairs_from_blocks (with_node t x node) p s h (blocks_alike _ (tree_blocks (with_node t x node) p) s (λ y i. tree_blocks-with_node t p x node y i) g)
 
 -- a list with no block at a path is that of the tree without the path
 pub pairs-without : (t : Tree) (p : Parameters) (x : Path) (s : List Pair) → IsTree (without t x)
-    → HasBlocks (with_blocks x (λ i. None) (tree_blocks t)) s → s ≡ pairs (without t x) p
-pairs-without t p x s h g = pairs_from_blocks (without t x) p s h (blocks_alike _ (tree_blocks (without t x)) s (λ y i. tree_blocks-without t x y i) g)
+    → HasBlocks (with_blocks x (λ i. None) (tree_blocks t p)) s → s ≡ pairs (without t x) p
+pairs-without t p x s h g = pairs_from_blocks (without t x) p s h (blocks_alike _ (tree_blocks (without t x) p) s (λ y i. tree_blocks-without t p x y i) g)
 
 -- a list with no block in a subtree is that of the tree without it
 pub pairs-without_subtree : (t : Tree) (p : Parameters) (x : Path) (s : List Pair) → IsTree (without_subtree t x)
-    → HasBlocks (λ y i. cond (is_at_or_inside y x) None (tree_blocks t y i)) s → s ≡ pairs (without_subtree t x) p
-pairs-without_subtree t p x s h g = pairs_from_blocks (without_subtree t x) p s h (blocks_alike _ (tree_blocks (without_subtree t x)) s (λ y i. tree_blocks-without_subtree t x y i) g)
+    → HasBlocks (λ y i. cond (is_at_or_inside y x) None (tree_blocks t p y i)) s → s ≡ pairs (without_subtree t x) p
+pairs-without_subtree t p x s h g = pairs_from_blocks (without_subtree t x) p s h (blocks_alike _ (tree_blocks (without_subtree t x) p) s (λ y i. tree_blocks-without_subtree t p x y i) g)

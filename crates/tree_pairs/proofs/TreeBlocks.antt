@@ -1,21 +1,29 @@
 -- A tree's pairs as a function of path and block.
-use Rattle.std.proofs.Common.{ℕ, zero, suc, List, length, Option, Some, None}
+use Rattle.std.proofs.Common.{ℕ, zero, suc, List, length, Bool, true, false, Option, Some, None}
 use Rattle.std.specs.FinMap.{find}
+use Rattle.store_model.specs.declared.version.Version.{Version}
 use Rattle.store_model.specs.Lists.{run_at}
+use Rattle.store_model.specs.Parameters.{Parameters}
 use Rattle.store_model.specs.Paths.{path_cmp}
-use Rattle.store_model.specs.Pairs.{file_block, directory_value, file_value}
+use Rattle.store_model.specs.Pairs.{file_block, directory_value, file_value, inline_value, is_inline}
 use Rattle.store_model.specs.Trees.{Tree, Node}
 use Rattle.store_model.specs.Trees.Node.{Directory, File}
 use Rattle.tree_pairs.specs.Blocks.{BlockMap, run_value}
 
--- the value of a block of what stands at a path: block 0 says what it is, and those of a file's bytes follow
-abbrev pub block_value : Option Node → ℕ → Option (List ℕ)
-block_value None block = None
-block_value (Some Directory) zero = Some directory_value
-block_value (Some Directory) (suc i) = None
-block_value (Some (File bytes)) zero = Some (file_value (length bytes))
-block_value (Some (File bytes)) (suc i) = run_value (run_at file_block bytes i)
+-- the value of a block of a file: block 0 has its bytes, or it has their number and the blocks behind it have them
+abbrev pub file_block_value : Bool → List ℕ → ℕ → Option (List ℕ)
+file_block_value true bytes zero = Some (inline_value bytes)
+file_block_value true bytes (suc i) = None
+file_block_value false bytes zero = Some (file_value (length bytes))
+file_block_value false bytes (suc i) = run_value (run_at file_block bytes i)
+
+-- the value of a block of what stands at a path: block 0 says what it is
+abbrev pub block_value : Option Node → Version → ℕ → Option (List ℕ)
+block_value None version block = None
+block_value (Some Directory) version zero = Some directory_value
+block_value (Some Directory) version (suc i) = None
+block_value (Some (File bytes)) version block = file_block_value (is_inline version (length bytes)) bytes block
 
 -- the blocks of a tree
-abbrev pub tree_blocks : Tree → BlockMap
-tree_blocks t path block = block_value (find path_cmp path t) block
+abbrev pub tree_blocks : Tree → Parameters → BlockMap
+tree_blocks t p path block = block_value (find path_cmp path t) p.version block

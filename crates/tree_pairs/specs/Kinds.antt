@@ -1,6 +1,7 @@
--- What stands at a path, as the program says it.
-use Rattle.std.specs.Prelude.{◌≤◌, ℕ, List, length, Option, Some, None}
-use Rattle.store_model.specs.Pairs.{directory_value, file_value}
+-- What stands at a path, as the program says it, and the values that say so.
+use Rattle.std.specs.Prelude.{◌≡◌, ◌≤◌, ℕ, Bool, true, false, List, length, Option, Some, None}
+use Rattle.store_model.specs.declared.version.Version.{Version}
+use Rattle.store_model.specs.Pairs.{directory_value, file_value, inline_value, is_inline}
 use Rattle.store_model.specs.Trees.{Node, file_limit}
 use Rattle.store_model.specs.Trees.Node.{Directory, File}
 use Rattle.tree_pairs.specs.declared.kind.Kind.{Kind}
@@ -16,10 +17,34 @@ abbrev pub kind_of_node : Option Node → Option Kind
 kind_of_node None = None
 kind_of_node (Some node) = Some (kind_of node)
 
--- the value of the first pair
-abbrev pub value_of : Kind → List ℕ
-value_of kinds.Directory = directory_value
-value_of (kinds.File len) = file_value len
+-- the values that the first pair of a file of so many bytes has: the bytes themselves, or their number
+abbrev pub IsFileValue : Bool → ℕ → List ℕ → Type 0
+IsFileValue true len value = (bytes : List ℕ) × (length bytes ≡ len) × (value ≡ inline_value bytes)
+IsFileValue false len value = value ≡ file_value len
+
+-- the values that the first pair of a kind has under a version
+abbrev pub IsValueOf : Version → Kind → List ℕ → Type 0
+IsValueOf version kinds.Directory value = value ≡ directory_value
+IsValueOf version (kinds.File len) value = IsFileValue (is_inline version len) len value
+
+-- the value is one that the kind has under some version
+abbrev pub Says : List ℕ → Kind → Type 0
+Says value kind = (version : Version) × IsValueOf version kind value
+
+-- the value of the first pair of a file with these bytes: the bytes themselves, or their number
+abbrev pub file_first : Bool → List ℕ → List ℕ
+file_first true bytes = inline_value bytes
+file_first false bytes = file_value (length bytes)
+
+-- the value of the first pair of what stands at a path, if anything does
+abbrev pub first_value : Option Node → Version → Option (List ℕ)
+first_value None version = None
+first_value (Some Directory) version = Some directory_value
+first_value (Some (File bytes)) version = Some (file_first (is_inline version (length bytes)) bytes)
+
+-- the first pair, if there is one, has no bytes of a file in it
+abbrev pub LacksBytes : Option (List ℕ) → Type 0
+LacksBytes first = (bytes : List ℕ) → first ≡ Some (inline_value bytes) → ⊥
 
 -- no file is longer than one may be
 abbrev pub IsKind : Kind → Type 0

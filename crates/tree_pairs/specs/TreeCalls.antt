@@ -1,6 +1,7 @@
 -- What a call does to a list of pairs that holds a tree.
-use Rattle.std.specs.Prelude.{◌≡◌, ℕ, ◌<◌, length, Option, Some, None, Result, Ok, Err, IfOk, OnOk, true}
+use Rattle.std.specs.Prelude.{◌≡◌, ℕ, ◌<◌, List, length, Option, Some, None, Result, Ok, Err, IfOk, OnOk, true}
 use Rattle.store_model.specs.declared.refusal.Refusal.{Refusal}
+use Rattle.store_model.specs.declared.version.Version.{Version}
 use Rattle.store_model.specs.Parameters.{Parameters}
 use Rattle.store_model.specs.Paths.{Path, parent}
 use Rattle.store_model.specs.Trees.{Tree, IsTree, node_at, is_directory}
@@ -12,7 +13,7 @@ use Rattle.store_base.specs.declared.store_fault.Fault.{Fault}
 use Rattle.store_base.specs.Faults.{disk_faults_after}
 use Rattle.ordered_pairs.specs.PairsState.{PairsState, IsObservable}
 use Rattle.tree_pairs.specs.declared.kind.Kind.{Kind}
-use Rattle.tree_pairs.specs.Kinds.{kind_of_node}
+use Rattle.tree_pairs.specs.Kinds.{kind_of_node, first_value}
 
 -- the pairs are those of a tree
 pub record HoldsTree (state : PairsState) (t : Tree) (p : Parameters) : Type 0 where
@@ -49,12 +50,22 @@ pub record IsStepOf {T : Type 0} (see : T → Reply) (step : Step) (p : Paramete
   pub reply : reply_seen see answer ≡ step.reply
   pub pairs_are : new.pairs ≡ pairs step.tree p
 
+-- the answer to a command on the tree that the list held, and the pairs after it
+abbrev pub IsCarriedOut : {T : Type 0} → (T → Reply) → Command → PairsState → Result (Result T Refusal) Fault → Tree → Parameters → Type 0
+IsCarriedOut see command new result t p = IfOk result (λ answer. IsStepOf see (uncounted_step t command p) p new answer)
+
 -- A call that carries out a command on the tree that the list holds, `full` apart; a refusal changes nothing.
 -- After a fault nothing is promised of the pairs.
 pub record CarriesOut {T : Type 0} (see : T → Reply) (command : Command) (old new : PairsState) (result : Result (Result T Refusal) Fault) : Type 0 where
   pub faults : new.faults ≡ disk_faults_after old.faults result
   pub observable : IsObservable old → OnOk result (IsObservable new)
-  pub carried : IsObservable old → (t : Tree) (p : Parameters) → HoldsTree old t p → IfOk result (λ answer. IsStepOf see (uncounted_step t command p) p new answer)
+  pub carried : IsObservable old → (t : Tree) (p : Parameters) → HoldsTree old t p → IsCarriedOut see command new result t p
+
+-- the same of a call that works under one version of the format
+pub record CarriesOutUnder {T : Type 0} (version : Version) (see : T → Reply) (command : Command) (old new : PairsState) (result : Result (Result T Refusal) Fault) : Type 0 where
+  pub faults : new.faults ≡ disk_faults_after old.faults result
+  pub observable : IsObservable old → OnOk result (IsObservable new)
+  pub carried : IsObservable old → (t : Tree) (p : Parameters) → p.version ≡ version → HoldsTree old t p → IsCarriedOut see command new result t p
 
 -- a call that leaves an observable list as it was, also where it fails
 pub record KeepsPairs (old new : PairsState) : Type 0 where
@@ -66,3 +77,9 @@ pub record TellsKind (path : Path) (old new : PairsState) (result : Result (Opti
   pub faults : new.faults ≡ disk_faults_after old.faults result
   pub keeps : KeepsPairs old new
   pub told : IsObservable old → (t : Tree) (p : Parameters) → HoldsTree old t p → IfOk result (λ kind. kind ≡ kind_of_node (node_at t path))
+
+-- a call that gives the value of the first pair of what stands at a path; the root has a directory's
+pub record TellsFirst (path : Path) (old new : PairsState) (result : Result (Option (List ℕ)) Fault) : Type 0 where
+  pub faults : new.faults ≡ disk_faults_after old.faults result
+  pub keeps : KeepsPairs old new
+  pub told : IsObservable old → (t : Tree) (p : Parameters) → HoldsTree old t p → IfOk result (λ first. first ≡ first_value (node_at t path) p.version)

@@ -1,28 +1,39 @@
 //! What stands at a path, and the value that says it in the path's first pair. Here alone stand the byte that begins
-//! each kind of value, and how long a file and its blocks are.
+//! each kind of value, and how long a file, its blocks and a file in one pair are.
 
-ghost use Rattle.std.specs.Prelude.{◌≡◌, IfSome, Some};
+ghost use Rattle.std.specs.Prelude.{◌≡◌, ◌<◌, ◌≤◌, List, ℕ, length, Option, IfSome, MatchOption, Some};
+ghost use Rattle.store_model.specs.Trees.{Node, contents_of, file_limit};
 ghost use Rattle.store_model.specs.Pairs as model;
 ghost use Rattle.ordered_pairs.specs.PairsState.{IsObservable};
-ghost use Rattle.tree_pairs.specs.Kinds.{IsKind, value_of};
-ghost use Rattle.tree_pairs.specs.TreeCalls.{TellsKind};
+ghost use Rattle.tree_pairs.specs.Kinds.{IsKind, IsValueOf, Says, LacksBytes, kind_of_node, first_value};
+ghost use Rattle.tree_pairs.specs.TreeCalls.{TellsKind, TellsFirst};
 
 use byteorder::{BigEndian, ByteOrder};
 use ordered_pairs::OrderedPairs;
 use path_keys::Path;
 use store_base::{Fault, Value};
+use store_model::Version;
 
 /// The most bytes of a file.
 pub const FILE_LIMIT: u32 = 16_777_216;
 
-/// The bytes of a file in one pair; its last pair has the rest.
+/// The bytes of a file in one block; its last block has the rest.
 pub const FILE_BLOCK: u32 = Value::MAX_LEN as u32;
+
+/// The most bytes of a file that stands in its first pair alone.
+pub const INLINE_LIMIT: u32 = 200;
 
 /// The byte that a directory's value has.
 const DIRECTORY: u8 = 1;
 
-/// The byte that begins the first value of a file; its length follows.
+/// The byte that begins the first value of a file whose bytes stand in blocks; its length follows.
 const FILE: u8 = 2;
+
+/// The byte that begins the value of a file in one pair; its bytes follow.
+const INLINE: u8 = 3;
+
+/// The place in that value at which the file's bytes begin.
+pub const INLINE_START: usize = 1;
 
 /// What stands at a path.
 #[derive(Clone, Copy, Debug, PartialEq, Eq)]
@@ -40,7 +51,8 @@ pub fn directory_value() -> Value
     Value::new(&[DIRECTORY])
 }
 
-/// The value of the first pair of a file of so many bytes: the byte 2, and the length in four bytes (big-endian).
+/// The value of the first pair of a file of so many bytes that stand in blocks: the byte 2, and the length in four
+/// bytes (big-endian).
 pub fn file_value(len: u32) -> Value
     ensures { result ≡ model.file_value len }
 {
@@ -49,10 +61,30 @@ pub fn file_value(len: u32) -> Value
     Value::new(&bytes)
 }
 
-/// What the first value of a path says; `None` exactly where it is no such value.
+/// The value of the one pair of a file with these bytes: the byte 3, and the bytes.
+pub fn inline_value(bytes: &[u8]) -> Value
+    requires { length bytes.now ≤ model.inline_limit }
+    ensures { result ≡ model.inline_value bytes.now }
+{
+    let mut value = [INLINE; Value::MAX_LEN];
+    value[1..=bytes.len()].copy_from_slice(bytes);
+    Value::new(&value[..=bytes.len()])
+}
+
+/// Whether a version has a file of so many bytes in one pair.
+pub fn is_inline(version: Version, len: u32) -> bool
+    ensures { result ≡ model.is_inline version len }
+{
+    match version {
+        Version::One => false,
+        Version::Two => len <= INLINE_LIMIT,
+    }
+}
+
+/// What the first value of a path says, under either version; `None` exactly where it is no such value.
 pub fn kind_in(value: &[u8]) -> Option<Kind>
-    ensures found { IfSome result (λ kind. IsKind kind × (value.now ≡ value_of kind)) }
-    ensures only { (kind : Kind) → IsKind kind → value.now ≡ value_of kind → result ≡ Some kind }
+    ensures found { IfSome result (λ kind. IsKind kind × Says value.now kind) }
+    ensures only { (kind : Kind) → IsKind kind → Says value.now kind → result ≡ Some kind }
 {
     match value {
         [DIRECTORY] => Some(Kind::Directory),
@@ -60,8 +92,59 @@ pub fn kind_in(value: &[u8]) -> Option<Kind>
             let len = u32::from_be_bytes([*a, *b, *c, *d]);
             (len <= FILE_LIMIT).then_some(Kind::File(len))
         }
+        [INLINE, bytes @ ..] if bytes.len() <= INLINE_LIMIT as usize => {
+            Some(Kind::File(bytes.len() as u32))
+        }
         _ => None,
     }
+}
+
+/// What the first value of a path says under one version; `None` exactly where the version has no such value.
+pub fn kind_under(value: &[u8], version: Version) -> Option<Kind>
+    ensures found { IfSome result (λ kind. IsKind kind × IsValueOf version kind value.now) }
+    ensures only { (kind : Kind) → IsKind kind → IsValueOf version kind value.now → result ≡ Some kind }
+{
+    match kind_in(value)? {
+        Kind::Directory => Some(Kind::Directory),
+        Kind::File(len) => {
+            let has_bytes = value.first() == Some(&INLINE);
+            (has_bytes == is_inline(version, len)).then_some(Kind::File(len))
+        }
+    }
+}
+
+/// The bytes of a file that stand in its first pair; `None` where the first pair has none, or there is no such pair.
+pub fn inline_in(first: &Option<Value>) -> Option<&[u8]>
+    ensures first { MatchOption result (LacksBytes first.now) (λ bytes. first.now ≡ Some (model.inline_value bytes.now)) }
+    ensures fits { IfSome result (λ bytes. length bytes.now < Value.MAX_LEN) }
+{
+    match first.as_ref()?.as_slice() {
+        [INLINE, bytes @ ..] => Some(bytes),
+        _ => None,
+    }
+}
+
+/// What the first pair of a path says of it: nothing stands there where there is no such pair.
+pub fn kind_told(first: &Option<Value>) -> Option<Kind>
+    ensures { (o : Option Node) (version : Version) → length (contents_of o) ≤ file_limit → first.now ≡ first_value o version → result ≡ kind_of_node o }
+{
+    match first {
+        Some(value) => kind_in(value.as_slice()),
+        None => None,
+    }
+}
+
+/// The value of the first pair of what stands at a path, if anything does; the root has a directory's. A fault of the
+/// pairs is handed on.
+pub fn first_of<P: OrderedPairs>(pairs: &mut P, path: &Path) -> Result<Option<Value>, Fault>
+    ensures call { TellsFirst path.now (P.state pairs.old) (P.state pairs.new) result }
+    ensures hidden { IsObservable (P.state pairs.new) → IsObservable (P.state pairs.old) }
+    ensures follows { P.follows pairs.old pairs.new }
+{
+    if path.is_root() {
+        return Ok(Some(directory_value()));
+    }
+    pairs.get(&path.key(0))
 }
 
 /// What stands at a path, if anything does. The root is a directory. A fault of the pairs is handed on.
@@ -70,11 +153,6 @@ pub fn kind_of<P: OrderedPairs>(pairs: &mut P, path: &Path) -> Result<Option<Kin
     ensures hidden { IsObservable (P.state pairs.new) → IsObservable (P.state pairs.old) }
     ensures follows { P.follows pairs.old pairs.new }
 {
-    if path.is_root() {
-        return Ok(Some(Kind::Directory));
-    }
-    match pairs.get(&path.key(0))? {
-        Some(value) => Ok(kind_in(value.as_slice())),
-        None => Ok(None),
-    }
+    let first = first_of(pairs, path)?;
+    Ok(kind_told(&first))
 }

@@ -6,4 +6,7 @@
 mod kind;
 pub mod laws;
 
-pub use kind::{FILE_BLOCK, FILE_LIMIT, Kind, directory_value, file_value, kind_in, kind_of};
+pub use kind::{
+    FILE_BLOCK, FILE_LIMIT, INLINE_LIMIT, INLINE_START, Kind, directory_value, file_value,
+    first_of, inline_in, inline_value, is_inline, kind_in, kind_of, kind_told, kind_under,
+};

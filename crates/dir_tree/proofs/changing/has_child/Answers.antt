@@ -9,8 +9,8 @@ returns-clause-call g c =
     record {
       faults = search.faults;
       keeps = search.keeps;
-      told = λ seen t p holds directory. c.is_some.ensures ∙ child_answer t c.args.path.now c.key.result c.in_ok-next_within.field-0 holds.tree c.key.ensures.path directory c.key.ensures.value search.within
-          (search.found seen (tree_blocks t) (held_blocks (g.P.OrderedPairs.state c.args.pairs.now) t p holds) c.key.ensures.path (low_behind c.args.path.now c.key.result 1 c.key.ensures.path (omega arith) c.key.ensures.value));
+      told = λ seen t p holds directory. c.is_some.ensures ∙ child_answer t p c.args.path.now c.key.result c.in_ok-next_within.field-0 holds.tree c.key.ensures.path directory c.key.ensures.value search.within
+          (search.found seen (tree_blocks t p) (held_blocks (g.P.OrderedPairs.state c.args.pairs.now) t p holds) c.key.ensures.path (low_behind c.args.path.now c.key.result 1 c.key.ensures.path (omega arith) c.key.ensures.value));
     }
 
 pub returns-in_err-next_within-clause-follows : goal.returns-in_err-next_within-clause-follows

@@ -38,8 +38,8 @@ loop-preserved g c =
       part = λ seen t p holds directory.
           let part = kept.part seen t p holds directory in
           let holds_here = still_holds old here t p kept.keeps seen holds in
-          next_listed t c.args.path.now c.loop.counter c.loop.from c.past-from.result c.loop.entries _ c.name.result.now c.in_ok-size.size c.in_ok-child.field-0 c.in-Some.child holds.tree c.key-from.ensures.path directory part c.in-Some.is search.call.within
-          (search.call.found (kept.keeps.observable seen) (tree_blocks t) (held_blocks here t p holds_here) c.key-from.ensures.path (low_enough c.args.path.now c.loop.from c.key-from.ensures.path part.between))
+          next_listed t p c.args.path.now c.loop.counter c.loop.from c.past-from.result c.loop.entries _ c.name.result.now c.in_ok-size.size c.in_ok-child.field-0 c.in-Some.child holds.tree c.key-from.ensures.path directory part c.in-Some.is search.call.within
+          (search.call.found (kept.keeps.observable seen) (tree_blocks t p) (held_blocks here t p holds_here) c.key-from.ensures.path (low_enough c.args.path.now c.loop.from c.key-from.ensures.path part.between))
           (record { above = c.past-from.ensures.above; below = c.past-from.ensures.below }) c.name.ensures (size.call.told (keeps.observable seen) t p (still_holds old between t p keeps seen holds)) c.in_ok-push.ensures.ok;
       follows = g.met.P.OrderedPairs.follows_trans _ _ _ kept.follows (g.met.P.OrderedPairs.follows_trans _ _ _ search.follows size.follows);
     }
@@ -55,8 +55,8 @@ returns-in_default-clause-call g c =
       keeps = kept_on old here (g.P.OrderedPairs.state c.next_within.new.pairs) kept.keeps search.call.keeps;
       listed = λ seen t p holds directory.
           let part = kept.part seen t p holds directory in
-          none_listed_more t c.args.path.now c.loop.counter c.loop.from c.loop.entries c.in_ok-child.field-0 holds.tree part c.in_default.not-Some
-          (search.call.found (kept.keeps.observable seen) (tree_blocks t) (held_blocks here t p (still_holds old here t p kept.keeps seen holds)) c.key-from.ensures.path (low_enough c.args.path.now c.loop.from c.key-from.ensures.path part.between));
+          none_listed_more t p c.args.path.now c.loop.counter c.loop.from c.loop.entries c.in_ok-child.field-0 holds.tree part c.in_default.not-Some
+          (search.call.found (kept.keeps.observable seen) (tree_blocks t p) (held_blocks here t p (still_holds old here t p kept.keeps seen holds)) c.key-from.ensures.path (low_enough c.args.path.now c.loop.from c.key-from.ensures.path part.between));
     }
 
 pub returns-clause-call : goal.returns-clause-call

@@ -1,28 +1,30 @@
-use Rattle.std.proofs.Common.{◌≡◌, ◌-◌, ◌≤◌, ◌∙◌, length, min, None, ap, subst, sym, arith}
+use Rattle.std.proofs.Common.{◌≡◌, ◌-◌, ◌≤◌, ◌∙◌, length, min, None, ap, sym, arith}
+use Rattle.store_model.specs.Pairs.{is_inline}
 use Rattle.store_model.specs.Trees.{contents, node_at}
 use Rattle.store_model.specs.Commands.Command.{Read}
 use Rattle.store_model.specs.Commands.Reply.{Content}
 use Rattle.store_model.specs.Steps.{first_refusal, refusal_of, reply_of}
 use Rattle.tree_pairs.proofs.TreeBlocks.{tree_blocks}
 use Rattle.tree_pairs.proofs.CallLemmas.{step_done}
-use Rattle.file_blocks.specs.FileCalls.{HasFile}
+use Rattle.tree_pairs.proofs.KindLemmas.{tells_kind}
 use Rattle.file_blocks.specs.Refusals.{read_conditions, size_of}
-use Rattle.file_blocks.proofs.CarryLemmas.{refused_by_kind, refusal-read, size_of-node, read_fits, read_allowed, has_contents, take_there, pairs-read}
+use Rattle.file_blocks.proofs.CarryLemmas.{refused_by_kind, refusal-read, size_of-node, read_fits, read_allowed, take_there, pairs-read}
+use Rattle.file_blocks.proofs.FormLemmas.{stands_found}
 use Rattle.file_blocks.proofs.reading.read_at.Goals as goal
 
-pub read_bytes-requires-clause-few : goal.read_bytes-requires-clause-few
-read_bytes-requires-clause-few g c = let few = read_fits c.in_ok-kind.kind c.args.at c.args.len c.in-Ok.ensures.0 in let e = c.in-Ok.ensures.1 in omega arith
+pub read_file-requires-clause-few : goal.read_file-requires-clause-few
+read_file-requires-clause-few g c = let few = read_fits c.kind_told.result c.args.at c.args.len c.in-Ok.ensures.0 in let e = c.in-Ok.ensures.1 in omega arith
 
 pub returns-in-Err-clause-call : goal.returns-in-Err-clause-call
 returns-in-Err-clause-call g c =
-    refused_by_kind Content (Read c.args.path.now c.args.at c.args.len) c.args.path.now c.in_ok-kind.kind c.in-Err.refusal (λ kind. read_conditions kind c.args.at c.args.len)
-    (g.P.OrderedPairs.state c.args.pairs.now) (g.P.OrderedPairs.state c.kind_of.new.pairs) c.in_ok-kind.ensures.call (λ seen t p holds. refusal-read t c.args.path.now c.args.at c.args.len) c.in-Err.ensures
+    refused_by_kind Content (Read c.args.path.now c.args.at c.args.len) c.args.path.now c.kind_told.result c.in-Err.refusal (λ kind. read_conditions kind c.args.at c.args.len)
+    (g.P.OrderedPairs.state c.args.pairs.now) (g.P.OrderedPairs.state c.first_of.new.pairs) (tells_kind c.args.path.now (g.P.OrderedPairs.state c.args.pairs.now) (g.P.OrderedPairs.state c.first_of.new.pairs) c.in_ok-first.first c.kind_told.result c.in_ok-first.ensures.call c.kind_told.ensures) (λ seen t p holds. refusal-read t c.args.path.now c.args.at c.args.len) c.in-Err.ensures
 
-pub returns-in_ok-read_bytes-in-Ok-clause-call : goal.returns-in_ok-read_bytes-in-Ok-clause-call
+pub returns-in_ok-read_file-in-Ok-clause-call : goal.returns-in_ok-read_file-in-Ok-clause-call
 unfolding reply_of
-returns-in_ok-read_bytes-in-Ok-clause-call g c =
-    let told = c.in_ok-kind.ensures.call in
-    let reads = c.in_ok-read_bytes-in-Ok.ensures.call in
+returns-in_ok-read_file-in-Ok-clause-call g c =
+    let told = tells_kind c.args.path.now (g.P.OrderedPairs.state c.args.pairs.now) (g.P.OrderedPairs.state c.first_of.new.pairs) c.in_ok-first.first c.kind_told.result c.in_ok-first.ensures.call c.kind_told.ensures in
+    let reads = c.in_ok-read_file-in-Ok.ensures.call in
     record {
       faults = reads.faults ∙ told.faults;
       observable = λ seen. reads.keeps.observable (told.keeps.observable seen);
@@ -34,35 +36,10 @@ returns-in_ok-read_bytes-in-Ok-clause-call g c =
           let allowed = read_allowed t path c.args.at c.args.len free in
           let within : c.args.at ≤ length (contents t path) = allowed.1 in
           let seen_between = told.keeps.observable seen in
-          let before : HasFile path (tree_blocks t path 0) (contents t path) (tree_blocks t) (g.P.OrderedPairs.state c.kind_of.new.pairs).pairs =
-          subst (HasFile path (tree_blocks t path 0) (contents t path) (tree_blocks t)) (sym (told.keeps.unchanged seen ∙ holds.pairs_are)) (has_contents t p path holds.tree allowed.0) in
+          let stands = stands_found path c.in_ok-first.first (g.P.OrderedPairs.state c.args.pairs.now) (g.P.OrderedPairs.state c.first_of.new.pairs) t p c.in_ok-first.ensures.call seen holds allowed.0 in
           let count_is : c.in-Ok.count ≡ min c.args.len (length (contents t path) - c.args.at) =
           c.in-Ok.ensures.1 ∙ ap (λ m. min c.args.len (m - c.args.at)) (ap size_of kind_is ∙ size_of-node (node_at t path)) in
-          step_done Content c.in_ok-read_bytes-in-Ok.field-0 t (Read path c.args.at c.args.len) p (g.P.OrderedPairs.state c.read_bytes.new.pairs) free
-          (ap Content (reads.read seen_between (tree_blocks t path 0) (contents t path) (tree_blocks t) (omega arith) before ∙ take_there (contents t path) c.args.at c.args.len c.in-Ok.count count_is))
-          (pairs-read t p path c.args.at c.args.len (g.P.OrderedPairs.state c.read_bytes.new.pairs).pairs (reads.keeps.unchanged seen_between ∙ told.keeps.unchanged seen ∙ holds.pairs_are));
+          step_done Content c.in_ok-read_file-in-Ok.field-0 t (Read path c.args.at c.args.len) p (g.P.OrderedPairs.state c.read_file.new.pairs) free
+          (ap Content (reads.read seen_between (is_inline p.version (length (contents t path))) (contents t path) (tree_blocks t p) (omega arith) stands ∙ take_there (contents t path) c.args.at c.args.len c.in-Ok.count count_is))
+          (pairs-read t p path c.args.at c.args.len (g.P.OrderedPairs.state c.read_file.new.pairs).pairs (reads.keeps.unchanged seen_between ∙ told.keeps.unchanged seen ∙ holds.pairs_are));
     }
-
-pub returns-in_err-kind-clause-hidden : goal.returns-in_err-kind-clause-hidden
-returns-in_err-kind-clause-hidden g c seen = c.kind_of.ensures.hidden seen
-
-pub returns-in_err-kind-clause-follows : goal.returns-in_err-kind-clause-follows
-returns-in_err-kind-clause-follows g c = c.kind_of.ensures.follows
-
-pub returns-in-Err-clause-hidden : goal.returns-in-Err-clause-hidden
-returns-in-Err-clause-hidden g c seen = c.kind_of.ensures.hidden seen
-
-pub returns-in-Err-clause-follows : goal.returns-in-Err-clause-follows
-returns-in-Err-clause-follows g c = c.kind_of.ensures.follows
-
-pub returns-in_ok-read_bytes-in-Ok-clause-hidden : goal.returns-in_ok-read_bytes-in-Ok-clause-hidden
-returns-in_ok-read_bytes-in-Ok-clause-hidden g c seen = c.kind_of.ensures.hidden (c.read_bytes.ensures.hidden seen)
-
-pub returns-in_ok-read_bytes-in-Ok-clause-follows : goal.returns-in_ok-read_bytes-in-Ok-clause-follows
-returns-in_ok-read_bytes-in-Ok-clause-follows g c = g.met.P.OrderedPairs.follows_trans _ _ _ c.kind_of.ensures.follows c.read_bytes.ensures.follows
-
-pub returns-in_err-read_bytes-in-Ok-clause-hidden : goal.returns-in_err-read_bytes-in-Ok-clause-hidden
-returns-in_err-read_bytes-in-Ok-clause-hidden g c seen = c.kind_of.ensures.hidden (c.read_bytes.ensures.hidden seen)
-
-pub returns-in_err-read_bytes-in-Ok-clause-follows : goal.returns-in_err-read_bytes-in-Ok-clause-follows
-returns-in_err-read_bytes-in-Ok-clause-follows g c = g.met.P.OrderedPairs.follows_trans _ _ _ c.kind_of.ensures.follows c.read_bytes.ensures.follows

@@ -11,7 +11,7 @@ pub loop-init : goal.loop-init
 loop-init g c = record {
   faults = refl;
   observable = λ seen. seen;
-  part = λ seen path_to t p holds none. none_moved t c.args.from.now c.args.to.now (g.P.OrderedPairs.state c.args.pairs.now).pairs holds.tree (is_move t c.args.from.now c.args.to.now none) (held_blocks (g.P.OrderedPairs.state c.args.pairs.now) t p holds) (g.met.P.OrderedPairs.few c.args.pairs.now seen);
+  part = λ seen path_to t p holds none. none_moved t p c.args.from.now c.args.to.now (g.P.OrderedPairs.state c.args.pairs.now).pairs holds.tree (is_move t c.args.from.now c.args.to.now none) (held_blocks (g.P.OrderedPairs.state c.args.pairs.now) t p holds) (g.met.P.OrderedPairs.few c.args.pairs.now seen);
   follows = g.met.P.OrderedPairs.follows_refl _;
 }
 
@@ -27,7 +27,7 @@ loop-preserved g c =
       faults = move.call.faults ∙ search.call.faults ∙ kept.faults;
       observable = λ seen. move.call.observable (search.call.keeps.observable (kept.observable seen));
       part = λ seen path_to t p holds none.
-          next_moved t c.args.from.now c.args.to.now c.loop.counter here.pairs between.pairs after.pairs c.in_ok-found.field-0 c.in-Some.found holds.tree (is_move t c.args.from.now c.args.to.now none) c.key-first.ensures.path path_to (kept.part seen path_to t p holds none)
+          next_moved t p c.args.from.now c.args.to.now c.loop.counter here.pairs between.pairs after.pairs c.in_ok-found.field-0 c.in-Some.found holds.tree (is_move t c.args.from.now c.args.to.now none) c.key-first.ensures.path path_to (kept.part seen path_to t p holds none)
           c.in-Some.is search.call.within
           (λ rest has. subst (λ (k : List ℕ). MatchOption c.in_ok-found.field-0 (LacksFrom k c.args.from.now rest) (λ at. IsFirstFrom k rest at.path at.number)) c.key-first.ensures.value (search.call.found (kept.observable seen) rest has c.key-first.ensures.path (le_at_first c.args.from.now c.key-first.result c.key-first.ensures.value)))
           (search.call.keeps.unchanged (kept.observable seen))

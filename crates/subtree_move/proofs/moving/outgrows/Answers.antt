@@ -39,7 +39,7 @@ returns-then-is_none-clause-call g c =
     let kept = c.loop.invariant in
     let search = c.in_ok-found.ensures.call in
     told_growth _ _ _ _ _ _ kept.walked search c.args.to.now true (λ seen t p holds.
-    next_grows t c.args.from.now c.args.to.now c.loop.next c.in_ok-found.field-0 c.in-Some.found holds.tree c.in-Some.is search.within
+    next_grows t p c.args.from.now c.args.to.now c.loop.next c.in_ok-found.field-0 c.in-Some.found holds.tree c.in-Some.is search.within
     (answered _ _ _ _ _ _ kept.walked search seen t p holds c.key-next.ensures.path (kept.part seen t p holds).low) (c.replant.ensures.none.0 (c.is_none.ensures ∙ ap not c.if-is_none.true)))
 
 pub returns-in_err-found-clause-follows : goal.returns-in_err-found-clause-follows

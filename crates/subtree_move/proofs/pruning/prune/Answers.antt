@@ -15,7 +15,7 @@ returns-clause-call g c =
     let take = c.in_ok-take_subtree.ensures.call in
     carried (λ x. Acknowledged) (Prune c.args.path.now) tt c.in_ok-refusal.field-0 (g.P.OrderedPairs.state c.args.pairs.now) between new c.in_ok-refusal.ensures.call (none_found c.in_ok-refusal.field-0 c.in_default.not-Some)
     take.faults take.observable (λ t p. refl)
-    (λ seen t p holds none. pruned t p c.args.path.now new.pairs holds.tree take.valid none (take.taken seen (tree_blocks t) (held_blocks between t p holds)))
+    (λ seen t p holds none. pruned t p c.args.path.now new.pairs holds.tree take.valid none (take.taken seen (tree_blocks t p) (held_blocks between t p holds)))
 
 pub returns-in_err-refusal-clause-follows : goal.returns-in_err-refusal-clause-follows
 returns-in_err-refusal-clause-follows g c = c.refusal_to_prune.ensures.follows

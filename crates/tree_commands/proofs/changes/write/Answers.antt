@@ -39,7 +39,7 @@ returns-then-ne g c =
       call = record {
         faults = up.faults;
         observable = up.keeps.observable;
-        carried = λ seen t p holds.
+        carried = λ seen t p under holds.
             let none = ap (is_directory t) (sym at) ∙ no_dir_stands (node_at t c.unwrap_or.result) c.in_ok-kind_of.field-0 (up.told seen t p holds) (λ is. search rules) in
             step_refused (λ _. Acknowledged) refusals.Parent t (Write c.args.path.now c.args.at c.args.bytes.now) p (g.P.OrderedPairs.state c.kind_of.new.pairs)
             (no_parent t c.args.path.now c.args.at c.args.bytes.now none) (up.keeps.unchanged seen ∙ holds.pairs_are);

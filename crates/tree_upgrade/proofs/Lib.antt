@@ -1,0 +1,3 @@
+pub mod FileLemmas
+pub mod EntryLemmas
+pub mod WalkLemmas
