@@ -76,6 +76,7 @@ fn walk_cell<S: ReadSlots, W: Draw, P: TakesPairs>(
     requires index { IsIndexOf (W.digests guide.now.draw.now) (S.state slots.old) guide.now.entries.now }
     ensures call { WalksCell (W.drawn guide.now.draw.now) (S.state slots.old) (S.state slots.new) level cell.now (progress met.old.left met.old.last) (progress met.new.left met.new.last) (P.took sink.old) (P.took sink.new) result }
     ensures follows { S.follows slots.old slots.new }
+    ensures keeps { P.keeps sink.old sink.new }
 {
     if level > 0 {
         return walk_group(slots, guide, level - 1, &Lead::Key(cell.key), met, sink);
@@ -101,6 +102,7 @@ fn walk_cells<S: ReadSlots, W: Draw, P: TakesPairs>(
     requires index { IsIndexOf (W.digests guide.now.draw.now) (S.state slots.old) guide.now.entries.now }
     ensures call { WalksCells (W.drawn guide.now.draw.now) (S.state slots.old) (S.state slots.new) page.now (progress met.old.left met.old.last) (progress met.new.left met.new.last) (P.took sink.old) (P.took sink.new) result }
     ensures follows { S.follows slots.old slots.new }
+    ensures keeps { P.keeps sink.old sink.new }
 {
     let label = page.label();
     for i in 0..page.len() {
@@ -130,6 +132,7 @@ fn walk_group<S: ReadSlots, W: Draw, P: TakesPairs>(
     requires index { IsIndexOf (W.digests guide.now.draw.now) (S.state slots.old) guide.now.entries.now }
     ensures call { WalksGroup (W.drawn guide.now.draw.now) (S.state slots.old) (S.state slots.new) level (model_lead lead.now) (progress met.old.left met.old.last) (progress met.new.left met.new.last) (P.took sink.old) (P.took sink.new) result }
     ensures follows { S.follows slots.old slots.new }
+    ensures keeps { P.keeps sink.old sink.new }
 {
     let mut index = 0;
     'runs: loop {
@@ -167,6 +170,7 @@ pub fn walk_groups<S: ReadSlots, W: Draw, P: TakesPairs>(
     requires index { IsIndexOf (W.digests draw.now) (S.state slots.old) entries.now }
     ensures call { WalksTable (W.drawn draw.now) (S.state slots.old) (S.state slots.new) used (P.took sink.old) (P.took sink.new) result }
     ensures follows { S.follows slots.old slots.new }
+    ensures keeps { P.keeps sink.old sink.new }
 {
     let mut met = Progress::none_of(used);
     let guide = Guide { draw, entries };

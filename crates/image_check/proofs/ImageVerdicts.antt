@@ -3,7 +3,6 @@ use Rattle.std.proofs.Common.{◌≡◌, ◌≤◌, List, ℕ, Option, Some, Non
 use Rattle.store_model.specs.Parameters.{Parameters}
 use Rattle.store_model.specs.Trees.{Tree}
 use Rattle.store_model.specs.Images.{Represents}
-use Rattle.store_model.proofs.TreesLemmasBytes.{headers_same}
 use Rattle.store_model.proofs.TreesLemmasLayouts.{images_tell}
 use Rattle.store_base.specs.declared.store_fault.Fault.{Fault}
 use Rattle.store_base.specs.declared.store_fault.Fault.TheVariants as causes
@@ -19,10 +18,10 @@ use Rattle.layout_conditions.specs.Layouts.{HaveLayout}
 use Rattle.layout_conditions.specs.Conditions.{MeetConditions}
 use Rattle.layout_conditions.proofs.LawLemmas.{layout_meets, conditions_tell}
 use Rattle.image_check.specs.Contents.{AreContents}
-use Rattle.image_check.specs.Verdicts.{clean_of, IsImageWith, HasParameters, IsDamaged, IsVerdict}
+use Rattle.image_check.specs.Verdicts.{clean_of, HasParameters, IsDamaged, IsVerdict}
 use Rattle.image_check.specs.SlotCalls.{AreFound, FindsContents, contents_in, verdict_in}
 use Rattle.image_check.specs.ImageCalls.{HasImage, IsFoundOn, FindsImage, ChecksImage}
-use Rattle.image_check.proofs.Images.{slots_in, represents_tree, represented_layout}
+use Rattle.image_check.proofs.Images.{slots_in, one_name, represents_tree, represented_layout}
 use Rattle.image_check.proofs.Layouts.{verdict_on}
 
 -- a disk whose slots hold contents has their image
@@ -42,10 +41,6 @@ image_found old mid p contents has same reads named found = record {
       };
 }
 
--- an image names one set of parameters
-one_name : (image : List ℕ) (t : Tree) (p q : Parameters) → IsImageWith image p → Represents image t q → q ≡ p
-one_name image t p q named is = headers_same q p is.names.in_range named.names.in_range (sym is.names.header_is ∙ named.names.header_is)
-
 -- one whose slots hold no tree is damaged
 pub image_damaged : (old mid : DiskState) (p : Parameters) → HasParameters old p → mid.is_observable ≡ old.is_observable → (IsObservable old → ReadsOnly old mid)
     → (IsObservable mid → MeetConditions (slots_in p.slots mid.bytes) p → ⊥) → IsDamaged old
@@ -53,7 +48,7 @@ image_damaged old mid p has same reads none = record {
   params = p;
   has_parameters = has;
   no_tree = λ observable t q is.
-      let represents = subst (Represents old.bytes t) (one_name old.bytes t p q (has.named observable) is) is in
+      let represents = subst (Represents old.bytes t) (one_name old.bytes p q (has.named observable) (record { names = is.names; length_is = is.length_is })) is in
       let layout = subst (λ (image : List ℕ). HaveLayout (slots_in p.slots image) t p) (sym (reads observable).bytes) (represented_layout old.bytes t p represents) in
       none (same ∙ observable) (layout_meets (slots_in p.slots mid.bytes) p t has.in_range layout).0;
 }

@@ -12,6 +12,7 @@ use Rattle.store_model.specs.Pages.{Page, pages}
 use Rattle.store_model.specs.Images.{slot_bytes, slots_of, recovered_slot, Represents}
 use Rattle.store_model.proofs.ListsLemmas.{length-numbers_from}
 use Rattle.store_model.proofs.PlacementLemmas.{length-place}
+use Rattle.store_model.proofs.TreesLemmasBytes.{viewed_headers_same}
 use Rattle.gate_journal.proofs.Layouts.{represented-slots, slots-represent}
 use Rattle.layout_conditions.specs.Layouts.{table_of_tree, HaveLayout}
 use Rattle.image_check.specs.Verdicts.{IsImageWith}
@@ -29,6 +30,10 @@ made_at f first (suc count) (suc i) l = made_at f (suc first) count i (omega ari
 -- each of them by its number
 pub slot_at : (slots : ℕ) (image : List ℕ) (i : ℕ) → i < slots → slice_get (slots_in slots image) i ≡ Some (recovered_slot slots image i)
 slot_at slots image i l = made_at (recovered_slot slots image) 0 slots i l ∙ ap (λ n. Some (recovered_slot slots image n)) (let e : 0 + i ≡ i = omega arith in e)
+
+-- an image names one set of parameters
+pub one_name : (image : List ℕ) (p q : Parameters) → IsImageWith image p → IsImageWith image q → q ≡ p
+one_name image p q named is = viewed_headers_same image q p is.names.in_range named.names.in_range is.names.header_is named.names.header_is
 
 -- the table has as many slots as the parameters say
 pub length-table_of : (t : Tree) (p : Parameters) → length (table_of_tree t p) ≡ p.slots

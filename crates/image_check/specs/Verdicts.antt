@@ -1,5 +1,6 @@
 -- Verdicts on slots and on images.
 use Rattle.std.specs.Prelude.{◌≡◌, ℕ, List, length}
+use Rattle.store_model.specs.declared.version.Version.TheVariants.{One}
 use Rattle.store_model.specs.Parameters.{Parameters, IsParameters, image_len}
 use Rattle.store_model.specs.Trees.{Tree}
 use Rattle.store_model.specs.Pages.{page_count}
@@ -34,6 +35,8 @@ pub record IsImageWith (image : List ℕ) (p : Parameters) : Type 0 where
 -- the disk has the length of an image with these parameters, and an observable one is such an image
 pub record HasParameters (disk : DiskState) (p : Parameters) : Type 0 where
   pub in_range : IsParameters p
+  -- as long as not every subcommand serves version 2; it goes with that of `NamesParameters`
+  pub served : p.version ≡ One
   pub size_is : disk.size ≡ image_len p.slots
   pub named : IsObservable disk → IsImageWith disk.bytes p
 

@@ -16,7 +16,7 @@ pub enum AttachFault {
     /// Memory ran out. Nothing was written.
     #[error("out of memory")]
     NoMemory,
-    /// It does not start with the header of an image of its length. Nothing was written.
+    /// Its header, as recovery would leave it, is that of no image of its length. Nothing was written.
     #[error("this is no image")]
     NotImage,
     /// It is an image, but even recovered it would hold no tree. Nothing was written.

@@ -8,14 +8,12 @@ ghost use Rattle.disk_model.specs.DiskCalls.{faults_after};
 ghost use Rattle.image_check.specs.Verdicts.{IsImageWith, HasParameters};
 
 use disk_model::Disk;
-use store_base::{DiskFault, Params, image_len, read_header};
-use store_model::{BLOCK, Slot};
+use gate_journal::Journal;
+use store_base::{DiskFault, Params};
+use store_model::Version;
 
-/// The bytes of a header, which is one block.
-const HEADER: u64 = BLOCK as u64;
-
-/// The parameters of the image on a disk, which is only read; `None` where it does not start with the header of some
-/// image of its length, and nowhere else. A fault of the disk is handed on.
+/// The parameters of the image on a disk, by its header as recovery would leave it; the disk is only read. `None` where
+/// that is the header of no image of its length, and nowhere else. A fault of the disk is handed on.
 pub fn read_params<D: Disk>(disk: &mut D) -> Result<Option<Params>, DiskFault>
     ensures size { (D.state disk.new).size ≡ (D.state disk.old).size }
     ensures observable { (D.state disk.new).is_observable ≡ (D.state disk.old).is_observable }
@@ -27,14 +25,9 @@ pub fn read_params<D: Disk>(disk: &mut D) -> Result<Option<Params>, DiskFault>
     ensures found { IfOk result (λ found. IfSome found (HasParameters (D.state disk.old))) }
     ensures only { IsObservable (D.state disk.old) → (p : model.Parameters) → IsImageWith (D.state disk.old).bytes p → IfOk result (λ found. found ≡ Some p) }
 {
-    let len = disk.len();
-    if len < HEADER {
-        return Ok(None);
-    }
-    let mut header: Slot = [0; BLOCK];
-    disk.read_at(0, &mut header)?;
-    match read_header(&header) {
-        Some(params) if len == image_len(params.slots()) => Ok(Some(params)),
-        _ => Ok(None),
+    match Journal::view_header(disk)? {
+        // As long as not every subcommand serves version 2, none does.
+        Some(params) if params.version() != Version::One => Ok(None),
+        viewed => Ok(viewed),
     }
 }

@@ -12,8 +12,8 @@ use gate_journal::View;
 use store_base::Fault;
 
 /// What a disk holds as recovery would leave it; the disk is only read, and handed back. `NotImage` is the answer to a
-/// disk that does not start with the header of some image of its length, and to no other; `Damaged` that to an image
-/// that represents no tree. `Disk` comes only where the disk failed, and `NoMemory` never.
+/// disk whose header would then be that of no image of its length, and to no other; `Damaged` that to an image that
+/// represents no tree. `Disk` comes only where the disk failed, and `NoMemory` never.
 pub fn find_image<D: Disk>(mut disk: D) -> (D, Result<Contents, AttachFault>)
     ensures { FindsImage (D.state disk) (D.state result.0) result.1 }
 {
@@ -28,8 +28,9 @@ pub fn find_image<D: Disk>(mut disk: D) -> (D, Result<Contents, AttachFault>)
 }
 
 /// Checks an image as recovery would leave it; the disk is only read, and handed back. `Clean` is the verdict on an
-/// image that represents a tree, and on no other; `NotImage` that on a disk that does not start with the header of some
-/// image of its length; `Damaged` that on any other disk. `Fault::Disk` comes only where the disk failed, and `Fault::NoMemory` never.
+/// image that represents a tree, and on no other; `NotImage` that on a disk whose header would then be that of no image
+/// of its length; `Damaged` that on any other disk. `Fault::Disk` comes only where the disk failed, and
+/// `Fault::NoMemory` never.
 pub fn check<D: Disk>(disk: D) -> (D, Result<Verdict, Fault>)
     ensures { ChecksImage (D.state disk) (D.state result.0) result.1 }
 {

@@ -1,10 +1,12 @@
 //! The pairs that a check comes to, as they are taken.
 
-ghost use Rattle.std.specs.Prelude.{[]};
+ghost use Rattle.std.specs.Prelude.{◌≡◌, [], refl};
+ghost use Rattle.std.proofs.Common.{◌∙◌};
 ghost use Rattle.image_check.specs.TreePairs.{TookPairs, TellsTree};
 
 use group_walk::TakesPairs;
 use store_base::{Key, Value};
+use store_model::Version;
 use tree_reader::{Counts, TreeReader};
 
 /// Pairs that came one after another, read until one was refused. No list of them is kept.
@@ -17,17 +19,18 @@ pub(crate) struct TreePairs {
 }
 
 impl TreePairs {
-    /// No pair.
-    pub(crate) fn new() -> TreePairs
-        ensures { TookPairs result [] }
+    /// No pair, for a reader of this version.
+    pub(crate) fn new(version: Version) -> TreePairs
+        ensures version { result.reader.version ≡ version }
+        ensures none { TookPairs result [] }
     {
         TreePairs {
-            reader: TreeReader::new(),
+            reader: TreeReader::new(version),
             is_refused: false,
         }
     }
 
-    /// What the tree holds whose pairs were taken; `None` exactly where they are no tree's.
+    /// What the tree holds whose pairs were taken; `None` exactly where they are no tree's under the reader's version.
     pub(crate) fn counts(&self) -> Option<Counts>
         ensures { TellsTree self.now result }
     {
@@ -40,6 +43,12 @@ impl TreePairs {
 
 impl TakesPairs for TreePairs {
     ghost took = { λ pairs s. TookPairs pairs s };
+
+    ghost keeps = { λ old new. new.reader.version ≡ old.reader.version };
+
+    ghost keeps_refl = { λ pairs. refl };
+
+    ghost keeps_trans = { λ old mid new first second. second ∙ first };
 
     fn take(&mut self, key: &Key, value: &Value) {
         if !self.is_refused {

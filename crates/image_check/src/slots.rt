@@ -76,7 +76,7 @@ pub fn find_contents<S: ReadSlots>(
     let Some(used) = count_pages(slots, &draw, params.height(), &mut entries)? else {
         return Ok(None);
     };
-    let mut pairs = TreePairs::new();
+    let mut pairs = TreePairs::new(params.version());
     if !walk_groups(slots, &draw, &entries[..used as usize], used, &mut pairs)? {
         return Ok(None);
     }

@@ -21,7 +21,7 @@ pub enum Verdict {
         /// How many bytes the files have together.
         bytes: u64,
     },
-    /// The disk does not start with the header of some image of its length.
+    /// The disk's header, as recovery would leave it, is that of no image of its length.
     NotImage,
     /// What recovery would leave is the layout of no tree.
     Damaged,

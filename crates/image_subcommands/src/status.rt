@@ -28,7 +28,7 @@ pub enum Status {
     /// As many bytes were taken as a script may have, and one more came. The image is the layout of the tree
     /// after the answered lines.
     TooLong,
-    /// The disk does not start with the header of some image of its length. Nothing was written.
+    /// The disk's header, as recovery would leave it, is that of no image of its length. Nothing was written.
     NotImage,
     /// What recovery would leave is the layout of no tree, or for `scrub` what scrubbing would leave. Nothing was
     /// written.

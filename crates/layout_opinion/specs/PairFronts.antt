@@ -1,9 +1,10 @@
 -- What stands at the front of a list of pairs.
-use Rattle.std.specs.Prelude.{◌≡◌, ℕ, ◌≤◌, IsTrue, ◌+◌, List, [], length, take, false}
+use Rattle.std.specs.Prelude.{◌≡◌, ℕ, ◌≤◌, IsTrue, ◌+◌, List, [], length, take, Bool, true, false}
+use Rattle.store_model.specs.declared.version.Version.{Version}
 use Rattle.store_model.specs.Lists.{IsBytes, run_count}
 use Rattle.store_model.specs.Parameters.{Parameters}
 use Rattle.store_model.specs.Paths.{Path, is_path, is_root}
-use Rattle.store_model.specs.Pairs.{Pair, file_block, node_pairs}
+use Rattle.store_model.specs.Pairs.{Pair, file_block, is_inline, node_pairs}
 use Rattle.store_model.specs.Trees.{Node, IsNode}
 use Rattle.tree_pairs.specs.declared.kind.Kind.{Kind}
 use Rattle.tree_pairs.specs.declared.kind.Kind.TheVariants as kinds
@@ -14,13 +15,18 @@ use Rattle.tree_reader.specs.Fronts.{block_pairs}
 abbrev pub AreBlocks : Path → ℕ → List Pair → Type 0
 AreBlocks path len s = (bytes : List ℕ) × (length bytes ≡ len) × IsBytes bytes × (s ≡ block_pairs path bytes)
 
--- so many pairs stand at a path with their first, and those behind it are these
-abbrev pub HasPairs : Path → Kind → ℕ → List Pair → Type 0
-HasPairs path kinds.Directory count behind = (count ≡ 1) × (behind ≡ [])
-HasPairs path (kinds.File len) count behind = (count ≡ 1 + run_count file_block len) × AreBlocks path len behind
+-- so many pairs are those of a file of so many bytes, and those behind the first are these: none, or the blocks
+abbrev pub HasFilePairs : Bool → Path → ℕ → ℕ → List Pair → Type 0
+HasFilePairs true path len count behind = (count ≡ 1) × (behind ≡ [])
+HasFilePairs false path len count behind = (count ≡ 1 + run_count file_block len) × AreBlocks path len behind
 
--- so many pairs from the front on are those of what stands at the path
-pub record StandsFirst (s : List Pair) (path : Path) (kind : Kind) (count : ℕ) : Type 0 where
+-- under a version so many pairs stand at a path with their first, and those behind it are these
+abbrev pub HasPairs : Version → Path → Kind → ℕ → List Pair → Type 0
+HasPairs version path kinds.Directory count behind = (count ≡ 1) × (behind ≡ [])
+HasPairs version path (kinds.File len) count behind = HasFilePairs (is_inline version len) path len count behind
+
+-- so many pairs from the front on are those of what stands at the path under a version
+pub record StandsFirst (version : Version) (s : List Pair) (path : Path) (kind : Kind) (count : ℕ) : Type 0 where
   pub node : Node
   pub node_is : IsNode node
   pub kind_is : kind ≡ kind_of node
@@ -28,4 +34,4 @@ pub record StandsFirst (s : List Pair) (path : Path) (kind : Kind) (count : ℕ)
   pub below_root : is_root path ≡ false
   pub some : 1 ≤ count
   pub within : count ≤ length s
-  pub pairs_are : (p : Parameters) → take count s ≡ node_pairs path node p
+  pub pairs_are : (p : Parameters) → p.version ≡ version → take count s ≡ node_pairs path node p

@@ -12,7 +12,8 @@ ghost use Rattle.layout_opinion.specs.PairFronts.{HasPairs, StandsFirst};
 use crate::blocks::{are_blocks, block_count};
 use path_keys::Path;
 use store_base::{Key, Value};
-use tree_pairs::{Kind, kind_in};
+use store_model::Version;
+use tree_pairs::{Kind, is_inline, kind_under};
 
 /// What stands at a path, and how many pairs it has.
 #[derive(Clone, Copy)]
@@ -25,15 +26,16 @@ pub struct Entry {
     pub count: usize,
 }
 
-/// How many pairs what stands at a path has, where the pairs begin with it; `None` where they do not.
-fn pair_count(path: &Path, kind: Kind, pairs: &[(Key, Value)]) -> Option<usize>
+/// How many pairs what stands at a path has under a version, where the pairs begin with it; `None` where they do not.
+fn pair_count(path: &Path, kind: Kind, pairs: &[(Key, Value)], version: Version) -> Option<usize>
     requires kind { IsKind kind }
     requires first { 1 ≤ length pairs.now }
-    ensures found { IfSome result (λ count. (count ≤ length pairs.now) × HasPairs path.now kind count (drop 1 (take count pairs.now))) }
-    ensures only { (count : ℕ) → count ≤ length pairs.now → HasPairs path.now kind count (drop 1 (take count pairs.now)) → result ≡ Some count }
+    ensures found { IfSome result (λ count. (count ≤ length pairs.now) × HasPairs version path.now kind count (drop 1 (take count pairs.now))) }
+    ensures only { (count : ℕ) → count ≤ length pairs.now → HasPairs version path.now kind count (drop 1 (take count pairs.now)) → result ≡ Some count }
 {
     match kind {
         Kind::Directory => Some(1),
+        Kind::File(len) if is_inline(version, len) => Some(1),
         Kind::File(len) => {
             let count = 1 + block_count(len) as usize;
             if count > pairs.len() || !are_blocks(path, len, &pairs[1..count]) {
@@ -44,25 +46,25 @@ fn pair_count(path: &Path, kind: Kind, pairs: &[(Key, Value)]) -> Option<usize>
     }
 }
 
-/// The path and the kind that a first pair names; `None` exactly where it is no path's first pair.
-fn first_in(key: &Key, value: &[u8]) -> Option<(Path, Kind)>
-    ensures found { IfSome result (λ (path, kind). IsFirst path kind key.now value.now) }
-    ensures only { (path : paths.Path) (kind : Kind) → IsFirst path kind key.now value.now → result ≡ Some (path, kind) }
+/// The path and the kind that a first pair names; `None` exactly where it is no path's first pair under the version.
+fn first_in(key: &Key, value: &[u8], version: Version) -> Option<(Path, Kind)>
+    ensures found { IfSome result (λ (path, kind). IsFirst version path kind key.now value.now) }
+    ensures only { (path : paths.Path) (kind : Kind) → IsFirst version path kind key.now value.now → result ≡ Some (path, kind) }
 {
     match Path::of_key(key)? {
-        (path, 0) => Some((path, kind_in(value)?)),
+        (path, 0) => Some((path, kind_under(value, version)?)),
         _ => None,
     }
 }
 
-/// What stands at the front of pairs; `None` exactly where nothing does.
-pub fn first_entry(pairs: &[(Key, Value)]) -> Option<Entry>
-    ensures found { IfSome result (λ entry. StandsFirst pairs.now entry.path entry.kind entry.count) }
-    ensures only { (path : paths.Path) (node : trees.Node) (rest : List model.Pair) (p : Parameters) → IsTrue (paths.is_path path) → paths.is_root path ≡ false → trees.IsNode node
+/// What stands at the front of pairs under a version; `None` exactly where nothing does.
+pub fn first_entry(pairs: &[(Key, Value)], version: Version) -> Option<Entry>
+    ensures found { IfSome result (λ entry. StandsFirst version pairs.now entry.path entry.kind entry.count) }
+    ensures only { (path : paths.Path) (node : trees.Node) (rest : List model.Pair) (p : Parameters) → p.version ≡ version → IsTrue (paths.is_path path) → paths.is_root path ≡ false → trees.IsNode node
         → pairs.now ≡ model.node_pairs path node p ++ rest → MatchOption result ⊥ (λ entry. (entry.path ≡ path) × (entry.kind ≡ kind_of node) × (entry.count ≡ length (model.node_pairs path node p))) }
 {
     let (key, value) = pairs.first()?;
-    let (path, kind) = first_in(key, value.as_slice())?;
-    let count = pair_count(&path, kind, pairs)?;
+    let (path, kind) = first_in(key, value.as_slice(), version)?;
+    let count = pair_count(&path, kind, pairs, version)?;
     Some(Entry { path, kind, count })
 }

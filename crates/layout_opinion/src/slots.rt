@@ -17,23 +17,26 @@ use layout_scratch::{ScratchFault, are_layout, build};
 use node_pages::PairList;
 use std::alloc::Global;
 use store_base::{Fault, Key, NoMemory, Params, ReadSlots, Value};
+use store_model::Version;
 use tree_reader::Counts;
 
-/// Pairs in the order of their keys, with what their tree holds; `None` exactly where they are no tree's.
+/// Pairs in the order of their keys, with what their tree holds; `None` exactly where they are no tree's under the
+/// version.
 fn in_key_order(
     alloc: Global,
     mut pairs: Vec<(Key, Value)>,
+    version: Version,
 ) -> Result<Option<(PairList, Counts)>, NoMemory>
     requires { length pairs.items ≤ most_table_pairs }
-    ensures tree { (p : Parameters) → IfOk result (λ found. IfSome found (λ (s, counts). (t : Tree) × IsTree t × (s ≡ model.pairs t p) × AreCounts t counts)) }
+    ensures tree { (p : Parameters) → p.version ≡ version → IfOk result (λ found. IfSome found (λ (s, counts). (t : Tree) × IsTree t × (s ≡ model.pairs t p) × AreCounts t counts)) }
     ensures few { IfOk result (λ found. IfSome found (λ (s, counts). length s ≤ most_table_pairs)) }
-    ensures only { (p : Parameters) (t : Tree) → IsTree t → IsPermutation pairs.items (model.pairs t p) → IfOk result (λ found. MatchOption found ⊥ (λ (s, counts). s ≡ model.pairs t p)) }
+    ensures only { (p : Parameters) → p.version ≡ version → (t : Tree) → IsTree t → IsPermutation pairs.items (model.pairs t p) → IfOk result (λ found. MatchOption found ⊥ (λ (s, counts). s ≡ model.pairs t p)) }
 {
     sort_pairs(&mut pairs)?;
     if !do_rise(&pairs) {
         return Ok(None);
     }
-    let Some(counts) = count_tree(&pairs) else {
+    let Some(counts) = count_tree(&pairs, version) else {
         return Ok(None);
     };
     Ok(Some((list_of(alloc, pairs)?, counts)))
@@ -54,7 +57,7 @@ pub fn judge_slots<S: ReadSlots>(
     let Some(pairs) = read_pairs(alloc, slots, params)? else {
         return Ok(None);
     };
-    let Some((pairs, counts)) = in_key_order(alloc, pairs)? else {
+    let Some((pairs, counts)) = in_key_order(alloc, pairs, params.version())? else {
         return Ok(None);
     };
     let layout = match build(alloc, params, &pairs) {

@@ -16,6 +16,7 @@ use crate::entry::first_entry;
 use path_keys::Path;
 use std::cmp::Ordering;
 use store_base::{Key, Value};
+use store_model::Version;
 use tree_pairs::{Kind, directory_value};
 use tree_reader::Counts;
 
@@ -77,12 +78,13 @@ fn counted(counts: Counts, kind: Kind) -> Counts
     }
 }
 
-/// What the tree holds whose pairs these are, in the order of their keys; `None` exactly where they are no tree's.
-pub fn count_tree(pairs: &[(Key, Value)]) -> Option<Counts>
+/// What the tree holds whose pairs these are under a version, in the order of their keys; `None` exactly where they are
+/// no tree's.
+pub fn count_tree(pairs: &[(Key, Value)], version: Version) -> Option<Counts>
     requires few { length pairs.now ≤ most_table_pairs }
     requires sorted { IsTrue (is_sorted paths.key_cmp pairs.now) }
-    ensures tree { (p : Parameters) → IfSome result (λ counts. (t : trees.Tree) × trees.IsTree t × (pairs.now ≡ model.pairs t p) × AreCounts t counts) }
-    ensures none { (p : Parameters) → IfNone result ((t : trees.Tree) → trees.IsTree t → pairs.now ≡ model.pairs t p → ⊥) }
+    ensures tree { (p : Parameters) → p.version ≡ version → IfSome result (λ counts. (t : trees.Tree) × trees.IsTree t × (pairs.now ≡ model.pairs t p) × AreCounts t counts) }
+    ensures none { (p : Parameters) → p.version ≡ version → IfNone result ((t : trees.Tree) → trees.IsTree t → pairs.now ≡ model.pairs t p → ⊥) }
 {
     let mut counts = Counts {
         dirs: 0,
@@ -91,7 +93,7 @@ pub fn count_tree(pairs: &[(Key, Value)]) -> Option<Counts>
     };
     let mut at = 0;
     while at < pairs.len() {
-        let entry = first_entry(&pairs[at..])?;
+        let entry = first_entry(&pairs[at..], version)?;
         if !has_parent(pairs, &entry.path) {
             return None;
         }

@@ -1,11 +1,10 @@
 -- What is found of an image, by the slots that scrubbing would leave, and what comes of it.
-use Rattle.std.proofs.Common.{◌≡◌, ◌⊎◌, ℕ, zero, suc, ◌+◌, ◌<◌, List, ◌∷◌, map, length, Result, Ok, Err, OnOk, IfErr, IsErrOf, MatchResult, refl, sym, ap, ◌∙◌, subst, inl, inr, ⊎_elim, arith}
+use Rattle.std.proofs.Common.{◌≡◌, ◌⊎◌, ℕ, zero, suc, ◌+◌, ◌<◌, List, ◌∷◌, map, length, take, Result, Ok, Err, OnOk, IfErr, IsErrOf, MatchResult, refl, sym, ap, ◌∙◌, subst, inl, inr, ⊎_elim, arith}
 use Rattle.store_model.specs.Lists.{numbers_from}
 use Rattle.store_model.specs.Parameters.{Parameters, table_at, image_len}
 use Rattle.store_model.specs.Trees.{Tree}
 use Rattle.store_model.specs.Images.{bytes_at, recovered_slot, scrubbed_block, scrubbed_slot, scrubbed, Represents}
-use Rattle.store_model.proofs.TreesLemmasBytes.{headers_same}
-use Rattle.store_model.proofs.ImagesLemmasScrubbed.{slot_of_recovered, slot_of_scrubbed, length-scrubbed, recovered-scrubbed}
+use Rattle.store_model.proofs.ImagesLemmasScrubbed.{slot_of_recovered, slot_of_scrubbed, length-scrubbed, take-recovered, take-scrubbed, recovered-scrubbed}
 use Rattle.store_base.specs.declared.fault.DiskFault.{DiskFault}
 use Rattle.store_base.specs.declared.store_fault.Fault.{Fault}
 use Rattle.store_base.specs.declared.store_fault.Fault.TheVariants.{Disk}
@@ -27,11 +26,10 @@ use Rattle.layout_conditions.proofs.LawLemmas.{layout_meets, conditions_tell}
 use Rattle.image_check.specs.ImageCalls.{ReadsDisk}
 use Rattle.image_check.specs.SlotCalls.{ChecksSlots}
 use Rattle.image_check.specs.Verdicts.{clean_of, IsSlotsVerdict, IsImageWith, HasParameters}
-use Rattle.image_check.proofs.Images.{slots_in, represents_tree, represented_layout}
+use Rattle.image_check.proofs.Images.{slots_in, one_name, represents_tree, represented_layout}
 use Rattle.scrub_free.specs.ScrubbedSlots.{scrubbed_slots}
 use Rattle.scrub_free.specs.Scrubbing.{ScrubsAs, ScrubsImage, writes_to_scrub, CountsScrub}
 use Rattle.scrub_free.specs.ScrubCalls.{ScrubsTo, ScrubsWith, IsScrubVerdict, slots_after, ChecksScrubbed, Scrubs}
-use Rattle.scrub_free.proofs.Phases.{header-scrubbed}
 
 -- ---- slots and images
 
@@ -56,10 +54,10 @@ slots_are slots image long =
 
 -- a scrubbed image names the same parameters
 image_scrubbed : (image : List ℕ) (p : Parameters) → IsImageWith image p → IsImageWith (scrubbed p.slots image) p
-image_scrubbed image p is = record {
-  names = record { in_range = is.names.in_range; header_is = header-scrubbed p.slots image is.length_is ∙ is.names.header_is };
-  length_is = length-scrubbed p.slots image is.length_is;
-}
+image_scrubbed image p is =
+    let long = length-scrubbed p.slots image is.length_is in
+    let header = sym (take-recovered p.slots (scrubbed p.slots image) long) ∙ ap (take 4096) (recovered-scrubbed p.slots image is.length_is) ∙ take-scrubbed p.slots image is.length_is ∙ is.names.header_is in
+    record { names = record { in_range = is.names.in_range; header_is = header; served = is.names.served }; length_is = long }
 
 -- an image whose scrubbed slots are the layout of a tree scrubs to it
 scrubs_to : (image : List ℕ) (t : Tree) (p : Parameters) → IsImageWith image p → HaveLayout (map scrubbed_block (slots_in p.slots image)) t p → ScrubsTo image t p
@@ -86,10 +84,6 @@ scrubbed_layout image t p is =
       layout_is = recovered-scrubbed p.slots image is.image_is.length_is ∙ is.layout_is;
     } in
     subst (λ (slots : List (List ℕ)). HaveLayout slots t p) (sym (slots_are p.slots image is.image_is.length_is)) (represented_layout whole t p represents)
-
--- an image names one set of parameters
-one_name : (image : List ℕ) (p q : Parameters) → IsImageWith image p → IsImageWith image q → q ≡ p
-one_name image p q named is = headers_same q p is.names.in_range named.names.in_range (sym is.names.header_is ∙ named.names.header_is)
 
 -- ---- a scrub behind reads alone
 

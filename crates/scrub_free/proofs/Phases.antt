@@ -1,16 +1,14 @@
 -- The phases of a scrub, each a predicate on images, and what each scrubs to.
-use Rattle.std.proofs.Common.{◌≡◌, ℕ, ◌<◌, List, ◌++◌, length, take, slice_index, false, Bool, ◌&&◌, if◌then◌else◌, sym, ap, ◌∙◌, subst, inl, inr, arith, length-take, append_assoc}
-use Rattle.std.specs.List.{flat_map}
+use Rattle.std.proofs.Common.{◌≡◌, ℕ, ◌<◌, List, length, take, slice_index, false, Bool, ◌&&◌, if◌then◌else◌, sym, ap, ◌∙◌, subst, inl, inr, arith}
 use Rattle.std.proofs.lemmas.Bool.{cases_eq}
-use Rattle.std.proofs.lemmas.List.{take_at}
-use Rattle.store_model.specs.Lists.{zeros, numbers_below}
 use Rattle.store_model.specs.Parameters.{shadow_at, table_at, image_len}
-use Rattle.store_model.specs.Images.{bytes_at, is_flag_set, is_marked, recovered_slot, recovered, scrubbed_block, scrubbed_slot, scrubbed, journal_len}
-use Rattle.store_model.proofs.ImagesLemmasScrubbed.{slot_of_scrubbed, length-scrubbed, scrubbed-recovered, recovered-scrubbed}
+use Rattle.store_model.specs.Images.{bytes_at, is_flag_set, is_marked, viewed_header, recovered_slot, recovered, scrubbed_block, scrubbed_slot, scrubbed}
+use Rattle.store_model.proofs.ImagesLemmas.{viewed_header-at_rest}
+use Rattle.store_model.proofs.ImagesLemmasScrubbed.{slot_of_scrubbed, length-scrubbed, scrubbed-recovered, take-scrubbed, recovered-scrubbed}
 use Rattle.gate_journal.specs.Places.{SameAt}
 use Rattle.gate_journal.specs.Phases.{table_slot, HasEmptyJournal}
 use Rattle.gate_journal.specs.Recovery.{RecoversAs}
-use Rattle.gate_journal.proofs.Areas.{marks_end, shadow_end, table_end}
+use Rattle.gate_journal.proofs.Areas.{marks_end, shadow_end}
 use Rattle.gate_journal.proofs.Places.{bytes_at-same}
 use Rattle.gate_journal.proofs.Phases.{same_parts, same_settled}
 use Rattle.gate_journal.proofs.Committing.{clear_flag}
@@ -40,15 +38,7 @@ clear_slot slots image i clear = ap (λ (b : Bool). scrubbed_block (bytes_at ima
 clear_journal : (slots : ℕ) (image : List ℕ) → HasEmptyJournal slots image → is_flag_set image ≡ false
 clear_journal slots image empty = clear_flag image (empty 4096 (omega arith) (omega (arith, shadow_end slots, marks_end slots)))
 
--- scrubbing keeps the header
-pub header-scrubbed : (slots : ℕ) (image : List ℕ) → length image ≡ image_len slots → take 4096 (scrubbed slots image) ≡ take 4096 image
-unfolding scrubbed
-header-scrubbed slots image long =
-    let rest = flat_map (scrubbed_slot slots image) (numbers_below slots) in
-    let front : length (take 4096 image) ≡ 4096 = omega (arith, length-take 4096 image, long, table_end slots, shadow_end slots, marks_end slots) in
-    ap (take 4096) (append_assoc (take 4096 image) (zeros (journal_len slots)) rest) ∙ take_at (take 4096 image) (zeros (journal_len slots) ++ rest) 4096 front
-
--- and empties the journal
+-- scrubbing empties the journal
 empty-scrubbed : (slots : ℕ) (image : List ℕ) → length image ≡ image_len slots → HasEmptyJournal slots (scrubbed slots image)
 empty-scrubbed slots image long = subst (HasEmptyJournal slots) (recovered-scrubbed slots image long) (empty-recovered slots (scrubbed slots image) (length-scrubbed slots image long))
 
@@ -56,8 +46,17 @@ module _ (slots : ℕ) (image : List ℕ) (long : length image ≡ image_len slo
   journal_kept : HasEmptyJournal slots other
   journal_kept place low high = same.same place (head_spared slots image place high) ∙ empty place low high
 
-  header_kept : take 4096 other ≡ take 4096 image
-  header_kept = bytes_at-same (OutsideFree slots image) 0 4096 image other (λ place low high. head_spared slots image place (omega (arith, shadow_end slots, marks_end slots))) same
+  is_clear : is_flag_set image ≡ false
+  is_clear = clear_journal slots image empty
+
+  other_clear : is_flag_set other ≡ false
+  other_clear = clear_journal slots other journal_kept
+
+  -- both headers are read as they stand
+  header_kept : take 4096 other ≡ viewed_header slots image
+  header_kept =
+      bytes_at-same (OutsideFree slots image) 0 4096 image other (λ place low high. head_spared slots image place (omega (arith, shadow_end slots, marks_end slots))) same
+      ∙ sym (viewed_header-at_rest slots image is_clear)
 
   slot_alike : (i : ℕ) → i < slots → scrubbed_block (table_slot slots other i) ≡ scrubbed_block (table_slot slots image i)
   slot_alike i below = elim (cases_eq (slice_index image (table_at slots i)) 0) [
@@ -71,15 +70,15 @@ module _ (slots : ℕ) (image : List ℕ) (long : length image ≡ image_len slo
   pub while_zeroed : scrubbed slots other ≡ scrubbed slots image
   unfolding scrubbed
   while_zeroed =
-      same_parts slots (take 4096 other) (take 4096 image) (scrubbed_slot slots other) (scrubbed_slot slots image) header_kept
-      λ i below. clear_slot slots other i (clear_journal slots other journal_kept) ∙ slot_alike i below ∙ sym (clear_slot slots image i (clear_journal slots image empty))
+      same_parts slots (viewed_header slots other) (viewed_header slots image) (scrubbed_slot slots other) (scrubbed_slot slots image) (viewed_header-at_rest slots other other_clear ∙ header_kept)
+      λ i below. clear_slot slots other i other_clear ∙ slot_alike i below ∙ sym (clear_slot slots image i is_clear)
 
   -- when all are zero
   pub when_zeroed : AreScrubbed slots slots image other → other ≡ scrubbed slots image
   when_zeroed are =
       same_settled slots (scrubbed slots image) other (length-scrubbed slots image long) (same.same_length ∙ long) (empty-scrubbed slots image long) journal_kept (record {
-        header = header_kept ∙ sym (header-scrubbed slots image long);
-        table = λ i below. are.scrubbed i below ∙ sym (clear_slot slots image i (clear_journal slots image empty)) ∙ sym (slot_of_scrubbed slots image i long below);
+        header = header_kept ∙ sym (take-scrubbed slots image long);
+        table = λ i below. are.scrubbed i below ∙ sym (clear_slot slots image i is_clear) ∙ sym (slot_of_scrubbed slots image i long below);
       })
 
 -- the one law: an image in any phase scrubs to the same as the old one

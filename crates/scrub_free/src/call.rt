@@ -39,10 +39,10 @@ fn answer_of(scrubbed: Result<(), DiskFault>, verdict: Verdict) -> Result<Verdic
 /// Makes an image what scrubbing leaves of it, where that is the layout of a tree: recovers its journal, and makes each
 /// free slot of the table zero (its byte 0 is 0 already). The disk is handed back.
 ///
-/// `NotImage` is the answer to a disk that does not start with the header of some image of its length, and to no other;
-/// `Damaged` that to any other disk of which scrubbing would leave the layout of no tree. Then nothing was written.
-/// `Clean` comes with what that tree holds, and then the disk is durable and reads its layout; no slot is written that
-/// is clean.
+/// `NotImage` is the answer to a disk whose header, as recovery would leave it, is that of no image of its length, and
+/// to no other; `Damaged` that to any other disk of which scrubbing would leave the layout of no tree. Then nothing was
+/// written. `Clean` comes with what that tree holds, and then the disk is durable and reads its layout; no slot is
+/// written that is clean.
 ///
 /// `Fault::Disk` comes only where the disk failed, and `Fault::NoMemory` never: it takes no memory. Each image that a
 /// crash at any moment of the call may leave is one that a crash before it might have left, or scrubs to the same, and

@@ -1,5 +1,5 @@
 -- The pairs of a tree at the front of others: its entries are the first ones of any tree whose pairs begin so.
-use Rattle.std.proofs.Common.{◌≡◌, ℕ, List, [], ◌∷◌, ◌++◌, length, IsTrue, refl, sym, ap, ◌∙◌}
+use Rattle.std.proofs.Common.{◌≡◌, ℕ, List, [], ◌∷◌, ◌++◌, length, Bool, true, false, IsTrue, refl, sym, ap, subst, ◌∙◌}
 use Rattle.std.specs.List.{AllByRecursion, enumerate_from}
 use Rattle.std.proofs.lemmas.Grind.{flat_map-append}
 use Rattle.std.proofs.lemmas.List.{append-nil, append_assoc, length-map}
@@ -7,27 +7,47 @@ use Rattle.std.proofs.lemmas.List.FromFn.{length-enumerate_from}
 use Rattle.store_model.specs.Lists.{run_count, runs}
 use Rattle.store_model.specs.Parameters.{Parameters}
 use Rattle.store_model.specs.Paths.{Path, is_path, key}
-use Rattle.store_model.specs.Pairs.{Pair, file_block, node_pairs, pairs}
+use Rattle.store_model.specs.Pairs.{Pair, file_block, directory_value, is_inline, file_pairs, node_pairs, pairs}
 use Rattle.store_model.specs.Trees.{Tree, Node, IsNode, IsEntry, IsTree}
 use Rattle.store_model.specs.Trees.Node.{Directory, File}
 use Rattle.store_model.proofs.ListsLemmas.{all_weaker, length-runs}
 use Rattle.store_model.proofs.TreesLemmasBytes.{heads_same, tails_same}
 use Rattle.store_model.proofs.TreesLemmasLayouts.{pair_parts, nodes_same, some_pair}
-use Rattle.tree_pairs.specs.Kinds.{kind_of, value_of, IsKind}
+use Rattle.tree_pairs.specs.Kinds.{kind_of, IsKind, IsValueOf, file_first}
+use Rattle.tree_pairs.proofs.KindLemmas.{value_of_node}
 use Rattle.tree_reader.specs.Fronts.{block_pairs}
 
 -- ---- the pairs of what stands at a path
 
+-- the pairs behind a file's first pair
+abbrev behind_first : Bool → Path → List ℕ → List Pair
+behind_first true path bytes = []
+behind_first false path bytes = block_pairs path bytes
+
+first_of_file : (inline : Bool) (path : Path) (bytes : List ℕ) → file_pairs inline path bytes ≡ (key path 0, file_first inline bytes) ∷ behind_first inline path bytes
+first_of_file true path bytes = refl
+first_of_file false path bytes = refl
+
 -- the first pair of what stands at a path, and those behind it
 pub record HasFirst (path : Path) (node : Node) (p : Parameters) : Type 0 where
+  pub value : List ℕ
+  pub value_is : IsValueOf p.version (kind_of node) value
   pub behind : List Pair
-  pub pairs_are : node_pairs path node p ≡ (key path 0, value_of (kind_of node)) ∷ behind
+  pub pairs_are : node_pairs path node p ≡ (key path 0, value) ∷ behind
   pub kind_is : IsKind (kind_of node)
 
 pub first_of_node : (path : Path) (node : Node) (p : Parameters) → IsNode node → HasFirst path node p
 unfolding node_pairs
-first_of_node path Directory p is = record { behind = []; pairs_are = refl; kind_is = tt }
-first_of_node path (File bytes) p is = record { behind = block_pairs path bytes; pairs_are = refl; kind_is = is.0 }
+first_of_node path Directory p is = record { value = directory_value; value_is = refl; behind = []; pairs_are = refl; kind_is = tt }
+first_of_node path (File bytes) p is =
+    let inline = is_inline p.version (length bytes) in
+    record {
+      value = file_first inline bytes;
+      value_is = value_of_node (File bytes) p.version (file_first inline bytes) refl;
+      behind = behind_first inline path bytes;
+      pairs_are = first_of_file inline path bytes;
+      kind_is = is.0;
+    }
 
 -- how many blocks there are
 pub length-block_pairs : (x : Path) (bytes : List ℕ) → length (block_pairs x bytes) ≡ run_count file_block (length bytes)
@@ -77,10 +97,10 @@ pub record HasNext (t others : Tree) (pair : Pair) (rest : List Pair) (p : Param
   pub entries_are : others ≡ (path, node) ∷ later
   pub is_entry : IsEntry t (path, node)
   pub behind : List Pair
-  pub node_pairs_are : node_pairs path node p ≡ (key path 0, value_of (kind_of node)) ∷ behind
+  pub node_pairs_are : node_pairs path node p ≡ (key path 0, pair.1) ∷ behind
   pub kind_is : IsKind (kind_of node)
   pub key_is : pair.0 ≡ key path 0
-  pub value_is : pair.1 ≡ value_of (kind_of node)
+  pub value_is : IsValueOf p.version (kind_of node) pair.1
   pub rest_is : behind ++ pairs later p ≡ rest
 
 pub next_of_pair : (t others : Tree) (pair : Pair) (rest : List Pair) (p : Parameters) → AllByRecursion (IsEntry t) others → pairs others p ≡ pair ∷ rest → HasNext t others pair rest p
@@ -88,7 +108,7 @@ unfolding pairs
 next_of_pair t [] pair rest p entries e = cc
 next_of_pair t (f ∷ later) pair rest p entries e =
     let first = first_of_node f.0 f.1 p (entries.0).node in
-    let whole : (key f.0 0, value_of (kind_of f.1)) ∷ (first.behind ++ pairs later p) ≡ pair ∷ rest = sym (ap (λ (front : List Pair). front ++ pairs later p) first.pairs_are) ∙ e in
+    let whole : (key f.0 0, first.value) ∷ (first.behind ++ pairs later p) ≡ pair ∷ rest = sym (ap (λ (front : List Pair). front ++ pairs later p) first.pairs_are) ∙ e in
     let parts = pair_parts (sym (heads_same whole)) in
     record {
       path = f.0;
@@ -97,9 +117,9 @@ next_of_pair t (f ∷ later) pair rest p entries e =
       entries_are = refl;
       is_entry = entries.0;
       behind = first.behind;
-      node_pairs_are = first.pairs_are;
+      node_pairs_are = first.pairs_are ∙ ap (λ (v : List ℕ). (key f.0 0, v) ∷ first.behind) (sym parts.1);
       kind_is = first.kind_is;
       key_is = parts.0;
-      value_is = parts.1;
+      value_is = subst (IsValueOf p.version (kind_of f.1)) (sym parts.1) first.value_is;
       rest_is = tails_same whole;
     }

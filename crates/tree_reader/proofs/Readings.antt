@@ -1,26 +1,27 @@
 -- What a reader has seen, from pair to pair.
-use Rattle.std.proofs.Common.{◌≡◌, ℕ, zero, suc, ◌+◌, ◌-◌, ◌*◌, ◌/◌, ◌<◌, ◌≤◌, min, List, [], ◌∷◌, ◌++◌, length, Bool, true, false, inl, inr, nat_lt, ltb-true, ltb-false, refl, sym, ap, ap₂, subst, ◌∙◌, arith}
+use Rattle.std.proofs.Common.{◌≡◌, ℕ, zero, suc, ◌+◌, ◌-◌, ◌*◌, ◌/◌, ◌<◌, ◌≤◌, min, List, [], ◌∷◌, ◌++◌, length, Bool, true, false, cond, inl, inr, nat_lt, ltb-true, ltb-false, refl, sym, ap, ap₂, subst, ◌∙◌, arith}
 use Rattle.std.specs.List.{AllByRecursion}
 use Rattle.std.proofs.lemmas.List.{append-nil, append_assoc, length-append, length-replicate}
+use Rattle.store_model.specs.declared.version.Version.{Version}
 use Rattle.store_model.specs.Lists.{IsBytes, zeros, run_count}
 use Rattle.store_model.specs.Parameters.{Parameters}
 use Rattle.store_model.specs.Paths.{Path, key}
-use Rattle.store_model.specs.Pairs.{Pair, file_block, file_value, node_pairs, pairs}
+use Rattle.store_model.specs.Pairs.{Pair, file_block, file_value, inline_value, is_inline, file_pairs, node_pairs, pairs}
 use Rattle.store_model.specs.Trees.{Tree, Node, file_limit, IsNode, IsEntry, IsTree, node_at}
 use Rattle.store_model.specs.Trees.Node.{Directory, File}
 use Rattle.store_model.proofs.ListsLemmas.{all_append, all_back, all_replicate, all_from_bytes, bytes_from_all}
 use Rattle.store_model.proofs.TreesLemmasBytes.{heads_same, tails_same, four_bytes_same}
 use Rattle.store_model.proofs.TreesLemmasFits.{IsTree-empty}
-use Rattle.store_model.proofs.TreesLemmasLayouts.{keys_tell_paths, pairs_tell_trees}
+use Rattle.store_model.proofs.TreesLemmasLayouts.{keys_tell_paths, pair_parts, pairs_tell_trees}
 use Rattle.tree_pairs.specs.declared.kind.Kind.{Kind}
 use Rattle.tree_pairs.specs.declared.kind.Kind.TheVariants as kinds
-use Rattle.tree_pairs.specs.Kinds.{kind_of, kind_of_node, value_of}
+use Rattle.tree_pairs.specs.Kinds.{kind_of, kind_of_node, IsFileValue, IsValueOf}
 use Rattle.tree_pairs.specs.TreeCalls.{pairs_limit}
 use Rattle.tree_reader.specs.declared.counts.Counts.{Counts}
 use Rattle.tree_reader.specs.declared.reader.TreeReader.{TreeReader}
 use Rattle.tree_reader.specs.Counts.{AreCounts, CountsMore}
 use Rattle.tree_reader.specs.Fronts.{AreOfTree, BeginTree, IsFirst, block_pairs}
-use Rattle.tree_reader.specs.Seen.{IsLast, MayFollow, IsNextBlock, size_of, IsBetweenEntries, IsInFile, HasSeen}
+use Rattle.tree_reader.specs.Seen.{IsLast, MayFollow, IsNextBlock, size_of, size_in_first, IsBetweenEntries, IsInFile, HasSeen}
 use Rattle.tree_reader.proofs.BlockLemmas.{pairs_behind, blocks-append, blocks_more, no_blocks, block_is}
 use Rattle.tree_reader.proofs.CountLemmas.{counts_more, in_range}
 use Rattle.tree_reader.proofs.FrontLemmas.{length-block_pairs, pairs_more, tree_first, next_of_pair}
@@ -29,9 +30,11 @@ use Rattle.tree_reader.proofs.NextLemmas.{tree_more, last_more, next_stands, nex
 -- ---- where a reader stands
 
 -- nothing was seen
-pub seen_none : (path : Path) (p : Parameters) → path ≡ [] → HasSeen (record { last = record { path = path; kind = kinds.Directory }; read = 0; counts = record { dirs = 0; files = 0; bytes = 0 } }) [] p
+pub seen_none : (path : Path) (version : Version) (p : Parameters) → path ≡ [] → p.version ≡ version
+    → HasSeen (record { version = version; last = record { path = path; kind = kinds.Directory }; read = 0; counts = record { dirs = 0; files = 0; bytes = 0 } }) [] p
 unfolding pairs HasSeen
-seen_none path p root = inl (record {
+seen_none path version p root version_is = inl (record {
+  version_is = version_is;
   tree = [];
   is_tree = IsTree-empty;
   pairs_are = refl;
@@ -51,10 +54,11 @@ unfolding HasSeen
 in_file reader s p len (inl is) kind_is more = absurd (omega (arith, ap size_of kind_is, is.whole, more))
 in_file reader s p len (inr is) kind_is more = (is, ap size_of (sym is.kind_is ∙ kind_is))
 
--- the pairs of a file, the first of which says so many bytes
-file_pairs : (path : Path) (content : List ℕ) (len : ℕ) (p : Parameters) → length content ≡ len → node_pairs path (File content) p ≡ (key path 0, file_value len) ∷ block_pairs path content
+-- the pairs of a file of so many bytes that stand in blocks
+pairs_in_blocks : (path : Path) (content : List ℕ) (len : ℕ) (p : Parameters) → length content ≡ len → is_inline p.version len ≡ false → node_pairs path (File content) p ≡ (key path 0, file_value len) ∷ block_pairs path content
 unfolding node_pairs
-file_pairs path content len p long = ap (λ n. (key path 0, file_value n) ∷ block_pairs path content) long
+pairs_in_blocks path content len p long in_blocks =
+    ap (λ inline. file_pairs inline path content) (ap (is_inline p.version) long ∙ in_blocks) ∙ ap (λ n. (key path 0, file_value n) ∷ block_pairs path content) long
 
 -- some tree's pairs begin with those that were seen: a file that is not whole may go on with zeros
 pub seen_begins : (reader : TreeReader) (s : List Pair) (p : Parameters) → HasSeen reader s p → BeginTree s p
@@ -72,20 +76,25 @@ seen_begins reader s p (inr is) =
       is_tree = tree_more is.before reader.last.path (File content) is.is_tree is.next (omega (arith, long, is.short), valid);
       rest = behind;
       pairs_are = pairs_more is.before reader.last.path (File content) p
-          ∙ ap (λ (own : List Pair). pairs is.before p ++ own) (file_pairs reader.last.path content is.len p long ∙ ap (λ (blocks : List Pair). first ∷ blocks) (blocks-append reader.last.path is.blocks is.bytes unread (is.read_is ∙ is.full)))
+          ∙ ap (λ (own : List Pair). pairs is.before p ++ own) (pairs_in_blocks reader.last.path content is.len p long is.in_blocks ∙ ap (λ (blocks : List Pair). first ∷ blocks) (blocks-append reader.last.path is.blocks is.bytes unread (is.read_is ∙ is.full)))
           ∙ sym (append_assoc (pairs is.before p) (first ∷ block_pairs reader.last.path is.bytes) behind)
           ∙ ap (λ (front : List Pair). front ++ behind) (sym is.pairs_are);
     }
 
 -- ---- a first pair
 
--- a first pair that may stand next is seen
-pub first_taken : (old : TreeReader) (s : List Pair) (p : Parameters) (path : Path) (kind : Kind) (key_bytes value : List ℕ) (counts : Counts) → IsBetweenEntries old s p → IsFirst path kind key_bytes value → MayFollow old.last.path old.last.kind path → CountsMore old.counts kind counts
-    → HasSeen (record { last = record { path = path; kind = kind }; read = 0; counts = counts }) (s ++ (key_bytes, value) ∷ []) p
+-- a reader that has come to the first pair of a path
+abbrev at_first : TreeReader → Path → Kind → ℕ → Counts → TreeReader
+at_first old path kind read counts = record old { last = record { path = path; kind = kind }; read = read; counts = counts }
+
+-- the first pair of a directory is seen
+directory_taken : (old : TreeReader) (s : List Pair) (p : Parameters) (path : Path) (key_bytes value : List ℕ) (counts : Counts) → IsBetweenEntries old s p → IsFirst old.version path kinds.Directory key_bytes value → MayFollow old.last.path old.last.kind path → CountsMore old.counts kinds.Directory counts
+    → HasSeen (at_first old path kinds.Directory 0 counts) (s ++ (key_bytes, value) ∷ []) p
 unfolding node_pairs HasSeen
-first_taken old s p path kinds.Directory key_bytes value counts is first follows more =
+directory_taken old s p path key_bytes value counts is first follows more =
     let next = next_from_last is.tree old.last.path old.last.kind path is.is_tree is.last first.path_is first.below_root follows in
     inl (record {
+      version_is = is.version_is;
       tree = is.tree ++ (path, Directory) ∷ [];
       is_tree = tree_more is.tree path Directory is.is_tree next tt;
       pairs_are = ap₂ (λ (front : List Pair) (pair : Pair). front ++ pair ∷ []) is.pairs_are (λ i. (first.key_is i, first.value_is i)) ∙ sym (pairs_more is.tree path Directory p);
@@ -93,25 +102,60 @@ first_taken old s p path kinds.Directory key_bytes value counts is first follows
       whole = omega arith;
       counts_are = counts_more is.tree path Directory old.counts counts is.counts_are more;
     })
-first_taken old s p path (kinds.File zero) key_bytes value counts is first follows more =
+
+-- the bytes of a file in its first pair
+pub inline_bytes : (bytes value : List ℕ) → value ≡ inline_value bytes → IsBytes value → IsBytes bytes
+inline_bytes bytes value value_is valid = bytes_from_all bytes (all_from_bytes (inline_value bytes) (subst IsBytes value_is valid)).1
+
+-- the one pair of a file that stands in it is seen, with all its bytes
+inline_taken : (old : TreeReader) (s : List Pair) (p : Parameters) (path : Path) (len : ℕ) (key_bytes value : List ℕ) (counts : Counts) → IsBetweenEntries old s p → IsFirst old.version path (kinds.File len) key_bytes value → is_inline p.version len ≡ true → IsFileValue true len value → IsBytes value
+    → MayFollow old.last.path old.last.kind path → CountsMore old.counts (kinds.File len) counts → HasSeen (at_first old path (kinds.File len) len counts) (s ++ (key_bytes, value) ∷ []) p
+unfolding node_pairs HasSeen
+inline_taken old s p path len key_bytes value counts is first inline says valid follows more =
+    let content = says.0 in
+    let long = says.1 in
+    let next = next_from_last is.tree old.last.path old.last.kind path is.is_tree is.last first.path_is first.below_root follows in
+    let own : node_pairs path (File content) p ≡ (key path 0, inline_value content) ∷ [] = ap (λ form. file_pairs form path content) (ap (is_inline p.version) long ∙ inline) in
+    let short : len ≤ file_limit = first.kind_is in
+    inl (record {
+      version_is = is.version_is;
+      tree = is.tree ++ (path, File content) ∷ [];
+      is_tree = tree_more is.tree path (File content) is.is_tree next (omega (arith, long, short), inline_bytes content value says.2 valid);
+      pairs_are = ap₂ (λ (front : List Pair) (pair : Pair). front ++ pair ∷ []) is.pairs_are (λ i. (first.key_is i, says.2 i))
+          ∙ ap (λ (pairs_at : List Pair). pairs is.tree p ++ pairs_at) (sym own)
+          ∙ sym (pairs_more is.tree path (File content) p);
+      last = subst (λ n. IsLast path (kinds.File n) (is.tree ++ (path, File content) ∷ [])) long (last_more is.tree path (File content) next);
+      whole = omega arith;
+      counts_are = counts_more is.tree path (File content) old.counts counts is.counts_are (subst (λ n. CountsMore old.counts (kinds.File n) counts) (sym long) more);
+    })
+
+-- the first pair of a file is seen whose bytes are still to come
+blocks_begun : (old : TreeReader) (s : List Pair) (p : Parameters) (path : Path) (len : ℕ) (key_bytes value : List ℕ) (counts : Counts) → IsBetweenEntries old s p → IsFirst old.version path (kinds.File len) key_bytes value → is_inline p.version len ≡ false → IsFileValue false len value
+    → MayFollow old.last.path old.last.kind path → CountsMore old.counts (kinds.File len) counts → HasSeen (at_first old path (kinds.File len) 0 counts) (s ++ (key_bytes, value) ∷ []) p
+unfolding HasSeen
+blocks_begun old s p path zero key_bytes value counts is first in_blocks says follows more =
     let next = next_from_last is.tree old.last.path old.last.kind path is.is_tree is.last first.path_is first.below_root follows in
     inl (record {
+      version_is = is.version_is;
       tree = is.tree ++ (path, File []) ∷ [];
       is_tree = tree_more is.tree path (File []) is.is_tree next (omega arith, bytes_from_all [] tt);
-      pairs_are = ap₂ (λ (front : List Pair) (pair : Pair). front ++ pair ∷ []) is.pairs_are (λ i. (first.key_is i, first.value_is i))
+      pairs_are = ap₂ (λ (front : List Pair) (pair : Pair). front ++ pair ∷ []) is.pairs_are (λ i. (first.key_is i, says i))
           ∙ ap (λ (blocks : List Pair). pairs is.tree p ++ (key path 0, file_value 0) ∷ blocks) (sym (no_blocks path))
+          ∙ ap (λ (own : List Pair). pairs is.tree p ++ own) (sym (pairs_in_blocks path [] 0 p refl in_blocks))
           ∙ sym (pairs_more is.tree path (File []) p);
       last = last_more is.tree path (File []) next;
       whole = omega arith;
       counts_are = counts_more is.tree path (File []) old.counts counts is.counts_are more;
     })
-first_taken old s p path (kinds.File (suc n)) key_bytes value counts is first follows more =
+blocks_begun old s p path (suc n) key_bytes value counts is first in_blocks says follows more =
     inr (record {
+      version_is = is.version_is;
       before = is.tree;
       is_tree = is.is_tree;
       next = next_from_last is.tree old.last.path old.last.kind path is.is_tree is.last first.path_is first.below_root follows;
       len = suc n;
       kind_is = refl;
+      in_blocks = in_blocks;
       short = first.kind_is;
       bytes = [];
       valid = bytes_from_all [] tt;
@@ -119,16 +163,26 @@ first_taken old s p path (kinds.File (suc n)) key_bytes value counts is first fo
       more = omega arith;
       blocks = 0;
       full = omega arith;
-      pairs_are = ap₂ (λ (front : List Pair) (pair : Pair). front ++ pair ∷ []) is.pairs_are (λ i. (first.key_is i, first.value_is i))
+      pairs_are = ap₂ (λ (front : List Pair) (pair : Pair). front ++ pair ∷ []) is.pairs_are (λ i. (first.key_is i, says i))
           ∙ ap (λ (blocks : List Pair). pairs is.tree p ++ (key path 0, file_value (suc n)) ∷ blocks) (sym (no_blocks path));
       counts_are = λ content long. counts_more is.tree path (File content) old.counts counts is.counts_are (subst (λ m. CountsMore old.counts (kinds.File m) counts) (sym long) more);
     })
+
+-- a first pair that may stand next is seen
+pub first_taken : (old : TreeReader) (s : List Pair) (p : Parameters) (path : Path) (kind : Kind) (key_bytes value : List ℕ) (counts : Counts) → IsBetweenEntries old s p → IsFirst old.version path kind key_bytes value → IsBytes value → MayFollow old.last.path old.last.kind path → CountsMore old.counts kind counts
+    → HasSeen (at_first old path kind (size_in_first old.version kind) counts) (s ++ (key_bytes, value) ∷ []) p
+first_taken old s p path kinds.Directory key_bytes value counts is first valid follows more = directory_taken old s p path key_bytes value counts is first follows more
+first_taken old s p path (kinds.File len) key_bytes value counts is first valid follows more = by_form (is_inline old.version len) (ap (λ version. is_inline version len) is.version_is) first.value_is
+  where
+    by_form : (inline : Bool) → is_inline p.version len ≡ inline → IsFileValue inline len value → HasSeen (at_first old path (kinds.File len) (cond inline len 0) counts) (s ++ (key_bytes, value) ∷ []) p
+    by_form true inline says = inline_taken old s p path len key_bytes value counts is first inline says valid follows more
+    by_form false in_blocks says = blocks_begun old s p path len key_bytes value counts is first in_blocks says follows more
 
 -- what the next pair of a tree is
 pub record IsNextFirst (old : TreeReader) (key_bytes value : List ℕ) : Type 0 where
   pub path : Path
   pub kind : Kind
-  pub first : IsFirst path kind key_bytes value
+  pub first : IsFirst old.version path kind key_bytes value
   pub follows : MayFollow old.last.path old.last.kind path
 
 -- behind whole entries each tree goes on with a first pair that may stand next
@@ -144,7 +198,7 @@ first_told old s p key_bytes value is begins =
     record {
       path = next.path;
       kind = kind_of next.node;
-      first = record { path_is = next.is_entry.path; below_root = next.is_entry.below_root; kind_is = next.kind_is; key_is = next.key_is; value_is = next.value_is };
+      first = record { path_is = next.is_entry.path; below_root = next.is_entry.below_root; kind_is = next.kind_is; key_is = next.key_is; value_is = subst (λ version. IsValueOf version (kind_of next.node) value) is.version_is next.value_is };
       follows = last_from_next is.tree old.last.path old.last.kind next.path is.last may;
     }
 
@@ -183,11 +237,13 @@ block_inside : (old : TreeReader) (s : List Pair) (p : Parameters) (key_bytes va
 unfolding HasSeen
 block_inside old s p key_bytes value is next valid more =
     inr (record {
+      version_is = is.version_is;
       before = is.before;
       is_tree = is.is_tree;
       next = is.next;
       len = is.len;
       kind_is = is.kind_is;
+      in_blocks = is.in_blocks;
       short = is.short;
       bytes = is.bytes ++ value;
       valid = more_bytes is.bytes value is.valid valid;
@@ -209,9 +265,10 @@ block_last old s p key_bytes value is next valid whole =
     let long : length content ≡ is.len = omega (arith, length-append is.bytes value, is.read_is, next.1, whole, before) in
     let kind_is : kind_of (File content) ≡ old.last.kind = ap kinds.File long ∙ sym is.kind_is in
     inl (record {
+      version_is = is.version_is;
       tree = is.before ++ (old.last.path, File content) ∷ [];
       is_tree = tree_more is.before old.last.path (File content) is.is_tree is.next (omega (arith, long, is.short), more_bytes is.bytes value is.valid valid);
-      pairs_are = one_block_more old s p key_bytes value is next ∙ ap (λ (own : List Pair). pairs is.before p ++ own) (sym (file_pairs old.last.path content is.len p long))
+      pairs_are = one_block_more old s p key_bytes value is next ∙ ap (λ (own : List Pair). pairs is.before p ++ own) (sym (pairs_in_blocks old.last.path content is.len p long is.in_blocks))
           ∙ sym (pairs_more is.before old.last.path (File content) p);
       last = subst (λ (kind : Kind). IsLast old.last.path kind (is.before ++ (old.last.path, File content) ∷ [])) kind_is (last_more is.before old.last.path (File content) is.next);
       whole = omega (arith, ap size_of is.kind_is, whole);
@@ -234,14 +291,17 @@ pub record HasContent (reader : TreeReader) (len : ℕ) (bytes : List ℕ) (rest
   pub later : List Pair
   pub blocks_are : block_pairs reader.last.path content ++ later ≡ block_pairs reader.last.path bytes ++ rest
 
--- what stands at a path whose first value is a file's
-content_from_value : (path : Path) (node : Node) (len : ℕ) (p : Parameters) (behind : List Pair) → IsNode node → len ≤ file_limit → file_value len ≡ value_of (kind_of node) → node_pairs path node p ≡ (key path 0, value_of (kind_of node)) ∷ behind
-    → (content : List ℕ) × (length content ≡ len) × (block_pairs path content ≡ behind)
+-- what stands at a path whose first value is that of a file in blocks
+content_from_value : (path : Path) (node : Node) (len : ℕ) (p : Parameters) (behind : List Pair) → IsNode node → len ≤ file_limit → node_pairs path node p ≡ (key path 0, file_value len) ∷ behind → (content : List ℕ) × (length content ≡ len) × (block_pairs path content ≡ behind)
 unfolding node_pairs
-content_from_value path Directory len p behind is short value_is pairs_are = let first : ◌≡◌ {A = ℕ} 2 1 = heads_same value_is in absurd (omega arith)
-content_from_value path (File content) len p behind is short value_is pairs_are =
-    let size : length content ≤ file_limit = is.0 in
-    (content, sym (four_bytes_same len (length content) (omega arith) (omega arith) (tails_same value_is)), tails_same pairs_are)
+content_from_value path Directory len p behind is short pairs_are = let first : ◌≡◌ {A = ℕ} 1 2 = heads_same (pair_parts (heads_same pairs_are)).1 in absurd (omega arith)
+content_from_value path (File content) len p behind is short pairs_are = by_form (is_inline p.version (length content)) pairs_are
+  where
+    by_form : (inline : Bool) → file_pairs inline path content ≡ (key path 0, file_value len) ∷ behind → (content : List ℕ) × (length content ≡ len) × (block_pairs path content ≡ behind)
+    by_form true pairs_are = let first : ◌≡◌ {A = ℕ} 3 2 = heads_same (pair_parts (heads_same pairs_are)).1 in absurd (omega arith)
+    by_form false pairs_are =
+        let size : length content ≤ file_limit = is.0 in
+        (content, four_bytes_same (length content) len (omega arith) (omega arith) (tails_same (pair_parts (heads_same pairs_are)).1), tails_same pairs_are)
 
 -- the blocks of a file at an equal path, in front of other pairs
 blocks_of_same : (x y : Path) (content : List ℕ) (behind later rest : List Pair) → x ≡ y → block_pairs y content ≡ behind → behind ++ later ≡ rest → block_pairs x content ++ later ≡ rest
@@ -256,7 +316,7 @@ content_told reader s p is u rest tree e =
     let entries = all_back (IsEntry u) is.before front.others (subst (AllByRecursion (IsEntry u)) front.entries_are tree.entries) in
     let next = next_of_pair u front.others first (blocks ++ rest) p entries front.pairs_are in
     let same : reader.last.path ≡ next.path = keys_tell_paths reader.last.path next.path is.next.valid next.is_entry.path next.key_is in
-    let found = content_from_value next.path next.node is.len p next.behind next.is_entry.node is.short next.value_is next.node_pairs_are in
+    let found = content_from_value next.path next.node is.len p next.behind next.is_entry.node is.short next.node_pairs_are in
     record {
       content = found.0;
       long = found.1;

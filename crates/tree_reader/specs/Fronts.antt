@@ -2,12 +2,13 @@
 use Rattle.std.specs.Prelude.{◌≡◌, ℕ, IsTrue, List, ◌++◌, map, false}
 use Rattle.std.specs.List.{enumerate_from}
 use Rattle.store_model.specs.Lists.{runs}
+use Rattle.store_model.specs.declared.version.Version.{Version}
 use Rattle.store_model.specs.Parameters.{Parameters}
 use Rattle.store_model.specs.Paths.{Path, is_path, is_root, key}
 use Rattle.store_model.specs.Pairs.{Pair, file_block, pairs}
 use Rattle.store_model.specs.Trees.{Tree, IsTree}
 use Rattle.tree_pairs.specs.declared.kind.Kind.{Kind}
-use Rattle.tree_pairs.specs.Kinds.{value_of, IsKind}
+use Rattle.tree_pairs.specs.Kinds.{IsKind, IsValueOf}
 
 -- the pairs are those of a tree
 pub record AreOfTree (s : List Pair) (p : Parameters) : Type 0 where
@@ -22,13 +23,13 @@ pub record BeginTree (s : List Pair) (p : Parameters) : Type 0 where
   pub rest : List Pair
   pub pairs_are : pairs tree p ≡ s ++ rest
 
--- the key and the value are those of the first pair of a path
-pub record IsFirst (path : Path) (kind : Kind) (key_bytes value : List ℕ) : Type 0 where
+-- the key and the value are those of the first pair of a path under a version
+pub record IsFirst (version : Version) (path : Path) (kind : Kind) (key_bytes value : List ℕ) : Type 0 where
   pub path_is : IsTrue (is_path path)
   pub below_root : is_root path ≡ false
   pub kind_is : IsKind kind
   pub key_is : key_bytes ≡ key path 0
-  pub value_is : value ≡ value_of kind
+  pub value_is : IsValueOf version kind value
 
 -- the pairs of the blocks of a file
 abbrev pub block_pairs : Path → List ℕ → List Pair

@@ -11,14 +11,15 @@ use Rattle.tree_reader.specs.Counts.{AreCounts}
 use Rattle.tree_reader.specs.Fronts.{AreOfTree, BeginTree}
 use Rattle.tree_reader.specs.Seen.{HasSeen}
 
--- A pair behind those that a reader has seen. It is taken where some tree's pairs begin so, and just there; but behind
--- more pairs than any list has, it may be refused.
+-- A pair behind those that a reader has seen. It is taken where some tree's pairs begin so under the reader's version,
+-- and just there; but behind more pairs than any list has, it may be refused.
 pub record AddsPair (old new : TreeReader) (pair : Pair) (result : Bool) : Type 0 where
   pub seen : (s : List Pair) (p : Parameters) → HasSeen old s p → OnTrue result (HasSeen new (s ++ pair ∷ []) p)
   pub begins : (s : List Pair) (p : Parameters) → HasSeen old s p → OnTrue result (BeginTree (s ++ pair ∷ []) p)
   pub refused : (s : List Pair) (p : Parameters) → HasSeen old s p → length s < pairs_limit
       → OnFalse result (BeginTree (s ++ pair ∷ []) p → ⊥)
   pub unchanged : OnFalse result (new ≡ old)
+  pub version : new.version ≡ old.version
 
 -- whether the pairs that a reader has seen are those of a tree
 abbrev pub TellsWhole : TreeReader → Bool → Type 0

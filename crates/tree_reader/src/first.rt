@@ -3,10 +3,12 @@
 ghost use Rattle.std.specs.Prelude.{◌≡◌, IfSome, Some};
 ghost use Rattle.store_model.specs.Paths as paths;
 ghost use Rattle.tree_reader.specs.Fronts.{IsFirst};
+ghost use Rattle.tree_reader.specs.Seen as seen;
 
 use path_keys::Path;
 use store_base::Key;
-use tree_pairs::{Kind, kind_in};
+use store_model::Version;
+use tree_pairs::{Kind, is_inline, kind_under};
 
 /// A path, and what stands there.
 #[derive(Clone, Copy, Debug)]
@@ -17,17 +19,27 @@ pub struct Entry {
     pub kind: Kind,
 }
 
-/// The entry that a first pair names; `None` exactly where it is no path's first pair.
-pub fn first_in(key: &Key, value: &[u8]) -> Option<Entry>
-    ensures found { IfSome result (λ entry. IsFirst entry.path entry.kind key.now value.now) }
-    ensures only { (path : paths.Path) (kind : Kind) → IsFirst path kind key.now value.now
+/// The entry that a first pair names; `None` exactly where it is no path's first pair under the version.
+pub fn first_in(key: &Key, value: &[u8], version: Version) -> Option<Entry>
+    ensures found { IfSome result (λ entry. IsFirst version entry.path entry.kind key.now value.now) }
+    ensures only { (path : paths.Path) (kind : Kind) → IsFirst version path kind key.now value.now
         → result ≡ Some (record { path = path; kind = kind }) }
 {
     match Path::of_key(key)? {
         (path, 0) => Some(Entry {
             path,
-            kind: kind_in(value)?,
+            kind: kind_under(value, version)?,
         }),
         _ => None,
+    }
+}
+
+/// How many bytes of what stands at a path are in its first pair: all of a file's, or none.
+pub fn size_in_first(kind: Kind, version: Version) -> u32
+    ensures { result ≡ seen.size_in_first version kind }
+{
+    match kind {
+        Kind::File(len) if is_inline(version, len) => len,
+        _ => 0,
     }
 }

@@ -7,28 +7,33 @@ ghost use Rattle.tree_reader.specs.Seen.{HasSeen, IsNextBlock, MayFollow, size_o
 ghost use Rattle.tree_reader.specs.ReaderCalls.{AddsPair, TellsWhole, TellsCounts};
 
 use crate::counts::{Counts, counted};
-use crate::first::{Entry, first_in};
+use crate::first::{Entry, first_in, size_in_first};
 use path_keys::Path;
 use store_base::{Key, Value};
+use store_model::Version;
 use tree_pairs::{FILE_BLOCK, Kind};
 
 /// Reads the pairs of a tree one after another, in the order of their keys. It knows the last entry, and no list.
 #[derive(Clone, Copy, Debug)]
 pub struct TreeReader {
+    /// The version of the format that the pairs have.
+    version: Version,
     /// The last entry, and before the first one the root.
     last: Entry,
-    /// How many bytes of it were read, if it is a file.
+    /// How many bytes of it were read, if it is a file. Some stand in its first pair, the others behind it.
     read: u32,
     /// What was counted, the last entry as a whole.
     counts: Counts,
 }
 
 impl TreeReader {
-    /// A reader that has seen no pair.
-    pub fn new() -> Self
-        ensures { (p : Parameters) → HasSeen result [] p }
+    /// A reader of one version that has seen no pair.
+    pub fn new(version: Version) -> Self
+        ensures version { result.version ≡ version }
+        ensures seen { (p : Parameters) → p.version ≡ version → HasSeen result [] p }
     {
         TreeReader {
+            version,
             last: Entry {
                 path: Path::root(),
                 kind: Kind::Directory,
@@ -42,8 +47,8 @@ impl TreeReader {
         }
     }
 
-    /// Takes the next pair: whether some tree's pairs begin with those that were taken and this one. So its key has to
-    /// be greater than theirs. Where the answer is no, nothing changed. Behind `pairs_limit` pairs, which are more than
+    /// Takes the next pair: whether some tree's pairs begin with those that were taken and this one, under the reader's
+    /// version. So its key has to be greater than theirs. Where the answer is no, nothing changed. Behind `pairs_limit` pairs, which are more than
     /// any image holds, it may be no though such a tree exists.
     pub fn add(&mut self, key: &Key, value: &Value) -> bool
         ensures { AddsPair self.old self.new (key.now, value.now) result }
@@ -83,7 +88,7 @@ impl TreeReader {
         requires { size_of self.old.last.kind ≤ self.old.read }
         ensures { AddsPair self.old self.new (key.now, value.now) result }
     {
-        let Some(entry) = first_in(key, value.as_slice()) else {
+        let Some(entry) = first_in(key, value.as_slice(), self.version) else {
             return false;
         };
         if !self.may_follow(&entry.path) {
@@ -94,8 +99,9 @@ impl TreeReader {
         };
         *self = TreeReader {
             last: entry,
-            read: 0,
+            read: size_in_first(entry.kind, self.version),
             counts,
+            ..*self
         };
         true
     }
@@ -115,7 +121,7 @@ impl TreeReader {
                 || self.last.path.is_inside(&parent))
     }
 
-    /// Whether the pairs that were taken are all those of a tree.
+    /// Whether the pairs that were taken are all those of a tree, under the reader's version.
     pub fn is_whole(&self) -> bool
         ensures { TellsWhole self.now result }
     {

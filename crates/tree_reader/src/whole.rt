@@ -9,14 +9,16 @@ ghost use Rattle.tree_reader.specs.ReaderCalls.{AreCounted};
 use crate::counts::Counts;
 use crate::reader::TreeReader;
 use store_base::{Key, Value};
+use store_model::Version;
 
-/// What the tree holds whose pairs these are, in the order of their keys; `None` exactly where they are no tree's.
-pub fn count_tree(pairs: &[(Key, Value)]) -> Option<Counts>
+/// What the tree holds whose pairs these are under a version, in the order of their keys; `None` exactly where they are
+/// no tree's.
+pub fn count_tree(pairs: &[(Key, Value)], version: Version) -> Option<Counts>
     requires { length pairs.now ≤ pairs_limit }
-    ensures tree { (p : Parameters) → IfSome result (AreCounted pairs.now p) }
-    ensures none { (p : Parameters) → IfNone result (AreOfTree pairs.now p → ⊥) }
+    ensures tree { (p : Parameters) → p.version ≡ version → IfSome result (AreCounted pairs.now p) }
+    ensures none { (p : Parameters) → p.version ≡ version → IfNone result (AreOfTree pairs.now p → ⊥) }
 {
-    let mut reader = TreeReader::new();
+    let mut reader = TreeReader::new(version);
     for (key, value) in pairs {
         if !reader.add(key, value) {
             return None;

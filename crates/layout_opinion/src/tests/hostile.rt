@@ -167,9 +167,24 @@ static BYTES: &str = "\
     a value of 257 bytes|1 1 ruler|/a|||256:1 257:1|damaged#\
     a byte behind a value|1 1 ruler|/a|||259:1|damaged";
 
+/// Short files under each version: `PATH:N` is a file of N bytes in one pair.
+static VERSIONS: &str = "\
+    a directory's byte as that of an empty file|1 1 ruler two|/a|||258:3|clean 1 0 1 0#\
+    files of 0, 1 and 200 bytes in one pair each|1 1 ruler two|/a:0 /b:1 /f:200||||clean 1 0 3 201#\
+    a file of 201 bytes in one pair|1 1 ruler two|/f:201||||damaged#\
+    a file of 201 bytes in blocks|1 1 ruler two|/f=201||||clean 1 0 1 201#\
+    a file of 200 bytes in blocks|1 1 ruler two|/f=200||||damaged#\
+    an empty file in blocks|1 1 ruler two|/f=0||||damaged#\
+    a file in one pair under version 1|1 1 ruler|/f:1||||damaged#\
+    a block behind a file in one pair|1 1 ruler two||0 - 0 /f:1 /f@1=1|||damaged#\
+    a child of a file in one pair|1 1 ruler two||0 - 0 /f:1 /f/g|||damaged#\
+    a directory, a file in one pair and one in blocks|1 1 ruler two|/a /a/f:2 /a/g=257||||clean 1 1 2 259";
+
 #[test]
 fn slots_of_no_tree(rt: HostRuntime) {
-    for rows in [IMAGES, LEVELS, LEADERS, GROUPS, TREES, ORDER, BYTES] {
+    for rows in [
+        IMAGES, LEVELS, LEADERS, GROUPS, TREES, ORDER, BYTES, VERSIONS,
+    ] {
         expect_rows(&rt, rt.alloc(), rows);
     }
 }

@@ -9,6 +9,7 @@ use path_keys::Path;
 use std::alloc::Global;
 use std::process::Abort;
 use store_base::{DrawKind, Key, Label, Lead, Params, Value};
+use store_model::Version;
 use tree_pairs::{directory_value, file_value};
 use tree_reader::Counts;
 
@@ -51,19 +52,25 @@ fn counting() -> [u8; 32] {
     seed
 }
 
-/// The parameters `SLOTS HEIGHT DRAW`, with a seed of zeros, or with `counting` behind them one that counts.
+/// The parameters `SLOTS HEIGHT DRAW` of version 1 with a seed of zeros; behind them `counting` says a seed that counts,
+/// and `two` version 2.
 pub fn params(rt: &impl Abort, text: &str) -> Params {
     let kind = match text.split_whitespace().nth(2) {
         Some("ruler") => DrawKind::Ruler,
         _ => DrawKind::Sha256,
     };
     let seed = match text.split_whitespace().nth(3) {
-        Some(_) => counting(),
-        None => [0; 32],
+        Some("counting") => counting(),
+        _ => [0; 32],
+    };
+    let version = match text.split_whitespace().nth(3) {
+        Some("two") => Version::Two,
+        _ => Version::One,
     };
     let (slots, height) = (number_at(rt, text, 0), number_at(rt, text, 1));
     assert!(rt; height < 256);
-    Params::new(slots, height as u8, kind, seed).expect(rt, "parameters")
+    let params = Params::new(slots, height as u8, kind, seed).expect(rt, "parameters");
+    params.with_version(version)
 }
 
 /// What `clean PAGES DIRS FILES BYTES` says, and nothing for `damaged`.
@@ -99,8 +106,19 @@ fn block(len: u32) -> Value {
     Value::new(&[7; 256][..len.clamp(1, 256) as usize])
 }
 
-/// The pair of `KEY`, a directory, of `PATH=BYTES`, a file of so many, or of `PATH@BLOCK=BYTES`, a block of so many.
+/// The value of a file of so many bytes, at most 255, that stand in its one pair.
+fn in_one_pair(len: u32) -> Value {
+    let mut value = [7; 256];
+    value[0] = 3;
+    Value::new(&value[..=len.min(255) as usize])
+}
+
+/// The pair of `KEY`, a directory; of `PATH=BYTES`, a file of so many in blocks; of `PATH:BYTES`, a file of so many in one
+/// pair; or of `PATH@BLOCK=BYTES`, a block of so many.
 fn pair(rt: &impl Abort, word: &str) -> (Key, Value) {
+    if let Some((name, len)) = word.split_once(':') {
+        return (key(rt, name), in_one_pair(number(rt, len)));
+    }
     match word.split_once('=') {
         Some((name, len)) if name.contains('@') => (key(rt, name), block(number(rt, len))),
         Some((name, len)) => (key(rt, name), file_value(number(rt, len))),
@@ -108,7 +126,7 @@ fn pair(rt: &impl Abort, word: &str) -> (Key, Value) {
     }
 }
 
-/// Adds the pairs of a directory `PATH`, or of a file `PATH=BYTES` with its blocks.
+/// Adds the pairs of a directory `PATH`, of a file `PATH:BYTES`, or of a file `PATH=BYTES` with its blocks.
 fn add_entry(rt: &impl Abort, pairs: &mut Vec<(Key, Value)>, word: &str) {
     pairs.push(pair(rt, word)).expect(rt, "memory");
     let Some((name, len)) = word.split_once('=') else {

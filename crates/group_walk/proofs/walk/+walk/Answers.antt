@@ -35,10 +35,10 @@ walk_cell-returns-clause-call g t c =
     let zero_is : c.args.level ≡ 0 = omega (arith, c.if-level-gt0.false) in
     subst (λ (n : ℕ). WalksCell d state state n c.args.cell.now (progress c.args.met.now.left c.args.met.now.last) after (g.P.TakesPairs.took c.args.sink.now) (g.P.TakesPairs.took c.take.new.self) (Ok true)) (sym zero_is)
     (walks_pair d state c.args.cell.now c.in-Some.value (progress c.args.met.now.left c.args.met.now.last) after (g.P.TakesPairs.took c.args.sink.now) (g.P.TakesPairs.took c.take.new.self) value_is refl (ap Some key_is)
-    (subst (λ (k : List ℕ). (pairs : List Pair) → g.P.TakesPairs.took c.args.sink.now pairs → g.P.TakesPairs.took c.take.new.self (pairs ++ (k, c.in-Some.value) ∷ [])) key_is c.take.ensures))
+    (subst (λ (k : List ℕ). (pairs : List Pair) → g.P.TakesPairs.took c.args.sink.now pairs → g.P.TakesPairs.took c.take.new.self (pairs ++ (k, c.in-Some.value) ∷ [])) key_is c.take.ensures.took))
 
 pub walk_cells-loop-i-init : goal.walk_cells-loop-i-init
-walk_cells-loop-i-init g t c = (cells_begin (g.W.Draw.drawn c.args.guide.now.draw.now) _ c.args.page.now (progress c.args.met.now.left c.args.met.now.last) _, g.met.S.ReadSlots.follows_refl c.args.slots.now)
+walk_cells-loop-i-init g t c = (cells_begin (g.W.Draw.drawn c.args.guide.now.draw.now) _ c.args.page.now (progress c.args.met.now.left c.args.met.now.last) _, g.met.S.ReadSlots.follows_refl c.args.slots.now, g.met.P.TakesPairs.keeps_refl c.args.sink.now)
 
 pub walk_cells-returns-then-not-is_next-clause-call :
     goal.walk_cells-returns-then-not-is_next-clause-call
@@ -81,6 +81,7 @@ walk_cells-loop-i-preserved g t c =
           (g.P.TakesPairs.took c.args.sink.now) (g.P.TakesPairs.took c.loop-i.sink) (g.P.TakesPairs.took c.walk_cell.new.sink) c.loop-i.invariant.0 c.cell-cell.ensures.value place next.1
           (subst (λ (b : Bool). WalksCell d now new page.label.level cell (progress c.loop-i.met.left c.loop-i.met.last) (progress c.walk_cell.new.met.left c.walk_cell.new.met.last) (g.P.TakesPairs.took c.loop-i.sink) (g.P.TakesPairs.took c.walk_cell.new.sink) (Ok b)) c.if-not-branch.false walks),
       g.met.S.ReadSlots.follows_trans c.args.slots.now c.loop-i.slots c.walk_cell.new.slots c.loop-i.invariant.1 c.in_ok-walk_cell.ensures.follows,
+      g.met.P.TakesPairs.keeps_trans c.args.sink.now c.loop-i.sink c.walk_cell.new.sink c.loop-i.invariant.2 c.in_ok-walk_cell.ensures.keeps,
     )
 
 pub walk_cells-returns-clause-call : goal.walk_cells-returns-clause-call
@@ -88,7 +89,7 @@ walk_cells-returns-clause-call g t c =
     cells_done (g.W.Draw.drawn c.args.guide.now.draw.now) _ _ c.args.page.now c.loop-i.i (progress c.args.met.now.left c.args.met.now.last) (progress c.loop-i.met.left c.loop-i.met.last) _ _ c.loop-i.invariant.0 (omega (arith, c.loop-i-test.false, c.len-i-end.ensures.value))
 
 pub walk_group-runs-init : goal.walk_group-runs-init
-walk_group-runs-init g t c = (runs_begin (g.W.Draw.drawn c.args.guide.now.draw.now) _ c.args.level (model_lead c.args.lead.now) (progress c.args.met.now.left c.args.met.now.last) _, g.met.S.ReadSlots.follows_refl c.args.slots.now)
+walk_group-runs-init g t c = (runs_begin (g.W.Draw.drawn c.args.guide.now.draw.now) _ c.args.level (model_lead c.args.lead.now) (progress c.args.met.now.left c.args.met.now.last) _, g.met.S.ReadSlots.follows_refl c.args.slots.now, g.met.P.TakesPairs.keeps_refl c.args.sink.now)
 
 pub walk_group-returns-in_default-clause-call :
     goal.walk_group-returns-in_default-clause-call
@@ -171,6 +172,7 @@ walk_group-runs-preserved g t c =
           (subst (λ (b : Bool). WalksCells d seen new c.in-Some.page taken (progress c.walk_cells.new.met.left c.walk_cells.new.met.last) (g.P.TakesPairs.took c.runs.sink) (g.P.TakesPairs.took c.walk_cells.new.sink) (Ok b)) c.if-not-branch.false c.in_ok-walk_cells.ensures.call)
           (λ room. let yes : c.is_last.result ≡ true = c.is_last.ensures.1 room in let no = c.if-is_last.false in cc),
       g.met.S.ReadSlots.follows_trans c.args.slots.now c.look_up.new.slots c.walk_cells.new.slots follows c.in_ok-walk_cells.ensures.follows,
+      g.met.P.TakesPairs.keeps_trans c.args.sink.now c.runs.sink c.walk_cells.new.sink c.runs.invariant.2 c.in_ok-walk_cells.ensures.keeps,
     )
 
 pub walk_cell-returns-in_default-clause-call : goal.walk_cell-returns-in_default-clause-call

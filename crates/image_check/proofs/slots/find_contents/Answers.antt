@@ -78,8 +78,9 @@ returns-in_default-counts-clause-call g c =
     let finds : FindsOrder (draw_of p) (draw_of p).height old mid (Ok found) =
     subst (λ h. FindsOrder (draw_of p) h old mid (Ok found)) c.height.ensures.value (subst (λ d. FindsOrder d c.height.result old mid (Ok found)) c.new-draw.ensures c.in_ok-used.ensures.call) in
     let walks : WalksTable (draw_of p) mid new used Took TookNow (Ok whole) = subst (λ d. WalksTable d mid new used Took TookNow (Ok whole)) c.new-draw.ensures c.in_ok-walk_groups.ensures.call in
+    let version = sym (c.in_ok-walk_groups.ensures.keeps ∙ c.new-pairs.ensures.version ∙ c.version.ensures.value) in
     nothing_counted p c.height.ensures.valid old mid new found used finds c.in-Some.is Took TookNow whole walks c.if-not-branch.false
-    c.counts.result c.new-pairs.ensures (λ s took few. c.counts.ensures s p took few) c.in_default-counts.is
+    c.counts.result c.new-pairs.ensures.none (λ s took few. c.counts.ensures s p version took few) c.in_default-counts.is
 
 pub returns-clause-call : goal.returns-clause-call
 unfolding draw_of
@@ -96,6 +97,7 @@ returns-clause-call g c =
     let finds : FindsOrder (draw_of p) (draw_of p).height old mid (Ok found) =
     subst (λ h. FindsOrder (draw_of p) h old mid (Ok found)) c.height.ensures.value (subst (λ d. FindsOrder d c.height.result old mid (Ok found)) c.new-draw.ensures c.in_ok-used.ensures.call) in
     let walks : WalksTable (draw_of p) mid new used Took TookNow (Ok whole) = subst (λ d. WalksTable d mid new used Took TookNow (Ok whole)) c.new-draw.ensures c.in_ok-walk_groups.ensures.call in
+    let version = sym (c.in_ok-walk_groups.ensures.keeps ∙ c.new-pairs.ensures.version ∙ c.version.ensures.value) in
     let contents : Contents = record { params = p; used = used; counts = c.in-Some-counts.counts } in
     found_all p c.height.ensures.valid old mid new found used finds c.in-Some.is Took TookNow whole walks c.if-not-branch.false
-    c.counts.result contents c.new-pairs.ensures (λ s took few. c.counts.ensures s p took few) c.in-Some-counts.is refl refl
+    c.counts.result contents c.new-pairs.ensures.none (λ s took few. c.counts.ensures s p version took few) c.in-Some-counts.is refl refl

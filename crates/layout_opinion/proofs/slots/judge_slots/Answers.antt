@@ -27,12 +27,12 @@ returns-in_default-2-clause-call g c =
     let valid = c.in_ok-pairs.ensures.valid in
     judged_none p old (g.S.ReadSlots.state c.read_pairs.new.slots) _ c.in_ok-pairs.ensures.reads (λ observable t held.
     let moved = moved_in c.in_ok-pairs.field-0 c.in-Some.pairs (λ read. read.items) old.slots t p valid held (c.in_ok-pairs.ensures.pairs observable) c.in-Some.is in
-    at_none c.in_ok-pairs-2.field-0 (λ found. found.0 ≡ pairs t p) (c.in_ok-pairs-2.ensures.only p t held.tree moved) c.in_default-2.is)
+    at_none c.in_ok-pairs-2.field-0 (λ found. found.0 ≡ pairs t p) (c.in_ok-pairs-2.ensures.only p (sym c.version.ensures.value) t held.tree moved) c.in_default-2.is)
 
 pub build-requires-clause-distinct : goal.build-requires-clause-distinct
 build-requires-clause-distinct g c =
     let p = c.args.params.now in
-    let found = if_some c.in_ok-pairs-2.field-0 (AreOfTree p) (c.in-Some-2.pairs, c.in-Some-2.counts) (c.in_ok-pairs-2.ensures.tree p) c.in-Some-2.is in
+    let found = if_some c.in_ok-pairs-2.field-0 (AreOfTree p) (c.in-Some-2.pairs, c.in-Some-2.counts) (c.in_ok-pairs-2.ensures.tree p (sym c.version.ensures.value)) c.in-Some-2.is in
     keys_differ found.0 p c.in-Some-2.pairs found.1 found.2
 
 pub returns-in-Err-Full-clause-call : goal.returns-in-Err-Full-clause-call
@@ -42,13 +42,13 @@ returns-in-Err-Full-clause-call g c =
     let valid = c.in_ok-pairs.ensures.valid in
     judged_none p old (g.S.ReadSlots.state c.read_pairs.new.slots) _ c.in_ok-pairs.ensures.reads (λ observable t held.
     let moved = moved_in c.in_ok-pairs.field-0 c.in-Some.pairs (λ read. read.items) old.slots t p valid held (c.in_ok-pairs.ensures.pairs observable) c.in-Some.is in
-    let is = at_some c.in_ok-pairs-2.field-0 (λ found. found.0 ≡ pairs t p) (c.in-Some-2.pairs, c.in-Some-2.counts) (c.in_ok-pairs-2.ensures.only p t held.tree moved) c.in-Some-2.is in
+    let is = at_some c.in_ok-pairs-2.field-0 (λ found. found.0 ≡ pairs t p) (c.in-Some-2.pairs, c.in-Some-2.counts) (c.in_ok-pairs-2.ensures.only p (sym c.version.ensures.value) t held.tree moved) c.in-Some-2.is in
     not_full t p c.in-Some-2.pairs c.in-Err-Full.field-0 c.in-Err-Full.field-0-0 c.in-Err-Full.field-0-1 held.tree held.fits is c.in-Err-Full.ensures.full c.in-Err-Full.field-0-is)
 
 pub are_layout-requires-clause-length : goal.are_layout-requires-clause-length
 are_layout-requires-clause-length g c =
     let p = c.args.params.now in
-    let found = if_some c.in_ok-pairs-2.field-0 (AreOfTree p) (c.in-Some-2.pairs, c.in-Some-2.counts) (c.in_ok-pairs-2.ensures.tree p) c.in-Some-2.is in
+    let found = if_some c.in_ok-pairs-2.field-0 (AreOfTree p) (c.in-Some-2.pairs, c.in-Some-2.counts) (c.in_ok-pairs-2.ensures.tree p (sym c.version.ensures.value)) c.in-Some-2.is in
     ap length (c.in-Ok.ensures.value ∙ table_is found.0 p c.in-Some-2.pairs found.1 found.2) ∙ length-table_of found.0 p
 
 pub returns-then-not-branch-clause-call : goal.returns-then-not-branch-clause-call
@@ -61,7 +61,7 @@ returns-then-not-branch-clause-call g c =
     let first = c.in_ok-pairs.ensures.reads in
     judged_none p old new _ (reads_both old mid new _ _ first c.in_ok-are_layout.ensures.reads) (λ observable t held.
     let moved = moved_in c.in_ok-pairs.field-0 c.in-Some.pairs (λ read. read.items) old.slots t p valid held (c.in_ok-pairs.ensures.pairs observable) c.in-Some.is in
-    let is = at_some c.in_ok-pairs-2.field-0 (λ found. found.0 ≡ pairs t p) (c.in-Some-2.pairs, c.in-Some-2.counts) (c.in_ok-pairs-2.ensures.only p t held.tree moved) c.in-Some-2.is in
+    let is = at_some c.in_ok-pairs-2.field-0 (λ found. found.0 ≡ pairs t p) (c.in-Some-2.pairs, c.in-Some-2.counts) (c.in_ok-pairs-2.ensures.only p (sym c.version.ensures.value) t held.tree moved) c.in-Some-2.is in
     let table = c.in-Ok.ensures.value ∙ table_is t p c.in-Some-2.pairs held.tree is in
     false≢true (sym c.if-not-branch.true ∙ (c.in_ok-are_layout.ensures.answer (first.observable ∙ observable)).1 (first.slots observable ∙ held.slots_are ∙ ap slots_of (sym table))))
 
@@ -73,7 +73,7 @@ returns-clause-call g c =
     let new = g.S.ReadSlots.state c.are_layout.new.slots in
     let s = c.in-Some-2.pairs in
     let first = c.in_ok-pairs.ensures.reads in
-    let found = if_some c.in_ok-pairs-2.field-0 (AreOfTree p) (s, c.in-Some-2.counts) (c.in_ok-pairs-2.ensures.tree p) c.in-Some-2.is in
+    let found = if_some c.in_ok-pairs-2.field-0 (AreOfTree p) (s, c.in-Some-2.counts) (c.in_ok-pairs-2.ensures.tree p (sym c.version.ensures.value)) c.in-Some-2.is in
     let table = c.in-Ok.ensures.value ∙ table_is found.0 p s found.1 found.2 in
     let fits = fits_are found.0 p s found.1 found.2 c.in-Ok.ensures.fits in
     judged_some p old new _ _ (reads_both old mid new _ _ first c.in_ok-are_layout.ensures.reads) (λ observable. record {

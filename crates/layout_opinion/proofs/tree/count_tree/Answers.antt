@@ -12,25 +12,25 @@ pub loop-at-init : goal.loop-at-init
 loop-at-init c = record {
   within = omega arith;
   in_range = record { few = omega arith; short = omega arith };
-  walked = λ p. walk_none p c.args.pairs.now _ refl refl refl;
+  walked = λ p same. walk_none p c.args.pairs.now _ refl refl refl;
 }
 
 pub returns-in_err-entry-clause-none : goal.returns-in_err-entry-clause-none
-returns-in_err-entry-clause-none c p =
+returns-in_err-entry-clause-none c p same =
     let s = c.args.pairs.now in
     let at = c.loop-at.at in
     let none : (t : Tree) → IsTree t → s ≡ pairs t p → ⊥ =
     λ t tree is.
-    let next = next_entry t p s at ((c.loop-at.invariant.walked p).left t tree is) (omega (arith, length-drop at s, c.loop-at-test.true)) in
-    c.in_err-entry.ensures.only next.entry.0 next.entry.1 (pairs next.others p) p next.is_entry.path next.is_entry.below_root next.is_entry.node (to_the_end s at ∙ next.pairs_are) in
+    let next = next_entry t p s at ((c.loop-at.invariant.walked p same).left t tree is) (omega (arith, length-drop at s, c.loop-at-test.true)) in
+    c.in_err-entry.ensures.only next.entry.0 next.entry.1 (pairs next.others p) p same next.is_entry.path next.is_entry.below_root next.is_entry.node (to_the_end s at ∙ next.pairs_are) in
     subst (λ o. IfNone o ((t : Tree) → IsTree t → s ≡ pairs t p → ⊥)) (sym c.from_residual.ensures) none
 
 pub returns-then-not-has_parent-clause-none : goal.returns-then-not-has_parent-clause-none
-returns-then-not-has_parent-clause-none c p t tree is =
+returns-then-not-has_parent-clause-none c p same t tree is =
     let s = c.args.pairs.now in
     let at = c.loop-at.at in
-    let next = next_entry t p s at ((c.loop-at.invariant.walked p).left t tree is) (omega (arith, length-drop at s, c.loop-at-test.true)) in
-    let found = c.in_ok-entry.ensures.only next.entry.0 next.entry.1 (pairs next.others p) p next.is_entry.path next.is_entry.below_root next.is_entry.node (to_the_end s at ∙ next.pairs_are) in
+    let next = next_entry t p s at ((c.loop-at.invariant.walked p same).left t tree is) (omega (arith, length-drop at s, c.loop-at-test.true)) in
+    let found = c.in_ok-entry.ensures.only next.entry.0 next.entry.1 (pairs next.others p) p same next.is_entry.path next.is_entry.below_root next.is_entry.node (to_the_end s at ∙ next.pairs_are) in
     let has = parent_in_pairs t p (parent next.entry.0) tree next.is_entry.parent_directory in
     false≢true (c.if-not-has_parent.ensures.1 (subst (λ (path : Path). MayHaveChildren s (parent path)) (sym found.0) (subst (λ (xs : List Pair). MayHaveChildren xs (parent next.entry.0)) (sym is) has)))
 
@@ -44,15 +44,15 @@ loop-at-preserved c =
     let entry = c.in_ok-entry.entry in
     let so_far = c.loop-at.invariant in
     let some : 1 ≤ length (drop at s) = omega (arith, length-drop at s, c.loop-at-test.true) in
-    let stands = subst (λ (rest : List Pair). StandsFirst rest entry.path entry.kind entry.count) (to_the_end s at) c.in_ok-entry.ensures.found in
+    let stands = subst (λ (rest : List Pair). StandsFirst c.args.version rest entry.path entry.kind entry.count) (to_the_end s at) c.in_ok-entry.ensures.found in
     let has = c.if-not-has_parent.ensures.0 refl in
     record {
       within = omega (arith, length-drop at s, stands.within, so_far.within);
-      in_range = in_range_more (drop at s) entry.path entry.kind entry.count at c.loop-at.counts c.counted-counts.result stands c.counted-counts.ensures so_far.in_range;
-      walked = λ p.
-          walk_more p s at entry.path entry.kind entry.count c.loop-at.counts c.counted-counts.result c.requires.sorted (so_far.walked p) stands has c.counted-counts.ensures
-          (λ t next. c.in_ok-entry.ensures.only next.entry.0 next.entry.1 (pairs next.others p) p next.is_entry.path next.is_entry.below_root next.is_entry.node (to_the_end s at ∙ next.pairs_are)) some;
+      in_range = in_range_more c.args.version (drop at s) entry.path entry.kind entry.count at c.loop-at.counts c.counted-counts.result stands c.counted-counts.ensures so_far.in_range;
+      walked = λ p same.
+          walk_more c.args.version p same s at entry.path entry.kind entry.count c.loop-at.counts c.counted-counts.result c.requires.sorted (so_far.walked p same) stands has c.counted-counts.ensures
+          (λ t next. c.in_ok-entry.ensures.only next.entry.0 next.entry.1 (pairs next.others p) p same next.is_entry.path next.is_entry.below_root next.is_entry.node (to_the_end s at ∙ next.pairs_are)) some;
     }
 
 pub returns-clause-tree : goal.returns-clause-tree
-returns-clause-tree c p = walk_all p c.args.pairs.now c.loop-at.at c.loop-at.counts (c.loop-at.invariant.walked p) (omega (arith, c.loop-at-test.false))
+returns-clause-tree c p same = walk_all p c.args.pairs.now c.loop-at.at c.loop-at.counts (c.loop-at.invariant.walked p same) (omega (arith, c.loop-at-test.false))

@@ -1,4 +1,4 @@
-use Rattle.std.proofs.Common.{◌-◌, ◌≤◌, length}
+use Rattle.std.proofs.Common.{◌≡◌, ◌-◌, ◌≤◌, length}
 use Rattle.store_model.specs.Parameters.{Parameters}
 use Rattle.layout_opinion.proofs.Walk.{AreInRange, IsWalked}
 use Rattle.layout_opinion.proofs.tree.count_tree.Given as goal
@@ -8,7 +8,7 @@ abbrev pub invariant-loop-at : goal.invariant-loop-at
 invariant-loop-at l = record {
   within : l.at ≤ length l.pairs;
   in_range : AreInRange l.counts l.at;
-  walked : (p : Parameters) → IsWalked p l.pairs l.at l.counts;
+  walked : (p : Parameters) → p.version ≡ l.fn.version → IsWalked p l.pairs l.at l.counts;
 }
 
 abbrev pub decreases-loop-at : goal.decreases-loop-at

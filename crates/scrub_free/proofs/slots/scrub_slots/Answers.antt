@@ -64,7 +64,8 @@ returns-clause-reaches g c observable =
     let observable_mid = observable_after _ _ _ c.loop-slot.invariant.calls observable in
     let end : c.loop-slot.slot ≡ slots = omega (arith, c.loop-slot-test.false, c.loop-slot.auto.slot-end, c.requires.within) in
     let comes = rw end at (c.loop-slot.invariant.comes observable) in
-    comes_to (OutsideFree slots old.bytes) (AreScrubbed slots slots old.bytes) (scrub_writes (table_slot slots old.bytes) slots) old _ _ c.sync.result observable_mid (g.met.D.Disk.sound c.loop-slot.disk observable_mid) comes c.sync.ensures
+    comes_to (OutsideFree slots old.bytes) (OutsideFree slots old.bytes) (AreScrubbed slots slots old.bytes) (AreScrubbed slots slots old.bytes) (scrub_writes (table_slot slots old.bytes) slots) old _ _ c.sync.result observable_mid
+    (g.met.D.Disk.sound c.loop-slot.disk observable_mid) (λ place spared. spared) (λ image scrubbed. scrubbed) comes c.sync.ensures
 
 pub returns-clause-makes : goal.returns-clause-makes
 returns-clause-makes g c observable =

@@ -16,7 +16,7 @@ returns-then-not-is_next_block c =
 pub returns : goal.returns
 returns c =
     let old = c.args.self.now in
-    taken old _ (c.args.key.now, c.args.value.now)
+    taken old _ (c.args.key.now, c.args.value.now) refl
     (λ s p has.
     let file = in_file old s p c.args.len has c.requires.file c.requires.more in
     subst (λ xs. HasSeen (record old { read = old.read + length xs }) (s ++ (c.args.key.now, c.args.value.now) ∷ []) p) (sym c.as_slice.ensures.value)
