@@ -9,15 +9,16 @@ use Rattle.hex.specs.declared.error.FromHexError.{FromHexError}
 use Rattle.hex.proofs.HexLemmas.{decode_sized-twice, decode_sized-ok}
 use Rattle.store_model.specs.Parameters.{Parameters, IsParameters, slots_limit}
 use Rattle.store_model.specs.declared.draw_kind.DrawKind.{DrawKind}
+use Rattle.store_model.specs.declared.version.Version.TheVariants.{One}
 use Rattle.store_model.specs.Lists.{IsBytes, same_bytes}
 use Rattle.store_model.specs.Grammar.{number_of, ◌>>=◌, ok_value}
 use Rattle.store_model.specs.Words.{Request, request_of, number_in, kind_of_word, seed_of_word}
 use Rattle.store_model.specs.Words.Request.{Format}
 use Rattle.store_model.proofs.ListsLemmas.{first_true, second_true}
 
--- the parameters of two numbers, a draw and a seed
+-- the parameters of two numbers, a draw and a seed, of version 1
 abbrev pub params_of : ℕ → ℕ → DrawKind → List ℕ → Parameters
-params_of n h kind seed = record { slots = n; height = h; kind = kind; seed = seed }
+params_of n h kind seed = record { slots = n; height = h; kind = kind; seed = seed; version = One }
 
 -- what `format` asks for, by what its four arguments spell
 abbrev format_by : Option ℕ → Option ℕ → Option DrawKind → Option (List ℕ) → Option Request

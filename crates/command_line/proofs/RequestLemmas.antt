@@ -7,6 +7,7 @@ use Rattle.clap.specs.Takes.{takes}
 use Rattle.clap.specs.Walk.{Text}
 use Rattle.clap.specs.declared.builder.value_parser.ValueParser.{ValueParser}
 use Rattle.clap.specs.declared.parser.matches.ArgMatches.{ArgMatches}
+use Rattle.store_model.specs.declared.version.Version.TheVariants.{One}
 use Rattle.store_model.specs.Lists.{same_bytes}
 use Rattle.store_model.specs.Grammar.{◌>>=◌, number_limit, number_of, on_word}
 use Rattle.store_model.specs.Parameters.{slots_limit, height_limit}
@@ -58,7 +59,7 @@ module _ (draws : ValueParser) (takes : TakesDraws draws) where
       (number_passes number 0 number_limit first.value first.there (le-leb 0 first.value (omega arith)) (number_limited number first.value first.there)) (range_passes 1 commands_limit second.value count second.there)
 
   format : (slots height draw seed : Text) (request : Request)
-      → (number_in 1 slots_limit slots >>= λ n. number_in 1 height_limit height >>= λ h. kind_of_word draw >>= λ k. seed_of_word seed >>= λ s. Some (Format (record { slots = n; height = h; kind = k; seed = s }))) ≡ Some request
+      → (number_in 1 slots_limit slots >>= λ n. number_in 1 height_limit height >>= λ h. kind_of_word draw >>= λ k. seed_of_word seed >>= λ s. Some (Format (record { slots = n; height = h; kind = k; seed = s; version = One }))) ≡ Some request
       → IsTaken draws (codes "format" ∷ slots ∷ height ∷ draw ∷ seed ∷ [])
   format slots height draw seed request e =
       let first = comes (number_in 1 slots_limit slots) _ request e in

@@ -4,13 +4,13 @@ use Rattle.std.proofs.lemmas.Bool.{cases_eq}
 use Rattle.store_model.specs.Parameters.{Parameters, image_len}
 use Rattle.store_model.specs.Trees.{Tree}
 use Rattle.store_model.specs.Images.{first_byte}
+use Rattle.store_model.proofs.ImagesLemmasScrubbed.{take-scrubbed}
 use Rattle.disk_model.specs.DiskState.{DiskState, IsObservable, IsDurable}
 use Rattle.disk_model.proofs.Images.{SameOutside-empty}
 use Rattle.gate_journal.specs.Wipes.{IsWiping}
 use Rattle.gate_journal.proofs.Formatting.{no_image}
 use Rattle.scrub_free.specs.Scrubbing.{ScrubsAs}
 use Rattle.scrub_free.specs.ScrubCalls.{ScrubsTo}
-use Rattle.scrub_free.proofs.Phases.{header-scrubbed}
 use Rattle.script_lines.specs.SinkState.{SinkState}
 use Rattle.image_subcommands.specs.declared.outcome.Outcome.{Outcome}
 use Rattle.image_subcommands.specs.declared.status.Status.TheVariants.{Done}
@@ -65,7 +65,8 @@ scrubs_alike old image t p to same =
       image_is = record {
         names = record {
           in_range = to.image_is.names.in_range;
-          header_is = sym (header-scrubbed p.slots image long) ∙ ap (take 4096) same.scrubs ∙ header-scrubbed p.slots old to.image_is.length_is ∙ to.image_is.names.header_is;
+          header_is = sym (take-scrubbed p.slots image long) ∙ ap (take 4096) same.scrubs ∙ take-scrubbed p.slots old to.image_is.length_is ∙ to.image_is.names.header_is;
+          served = to.image_is.names.served;
         };
         length_is = long;
       };

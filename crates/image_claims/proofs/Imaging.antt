@@ -5,12 +5,12 @@ use Rattle.store_model.specs.Parameters.{Parameters}
 use Rattle.store_model.specs.Trees.{Tree}
 use Rattle.store_model.specs.Images.{first_byte, Represents, scrubbed}
 use Rattle.store_model.proofs.ImagesLemmasScrubbed.{scrubbed-recovered, scrubbed-layout}
-use Rattle.store_model.proofs.TreesLemmasBytes.{headers_same}
 use Rattle.store_model.proofs.TreesLemmasLayouts.{layouts_tell}
 use Rattle.store_base.specs.Counts.{Rose}
 use Rattle.disk_model.specs.DiskState.{DiskState, IsObservable, IsSound}
 use Rattle.gate_journal.proofs.Formatting.{no_image}
 use Rattle.image_check.specs.declared.verdict.Verdict.TheVariants as verdicts
+use Rattle.image_check.proofs.Images.{one_name}
 use Rattle.scrub_free.specs.ScrubCalls.{ScrubsTo, IsScrubVerdict, IsBeyondScrubbing}
 use Rattle.script_lines.specs.SourceState.{SourceState}
 use Rattle.script_lines.specs.SinkState.{SinkState}
@@ -63,7 +63,7 @@ represented_scrubs image t p is = record {
 -- an image scrubs to one tree's
 one_scrubbed : (image : List ℕ) (t u : Tree) (p q : Parameters) → ScrubsTo image t p → ScrubsTo image u q → (t ≡ u) × (p ≡ q)
 one_scrubbed image t u p q h g =
-    let same : p ≡ q = headers_same p q h.image_is.names.in_range g.image_is.names.in_range (sym h.image_is.names.header_is ∙ g.image_is.names.header_is) in
+    let same : p ≡ q = one_name image q p g.image_is h.image_is in
     layouts_tell t u p q h.image_is.names.in_range g.image_is.names.in_range h.tree g.tree h.fits g.fits (sym h.layout_is ∙ ap (λ (r : Parameters). scrubbed r.slots image) same ∙ g.layout_is)
 
 module _ (disk : DiskState) (told : IsObservable disk) (sound : IsSound disk) where
@@ -79,7 +79,7 @@ module _ (disk : DiskState) (told : IsObservable disk) (sound : IsSound disk) wh
   from_broken : IsBroken (ScrubsTo disk.bytes) disk.bytes → IsBeyondScrubbing disk
   from_broken is = record {
     params = is.image.0;
-    has_parameters = record { in_range = is.image.1.names.in_range; size_is = sym sound.size ∙ is.image.1.length_is; named = λ observable. is.image.1 };
+    has_parameters = record { in_range = is.image.1.names.in_range; served = is.image.1.names.served; size_is = sym sound.size ∙ is.image.1.length_is; named = λ observable. is.image.1 };
     no_tree = λ observable. is.none;
   }
 

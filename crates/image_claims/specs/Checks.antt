@@ -21,7 +21,7 @@ use Rattle.image_claims.specs.Endings.{IsOneOf, EndsExactly}
 unfoldable pub clean_line : Tree → Parameters → List ℕ
 clean_line t p = line (codes "clean " ++ decimal (page_count t p) ++ codes " " ++ decimal (count_dirs t) ++ codes " " ++ decimal (count_files t) ++ codes " " ++ decimal (count_bytes t))
 
--- the bytes are no image: no header of an image of their length stands at their front
+-- the bytes are no image: their header, as recovery would leave it, is that of no image of their length
 abbrev pub IsNone : List ℕ → Type 0
 IsNone bytes = (p : Parameters) → IsImageWith bytes p → ⊥
 

@@ -56,7 +56,7 @@ refused_big statuses.WrongLength runs never = absurd (false≢true runs)
 damaged_with : (disk : Disk) (p : Parameters) → HasNoTree (bytes_of disk) → IsImageWith (bytes_of disk) p → IsDamaged (meaning disk)
 damaged_with disk p none is = record {
   params = p;
-  has_parameters = record { in_range = is.names.in_range; size_is = is.length_is; named = λ observable. is };
+  has_parameters = record { in_range = is.names.in_range; served = is.names.served; size_is = is.length_is; named = λ observable. is };
   no_tree = λ observable. none;
 }
 

@@ -1,6 +1,7 @@
 -- The list of a tree over its staged pages: what it holds, and what it knows, as these change.
-use Rattle.std.proofs.Common.{◌≡◌, ◌<◌, Bool, true, false, List, length, Option, Result, Ok, Err, sym, ap, subst, ◌∙◌}
+use Rattle.std.proofs.Common.{◌≡◌, ◌<◌, Bool, true, false, List, length, Option, Result, Ok, Err, refl, sym, ap, subst, ◌∙◌}
 use Rattle.store_model.specs.declared.refusal.Refusal.{Refusal}
+use Rattle.store_model.specs.declared.version.Version.{Version}
 use Rattle.store_base.specs.declared.store_fault.Fault.{Fault}
 use Rattle.store_model.specs.Parameters.{Parameters}
 use Rattle.store_model.specs.Trees.{Tree}
@@ -20,12 +21,12 @@ use Rattle.skip_levels.specs.Descent.{HoldsPairs, IsKnownGroup}
 use Rattle.skip_levels.specs.PagePairs.{pairs_of_map, list_over, IsHeld, KeepsList}
 use Rattle.ordered_pairs.specs.PairsState.{PairsState}
 use Rattle.skip_levels.proofs.PagePairsLemmas.{holds_own, holds_its_pairs}
-use Rattle.tree_pairs.specs.TreeCalls.{pairs_limit, uncounted_step, CarriesOut}
+use Rattle.tree_pairs.specs.TreeCalls.{pairs_limit, uncounted_step, CarriesOutUnder}
 use Rattle.page_store.specs.StagedState.{StagedState, IsTold, Follows, pages_state, without_changes}
 use Rattle.page_store.specs.declared.fault.SettleFault.{SettleFault}
 use Rattle.page_store.specs.Settling.{Settles}
 use Rattle.tree_commands.specs.Answers.{AnswersBy, change_reply}
-use Rattle.tree_commands.proofs.ReplyLemmas.{carried_reply}
+use Rattle.tree_commands.proofs.ReplyLemmas.{AnswersUnder, answers_under, carried_reply}
 use Rattle.tree_commands.proofs.StepLemmas.{uncounted_still}
 use Rattle.store_core.proofs.StagedAnswers.{AnswersAt}
 use Rattle.store_core.specs.StagedTree.{TreeList, IsStagedFor, IsListAt, HoldsTable}
@@ -67,15 +68,25 @@ pairs_state state list = list_over (any_draw list.draw) list.is_whole (pages_sta
 abbrev pub FollowsList : {D : Type 0} → (D → DiskState) → TreeList D → TreeList D → Type 0
 FollowsList state old new = Follows state old.pages new.pages × (new.draw ≡ old.draw)
 
--- a command was carried out on a list
-pub record AnswersList {D : Type 0} (state : D → DiskState) (c : Command) (old new : TreeList D) (result : Result Reply Fault) : Type 0 where
+-- a command was carried out on a list of one version
+pub record AnswersList {D : Type 0} (state : D → DiskState) (version : Version) (c : Command) (old new : TreeList D) (result : Result Reply Fault) : Type 0 where
   pub follows : FollowsList state old new
-  pub call : AnswersBy c (pairs_state state old) (pairs_state state new) result
+  pub call : AnswersUnder version c (pairs_state state old) (pairs_state state new) result
+
+-- a command that the list answered under each version
+pub looked_list : {D : Type 0} (state : D → DiskState) (version : Version) (c : Command) (old new : TreeList D) (result : Result Reply Fault) → FollowsList state old new → AnswersBy c (pairs_state state old) (pairs_state state new) result → AnswersList state version c old new result
+looked_list state version c old new result follows call = record { follows = follows; call = answers_under version c (pairs_state state old) (pairs_state state new) result call }
 
 -- a change that the list carried out is answered so
-pub changed_list : {D : Type 0} (state : D → DiskState) (c : Command) (old new : TreeList D) (r : Result (Result (Unit {0}) Refusal) Fault) (reply : Result Reply Fault) → change_reply r ≡ reply → FollowsList state old new → CarriesOut (λ _. Acknowledged) c (pairs_state state old) (pairs_state state new) r
-    → AnswersList state c old new reply
-changed_list state c old new r reply is follows call = record { follows = follows; call = subst (AnswersBy c (pairs_state state old) (pairs_state state new)) is (carried_reply c (pairs_state state old) (pairs_state state new) r call) }
+pub changed_list : {D : Type 0} (state : D → DiskState) (p : Parameters) (version : Version) (c : Command) (old new : TreeList D) (r : Result (Result (Unit {0}) Refusal) Fault) (reply : Result Reply Fault) → version ≡ p.version → change_reply r ≡ reply → FollowsList state old new
+    → CarriesOutUnder version (λ _. Acknowledged) c (pairs_state state old) (pairs_state state new) r → AnswersList state p.version c old new reply
+changed_list state p version c old new r reply under is follows call =
+    let seen = pairs_state state old in
+    let left = pairs_state state new in
+    record {
+      follows = follows;
+      call = subst (λ (v : Version). AnswersUnder v c seen left reply) under (subst (AnswersUnder version c seen left) is (carried_reply version c seen left r call));
+    }
 
 module _ {D : Type 0} (state : D → DiskState) (t : Tree) (p : Parameters) (old : TreeList D) (list : IsListAt state t p old) (runs : old.pages.is_spent ≡ false) where
   holds : IsObservable (state old.pages.disk) → HoldsPairs (draw_of p) (pairs t p) old.pages.map
@@ -93,25 +104,25 @@ module _ {D : Type 0} (state : D → DiskState) (t : Tree) (p : Parameters) (old
 
   module _ (c : Command) (mid : TreeList D) where
     -- a command that the list answered is one that its pages did
-    pub answers_at : (result : Result Reply Fault) → AnswersList state c old mid result → AnswersAt state c t p old.pages mid.pages result
+    pub answers_at : (result : Result Reply Fault) → AnswersList state p.version c old mid result → AnswersAt state c t p old.pages mid.pages result
     answers_at result is = record {
       follows = is.follows.0;
       faults = is.call.faults;
       answered = λ observable.
           let seen = seen_at observable in
           reply_at (uncounted_step t c p) p (any_draw mid.draw) (pairs_state state mid) mid.pages result (ap any_draw is.follows.1 ∙ list.draw) (λ held. held.1.1) (is.call.observable seen)
-          (is.call.answered seen t p (record { tree = list.fitting.tree; pairs_are = holds_own (draw_of p) (pairs t p) old.pages.map (holds observable) }));
+          (is.call.answered seen t p refl (record { tree = list.fitting.tree; pairs_are = holds_own (draw_of p) (pairs t p) old.pages.map (holds observable) }));
     }
 
-    before : {result : Result Reply Fault} → AnswersList state c old mid result → IsObservable (state mid.pages.disk) → IsObservable (state old.pages.disk)
+    before : {result : Result Reply Fault} → AnswersList state p.version c old mid result → IsObservable (state mid.pages.disk) → IsObservable (state old.pages.disk)
     before is observable = sym is.follows.0.disk.observable ∙ observable
 
     -- behind it the list is whole
-    pub whole_behind : (reply : Reply) → AnswersList state c old mid (Ok reply) → IsObservable (state mid.pages.disk) → mid.is_whole ≡ true
+    pub whole_behind : (reply : Reply) → AnswersList state p.version c old mid (Ok reply) → IsObservable (state mid.pages.disk) → mid.is_whole ≡ true
     whole_behind reply is observable = (is.call.observable (seen_at (before is observable))).0
 
     -- where it changed nothing, nothing is to be taken back
-    pub same_behind : (reply : Reply) → (reply_of reply ≡ (uncounted_step t c p).reply → reply_of reply ≡ Acknowledged → ⊥) → AnswersList state c old mid (Ok reply) → IsObservable (state mid.pages.disk) → mid.pages.map ≡ mid.pages.table
+    pub same_behind : (reply : Reply) → (reply_of reply ≡ (uncounted_step t c p).reply → reply_of reply ≡ Acknowledged → ⊥) → AnswersList state p.version c old mid (Ok reply) → IsObservable (state mid.pages.disk) → mid.pages.map ≡ mid.pages.table
     same_behind reply other is observable =
         let seen = before is observable in
         let answered = (answers_at (Ok reply) is).answered seen in

@@ -1,17 +1,16 @@
 -- Commands that leave the disk as it was: it is read at most.
-use Rattle.std.proofs.Common.{◌≡◌, ◌⊎◌, ℕ, List, length, Bool, false, Result, Ok, Err, OnOk, refl, sym, ap, subst, ◌∙◌, inl, inr, ⊎_elim, arith}
+use Rattle.std.proofs.Common.{◌≡◌, ◌⊎◌, ℕ, List, Bool, false, Result, Ok, Err, OnOk, refl, sym, subst, ◌∙◌, inl, inr, ⊎_elim, arith}
 use Rattle.std.proofs.lemmas.Bool.{false≢true}
 use Rattle.store_base.specs.Counts.{Rose}
 use Rattle.store_model.specs.Parameters.{Parameters}
 use Rattle.store_model.specs.Trees.{Tree}
-use Rattle.store_model.specs.Images.{layout, recovered, Represents}
-use Rattle.store_model.proofs.ImagesLemmas.{length-layout, recovered-layout}
+use Rattle.store_model.specs.Images.{layout, Represents}
+use Rattle.store_model.proofs.ImagesLemmas.{Represents-layout}
 use Rattle.disk_model.specs.DiskState.{DiskState}
 use Rattle.disk_model.specs.DiskCalls.{LeavesOnly}
 use Rattle.disk_model.proofs.Crashes.{LeavesOnly-trans, LeavesOnly-weaken}
 use Rattle.gate_journal.specs.Disks.{KeepsDisk}
 use Rattle.gate_journal.specs.Places.{ReadsOnly}
-use Rattle.gate_journal.proofs.Layouts.{recovered-represents}
 use Rattle.gate_journal.proofs.Reading.{ReadsOnly-trans}
 use Rattle.image_check.specs.declared.fault.ApplyFault.{ApplyFault}
 use Rattle.store_core.specs.TableChanges.{slots_between}
@@ -21,9 +20,7 @@ use Rattle.store_core.proofs.CostLemmas.{counts_reading, counts_behind, none_bet
 
 -- a layout represents its tree
 pub standing_represents : (t : Tree) (p : Parameters) (image : List ℕ) → IsFitting t p → image ≡ layout t p → Represents image t p
-standing_represents t p image fit is =
-    recovered-represents image t p fit.in_range fit.tree fit.fits (ap length is ∙ length-layout t p fit.in_range fit.tree fit.fits)
-    (ap (recovered p.slots) is ∙ recovered-layout t p fit.in_range fit.tree fit.fits)
+standing_represents t p image fit is = subst (λ (bytes : List ℕ). Represents bytes t p) (sym is) (Represents-layout t p fit.in_range fit.served fit.tree fit.fits)
 
 -- what stands at a tree still does after reads
 pub stands_reading : (old new : DiskState) (t : Tree) (p : Parameters) → ReadsOnly old new → Stands old t p → Stands new t p

@@ -28,10 +28,10 @@ fn check_image<D: Disk>(mut disk: D) -> (D, Result<Contents, AttachFault>)
 impl<D: Disk> Store<D> {
     /// The store that the disk holds, once its image is checked and recovered.
     ///
-    /// With a fault the disk is given back. `NotImage`: it does not start with the header of an image of its length.
-    /// `Damaged`: it is an image, but even recovered it would hold no tree. Just one sync was made then. `NoMemory`: at
-    /// most one was. After none of these three was anything written, and a crash leaves what it might have left before.
-    /// After `Disk` it represents the tree that it did, if it did so.
+    /// With a fault the disk is given back. `NotImage`: its header, as recovery would leave it, is that of no image of
+    /// its length. `Damaged`: it is an image, but even recovered it would hold no tree. Just one sync was made then.
+    /// `NoMemory`: at most one was. After none of these three was anything written, and a crash leaves what it might
+    /// have left before. After `Disk` it represents the tree that it did, if it did so.
     ///
     /// An image with an empty journal takes two syncs and no write; otherwise the marked slots, the flag and each block
     /// of the journal that is not zero are written once.

@@ -61,7 +61,7 @@ pub fn carry_out<D: Disk>(
         }
         Command::Digest => tell_digest(&mut pairs.pages, reply),
         Command::List(_) | Command::Read(..) => carry_out_look(alloc, pairs, command, reply),
-        _ => put_answer(carry_out_change(pairs, command), reply),
+        _ => put_answer(carry_out_change(pairs, params, command), reply),
     }
 }
 
@@ -120,16 +120,17 @@ fn carry_out_look<D: Disk>(
 /// made here, but by the caller.
 fn carry_out_change<D: Disk>(
     pairs: &mut TreeList<D>,
+    params: &Params,
     command: &Command,
 ) -> Result<Answer<()>, ApplyFault>
     requires change { is_change (command_of command.now) ≡ true }
     requires command { IsCommand (command_of command.now) }
     requires runs { pairs.old.pages.is_spent ≡ false }
-    requires list { (t : Tree) × ((p : Parameters) × IsListAt D.state t p pairs.old) }
-    ensures call { (t : Tree) (p : Parameters) → IsListAt D.state t p pairs.old → EndsStep D.state t (step t (command_of command.now) p) p pairs.old.pages pairs.new.pages (change_reply result) }
+    requires list { (t : Tree) × IsListAt D.state t params.now pairs.old }
+    ensures call { (t : Tree) → IsListAt D.state t params.now pairs.old → EndsStep D.state t (step t (command_of command.now) params.now) params.now pairs.old.pages pairs.new.pages (change_reply result) }
     ensures list { GoesOn D.state pairs.old pairs.new }
 {
-    match change(pairs, command) {
+    match change(pairs, params.version(), command) {
         Ok(Ok(())) => end_change(pairs),
         Ok(Err(refusal)) => {
             pairs.pages.discard();

@@ -4,16 +4,15 @@ use Rattle.store_model.specs.Trees.{empty_tree}
 use Rattle.script_lines.specs.Memory.{SourceMemory}
 use Rattle.script_claims.specs.Makings.{SparesCounts, StopsFormat}
 use Rattle.script_claims.specs.Machines.{Ended, HasImage}
-use Rattle.script_claims.proofs.MakingLemmas.{formatted, empty_fits}
-use Rattle.script_claims.proofs.RequestedParameters.{requested_in_range}
+use Rattle.script_claims.proofs.MakingLemmas.{formatted}
+use Rattle.script_claims.proofs.RequestedParameters.{requested_fits}
 use Rattle.script_claims.proofs.StoppingLemmas.{handed_on, spares_counts, format_stops, stops_behind}
 use Rattle.script_claims.proofs.equal.make_image.Goals as goal
 
 pub returns-clause-image : goal.returns-clause-image
 returns-clause-image c p asked =
-    let valid = requested_in_range c.args.format.now p asked in
     let ok = c.in_ok-formatted.ensures.ok in
-    c.run_scripts.ensures.image empty_tree p (empty_fits p valid)
+    c.run_scripts.ensures.image empty_tree p (requested_fits c.args.format.now p asked)
     (subst (λ (ended : Ended). HasImage ended.disk empty_tree p) (sym ok.0) (formatted p c.args.making.disk c.no_script.result c.args.making.sink c.serve.result (c.serve.ensures.format p asked) ok.1))
 
 pub returns-in_err-formatted-clause-stops : goal.returns-in_err-formatted-clause-stops
@@ -25,7 +24,6 @@ returns-in_err-formatted-clause-stops c p asked =
 
 pub returns-clause-stops : goal.returns-clause-stops
 returns-clause-stops c p asked =
-    let valid = requested_in_range c.args.format.now p asked in
     let ok = c.in_ok-formatted.ensures.ok in
     let format = c.serve.ensures.format p asked in
     let spared = subst (λ (ended : Ended). SparesCounts c.args.making.disk c.args.making.sink ended) (sym ok.0) (spares_counts c.args.making.disk c.no_script.result c.args.making.sink c.serve.result c.serve.ensures.outside ok.1) in
@@ -34,4 +32,4 @@ returns-clause-stops c p asked =
     (λ ended stops.
     inr (stops_behind c.args.making.disk c.in_ok-formatted.formatted.disk (λ (script : SourceMemory). Contains c.args.making.scripts.items script) (λ (script : SourceMemory). Contains c.args.making.scripts.items script)
     c.args.making.sink c.in_ok-formatted.formatted.sink ended spared.disk_faults spared.sink_faults (λ script is. is) stops))
-    (c.run_scripts.ensures.stops empty_tree p (empty_fits p valid) image)
+    (c.run_scripts.ensures.stops empty_tree p (requested_fits c.args.format.now p asked) image)
