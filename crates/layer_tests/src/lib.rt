@@ -1,4 +1,4 @@
-//! Tests of the lists, trees and scripts, up to `subtree_move`, over what these crates make public, and of the texts of
+//! Tests of the lists, trees and scripts, up to `tree_commands`, over what these crates make public, and of the texts of
 //! all faults below the program.
 //!
 //! They hold what no clause says: lists of pages that come from outside, printed texts, counts of calls, and that a call

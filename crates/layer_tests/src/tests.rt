@@ -6,4 +6,6 @@ mod listed_pages;
 mod moves;
 mod paths;
 mod scripts;
+mod short_files;
 mod skip_lists;
+mod upgrades;

@@ -9,6 +9,7 @@ use path_keys::Path;
 use std::alloc::Global;
 use std::collections::BTreeMap;
 use store_base::{Answer, Bytes, Fault};
+use store_model::Version;
 use subtree_move::{prune, rename};
 use test_samples::CountedPairs;
 
@@ -70,7 +71,7 @@ fn is_done<T: Drop>(outcome: Result<Answer<T>, Fault>) -> Option<()> {
 /// Writes the files.
 fn write_files(pairs: &mut CountedPairs, files: &Files) -> Option<()> {
     for file in &files.paths {
-        is_done(write_at(pairs, file, 0, &files.content))?;
+        is_done(write_at(pairs, file, 0, &files.content, Version::One))?;
     }
     Some(())
 }

@@ -88,6 +88,12 @@ impl Fronts {
 impl TakesPairs for Fronts {
     ghost took = { λ fronts pairs. Unit {0} };
 
+    ghost keeps = { λ _ _. Unit {0} };
+
+    ghost keeps_refl = { λ _. tt };
+
+    ghost keeps_trans = { λ _ _ _ _ _. tt };
+
     fn take(&mut self, key: &Key, _value: &Value) {
         if self.count < 16 {
             let bytes = key.as_bytes();

@@ -4,6 +4,7 @@ use path_keys::Path;
 use std::alloc::{AllocError, Global};
 use std::process::Abort;
 use store_base::{Key, Value};
+use store_model::Version;
 use tree_pairs::{directory_value, file_value};
 use tree_reader::{Counts, TreeReader, count_tree};
 
@@ -21,6 +22,8 @@ enum Says {
     File(u32),
     /// So many bytes of a file, 1 to 256.
     Block(usize),
+    /// A file of so many bytes stands at the path, at most 255, and they stand in this pair.
+    Inline(usize),
     /// Two bytes.
     Two([u8; 2]),
     /// Five bytes, as a file's first value has.
@@ -169,8 +172,8 @@ static WRONG_BLOCKS: [(&[Row], Outcome); 9] = [
     ),
 ];
 
-/// First values of no kind.
-static WRONG_VALUES: [(&[Row], Outcome); 4] = [
+/// First values of no kind under version 1.
+static WRONG_VALUES: [(&[Row], Outcome); 6] = [
     (&[("/f", 0, Says::File(16_777_217))], Outcome::Refused(0)),
     (&[("/f", 0, Says::Two([1, 1]))], Outcome::Refused(0)),
     (
@@ -181,6 +184,56 @@ static WRONG_VALUES: [(&[Row], Outcome); 4] = [
         &[("/f", 0, Says::Five([1, 0, 0, 0, 0]))],
         Outcome::Refused(0),
     ),
+    (&[("/f", 0, Says::Inline(0))], Outcome::Refused(0)),
+    (&[("/f", 0, Says::Inline(200))], Outcome::Refused(0)),
+];
+
+/// Pairs that begin those of a tree under version 2.
+static SHORT_FILES: [(&[Row], Outcome); 6] = [
+    (&[("/f", 0, Says::Inline(0))], Outcome::Tree(0, 1, 0)),
+    (
+        &[("/f", 0, Says::Inline(200)), ("/g", 0, Says::Inline(1))],
+        Outcome::Tree(0, 2, 201),
+    ),
+    (
+        &[
+            ("/d", 0, Says::Directory),
+            ("/d/f", 0, Says::Inline(3)),
+            ("/d/g", 0, Says::File(201)),
+            ("/d/g", 1, Says::Block(201)),
+        ],
+        Outcome::Tree(1, 2, 204),
+    ),
+    (
+        &[("/f", 0, Says::Five([3, 0, 0, 0, 0]))],
+        Outcome::Tree(0, 1, 4),
+    ),
+    (&[("/f", 0, Says::File(201))], Outcome::Front),
+    (
+        &[("/f", 0, Says::File(257)), ("/f", 1, Says::Block(256))],
+        Outcome::Front,
+    ),
+];
+
+/// Pairs that begin those of no tree under version 2.
+static WRONG_FORMS: [(&[Row], Outcome); 6] = [
+    // a file that is too long for its pair, and ones that are too short for blocks
+    (&[("/f", 0, Says::Inline(201))], Outcome::Refused(0)),
+    (&[("/f", 0, Says::File(200))], Outcome::Refused(0)),
+    (&[("/f", 0, Says::File(0))], Outcome::Refused(0)),
+    // a block, a child and the same path behind a file in one pair
+    (
+        &[("/f", 0, Says::Inline(1)), ("/f", 1, Says::Block(1))],
+        Outcome::Refused(1),
+    ),
+    (
+        &[("/f", 0, Says::Inline(1)), ("/f/g", 0, Says::Directory)],
+        Outcome::Refused(1),
+    ),
+    (
+        &[("/f", 0, Says::Inline(1)), ("/f", 0, Says::Inline(1))],
+        Outcome::Refused(1),
+    ),
 ];
 
 /// The value that says so.
@@ -189,6 +242,11 @@ fn value_of(says: Says) -> Value {
         Says::Directory => directory_value(),
         Says::File(len) => file_value(len),
         Says::Block(len) => Value::new(&[7; 256][..len.clamp(1, 256)]),
+        Says::Inline(len) => {
+            let mut value = [7; 256];
+            value[0] = 3;
+            Value::new(&value[..1 + len.min(255)])
+        }
         Says::Two(bytes) => Value::new(&bytes),
         Says::Five(bytes) => Value::new(&bytes),
     }
@@ -203,9 +261,9 @@ fn pairs_of(rt: &impl Abort, alloc: Global, rows: &[Row]) -> Result<Vec<(Key, Va
     Ok(pairs)
 }
 
-/// What comes of pairs, read one after another.
-fn outcome_of(pairs: &[(Key, Value)]) -> Outcome {
-    let mut reader = TreeReader::new();
+/// What comes of pairs, read one after another under a version.
+fn outcome_of(pairs: &[(Key, Value)], version: Version) -> Outcome {
+    let mut reader = TreeReader::new(version);
     for (at, (key, value)) in pairs.iter().enumerate() {
         if !reader.add(key, value) {
             return Outcome::Refused(at);
@@ -218,35 +276,41 @@ fn outcome_of(pairs: &[(Key, Value)]) -> Outcome {
     Outcome::Tree(dirs, files, bytes)
 }
 
-/// Looks whether each row comes out so, read pair by pair and as a whole.
-fn come_out(rt: &impl Abort, alloc: Global, table: &[(&[Row], Outcome)]) {
+/// Looks whether each row comes out so under a version, read pair by pair and as a whole.
+fn come_out(rt: &impl Abort, alloc: Global, version: Version, table: &[(&[Row], Outcome)]) {
     for (at, (rows, outcome)) in table.iter().enumerate() {
         let pairs = pairs_of(rt, alloc, *rows).expect(rt, "memory");
-        assert!(rt; outcome_of(&pairs) == *outcome, "row {at}");
+        assert!(rt; outcome_of(&pairs, version) == *outcome, "row {at}");
         assert!(rt; pairs.len() < 10, "few rows");
         let counts = match *outcome {
             Outcome::Tree(dirs, files, bytes) => Some(Counts { dirs, files, bytes }),
             _ => None,
         };
-        assert!(rt; count_tree(&pairs) == counts, "row {at}");
+        assert!(rt; count_tree(&pairs, version) == counts, "row {at}");
     }
 }
 
 #[test]
 fn pairs_of_trees_are_read(rt: HostRuntime) {
-    come_out(&rt, rt.alloc(), &FRONTS);
+    come_out(&rt, rt.alloc(), Version::One, &FRONTS);
 }
 
 #[test]
 fn pairs_of_no_tree_are_refused_at_once(rt: HostRuntime) {
-    come_out(&rt, rt.alloc(), &MISPLACED);
-    come_out(&rt, rt.alloc(), &WRONG_BLOCKS);
-    come_out(&rt, rt.alloc(), &WRONG_VALUES);
+    come_out(&rt, rt.alloc(), Version::One, &MISPLACED);
+    come_out(&rt, rt.alloc(), Version::One, &WRONG_BLOCKS);
+    come_out(&rt, rt.alloc(), Version::One, &WRONG_VALUES);
+}
+
+#[test]
+fn files_in_one_pair_are_read(rt: HostRuntime) {
+    come_out(&rt, rt.alloc(), Version::Two, &SHORT_FILES);
+    come_out(&rt, rt.alloc(), Version::Two, &WRONG_FORMS);
 }
 
 #[test]
 fn keys_of_no_path_are_refused(rt: HostRuntime) {
-    let mut reader = TreeReader::new();
+    let mut reader = TreeReader::new(Version::One);
     for key in [Key::new([0; 124]), Key::new([0x2f; 124])] {
         assert!(rt; !reader.add(&key, &directory_value()));
     }

@@ -29,6 +29,12 @@ struct PairCount {
 impl TakesPairs for PairCount {
     ghost took = { λ _ _. Unit {0} };
 
+    ghost keeps = { λ _ _. Unit {0} };
+
+    ghost keeps_refl = { λ _. tt };
+
+    ghost keeps_trans = { λ _ _ _ _ _. tt };
+
     fn take(&mut self, _key: &Key, _value: &Value) {
         self.pairs = self.pairs.saturating_add(1);
     }

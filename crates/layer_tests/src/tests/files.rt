@@ -1,11 +1,13 @@
 //! Files, with the calls on their pairs counted. The counts are worked out by hand: what stands at the path is asked once,
-//! a block that the bytes fill is put, another one is read and put, and the first pair is put where the length changes.
+//! a block that the bytes fill is put, another one is read and put, and the first pair is put where the length changes. A
+//! file in one pair is put as a whole.
 
 use super::paths::path;
 use file_blocks::{cut, write_at};
 use path_keys::Path;
 use std::process::Abort;
 use store_base::{Answer, Bytes, Fault, Refusal};
+use store_model::Version;
 use test_samples::CountedPairs;
 
 /// The byte string with these bytes, as many as it has room for.
@@ -32,6 +34,19 @@ static ONE_BLOCK: [Counted; 3] = [
     (Change::Cut(257), Err(Refusal::Gap), 1),
 ];
 
+/// Changes of a file that is absent, under the version that has a short one in its first pair.
+static ONE_PAIR: [Counted; 7] = [
+    (Change::Fill(0, 200), Ok(()), 2),
+    (Change::Fill(50, 100), Ok(()), 2),
+    // The bytes are put into a block, which is read and put again, and the first pair tells their number.
+    (Change::Fill(200, 1), Ok(()), 5),
+    // The block is read and taken.
+    (Change::Cut(200), Ok(()), 4),
+    (Change::Cut(200), Ok(()), 1),
+    (Change::Cut(0), Ok(()), 2),
+    (Change::Fill(0, 200), Ok(()), 2),
+];
+
 /// Changes of a file of the greatest length.
 static LONGEST: [Counted; 5] = [
     (Change::Fill(16_777_216, 1), Err(Refusal::Big), 1),
@@ -48,31 +63,52 @@ static FULL_BLOCKS: [Counted; 2] = [
 ];
 
 /// Whether the change of the file at the path is answered so, with so many calls.
-fn is_made(list: &mut CountedPairs, path: &Path, row: &Counted) -> Result<bool, Fault> {
+fn is_made(
+    list: &mut CountedPairs,
+    path: &Path,
+    version: Version,
+    row: &Counted,
+) -> Result<bool, Fault> {
     let (change, answer, calls) = row;
     list.calls();
     let made = match change {
         Change::Fill(at, count) => {
             let zeros = bytes_of(&[0; Bytes::MAX_LEN][..(*count).min(Bytes::MAX_LEN)]);
-            write_at(list, path, *at, &zeros)?
+            write_at(list, path, *at, &zeros, version)?
         }
-        Change::Cut(len) => cut(list, path, *len)?,
+        Change::Cut(len) => cut(list, path, *len, version)?,
     };
     Ok(made == *answer && list.calls() == *calls)
 }
 
 /// Looks whether the changes of the file at the path are so.
-fn are_made(rt: &impl Abort, list: &mut CountedPairs, path: &Path, rows: &[Counted]) {
+fn are_made(
+    rt: &impl Abort,
+    list: &mut CountedPairs,
+    path: &Path,
+    version: Version,
+    rows: &[Counted],
+) {
     for (at, row) in rows.iter().enumerate() {
-        assert!(rt; is_made(list, path, row) == Ok(true), "change {at}");
+        assert!(rt;
+            is_made(list, path, version, row) == Ok(true),
+            "change {at}"
+        );
     }
 }
 
 #[test]
 fn file_of_one_block(rt: HostRuntime) {
     let mut list = CountedPairs::new(rt.alloc());
-    are_made(&rt, &mut list, &path(&rt, "/g"), &ONE_BLOCK);
+    are_made(&rt, &mut list, &path(&rt, "/g"), Version::One, &ONE_BLOCK);
     assert!(rt; list.len() == 2);
+}
+
+#[test]
+fn file_in_one_pair(rt: HostRuntime) {
+    let mut list = CountedPairs::new(rt.alloc());
+    are_made(&rt, &mut list, &path(&rt, "/s"), Version::Two, &ONE_PAIR);
+    assert!(rt; list.len() == 1);
 }
 
 /// Fills a file that is absent by so many writes, each of so many whole blocks, at most 16.
@@ -84,7 +120,10 @@ fn fill(rt: &impl Abort, list: &mut CountedPairs, path: &Path, writes: u16, bloc
             Ok(()),
             u32::from(blocks) + 2,
         );
-        assert!(rt; is_made(list, path, &filled) == Ok(true), "piece {piece}");
+        assert!(rt;
+            is_made(list, path, Version::One, &filled) == Ok(true),
+            "piece {piece}"
+        );
     }
 }
 
@@ -94,7 +133,7 @@ fn full_blocks(rt: HostRuntime) {
     let file = path(&rt, "/f");
     fill(&rt, &mut list, &file, 512, 8);
     assert!(rt; list.len() == 4097);
-    are_made(&rt, &mut list, &file, &FULL_BLOCKS);
+    are_made(&rt, &mut list, &file, Version::One, &FULL_BLOCKS);
 }
 
 #[test]
@@ -103,5 +142,5 @@ fn longest_file(rt: HostRuntime) {
     let file = path(&rt, "/f");
     fill(&rt, &mut list, &file, 4096, 16);
     assert!(rt; list.len() == 65_537);
-    are_made(&rt, &mut list, &file, &LONGEST);
+    are_made(&rt, &mut list, &file, Version::One, &LONGEST);
 }
