@@ -1,6 +1,6 @@
 #compdef hstore
 # What a shell completes behind `hstore`, as docs/hstore.bash does. `hstore --install` puts it where zsh looks for it.
-local -a its=(format run check scrub wipe big)
+local -a its=(format format2 run check scrub wipe upgrade big)
 case $CURRENT in
     2)
         compadd -- help --help --version --install --uninstall
@@ -14,7 +14,7 @@ case $CURRENT in
             *) compadd -a its ;;
         esac
         ;;
-    4) [[ $words[3] != format ]] || compadd 64 256 1024 4096 16384 65536 ;;
-    5) [[ $words[3] != format ]] || compadd 1 2 3 4 5 6 7 8 ;;
-    6) [[ $words[3] != format ]] || compadd sha256 ruler ;;
+    4) [[ $words[3] != format(2|) ]] || compadd 64 256 1024 4096 16384 65536 ;;
+    5) [[ $words[3] != format(2|) ]] || compadd 1 2 3 4 5 6 7 8 ;;
+    6) [[ $words[3] != format(2|) ]] || compadd sha256 ruler ;;
 esac

@@ -7,36 +7,34 @@ use Rattle.std.proofs.lemmas.Bool.{cases_Bool, false≢true, eqb-true, eq-eqb, l
 use Rattle.hex.specs.Hex.{decode_of, decode_sized}
 use Rattle.hex.specs.declared.error.FromHexError.{FromHexError}
 use Rattle.hex.proofs.HexLemmas.{decode_sized-twice, decode_sized-ok}
-use Rattle.store_model.specs.Parameters.{Parameters, IsParameters, slots_limit}
+use Rattle.store_model.specs.Parameters.{Parameters, IsParameters, slots_limit, with_version}
 use Rattle.store_model.specs.declared.draw_kind.DrawKind.{DrawKind}
-use Rattle.store_model.specs.declared.version.Version.TheVariants.{One}
+use Rattle.store_model.specs.declared.version.Version.{Version}
+use Rattle.store_model.specs.declared.version.Version.TheVariants.{One, Two}
 use Rattle.store_model.specs.Lists.{IsBytes, same_bytes}
 use Rattle.store_model.specs.Grammar.{number_of, ◌>>=◌, ok_value}
-use Rattle.store_model.specs.Words.{Request, request_of, number_in, kind_of_word, seed_of_word}
+use Rattle.store_model.specs.Words.{Request, request_of, number_in, kind_of_word, seed_of_word, version_of_word}
 use Rattle.store_model.specs.Words.Request.{Format}
 use Rattle.store_model.proofs.ListsLemmas.{first_true, second_true}
+use Rattle.command_line.specs.Line.{format_word}
 
--- the parameters of two numbers, a draw and a seed, of version 1
-abbrev pub params_of : ℕ → ℕ → DrawKind → List ℕ → Parameters
-params_of n h kind seed = record { slots = n; height = h; kind = kind; seed = seed; version = One }
+-- the parameters of two numbers, a draw and a seed, of a version
+abbrev pub params_of : Version → ℕ → ℕ → DrawKind → List ℕ → Parameters
+params_of version n h kind seed = record { slots = n; height = h; kind = kind; seed = seed; version = version }
 
--- what `format` asks for, by what its four arguments spell
-abbrev format_by : Option ℕ → Option ℕ → Option DrawKind → Option (List ℕ) → Option Request
-format_by slots height kind seed = slots >>= λ n. height >>= λ h. kind >>= λ k. seed >>= λ s. Some (Format (params_of n h k s))
+-- what a format asks for, by what its four arguments spell
+abbrev format_by : Version → Option ℕ → Option ℕ → Option DrawKind → Option (List ℕ) → Option Request
+format_by version slots height kind seed = slots >>= λ n. height >>= λ h. kind >>= λ k. seed >>= λ s. Some (Format (params_of version n h k s))
 
--- another word asks for nothing
-pub other_word : (w a b k s : List ℕ) → same_bytes w (codes "format") ≡ false → request_of (w ∷ a ∷ b ∷ k ∷ s ∷ []) ≡ None
-unfolding request_of
-other_word w a b k s h = rw h refl
-
--- the words of `format`
-abbrev pub format_words : List ℕ → List ℕ → List ℕ → List ℕ → List (List ℕ)
-format_words a b k s = codes "format" ∷ a ∷ b ∷ k ∷ s ∷ []
+-- the words of a format
+abbrev pub format_words : Version → List ℕ → List ℕ → List ℕ → List ℕ → List (List ℕ)
+format_words version a b k s = format_word version ∷ a ∷ b ∷ k ∷ s ∷ []
 
 -- what they ask for
-asked : (a b k s : List ℕ) → request_of (format_words a b k s) ≡ format_by (number_in 1 slots_limit a) (number_in 1 8 b) (kind_of_word k) (seed_of_word s)
-unfolding request_of
-asked a b k s = refl
+asked : (v : Version) (a b k s : List ℕ) → request_of (format_words v a b k s) ≡ format_by v (number_in 1 slots_limit a) (number_in 1 8 b) (kind_of_word k) (seed_of_word s)
+unfolding request_of version_of_word
+asked One a b k s = refl
+asked Two a b k s = refl
 
 -- a number, where it lies in the range
 abbrev pub in_range : ℕ → ℕ → ℕ → Option ℕ
@@ -59,37 +57,37 @@ pub number_in_some : (low high n : ℕ) (w : List ℕ) → number_of w ≡ Some 
 unfolding number_in
 number_in_some low high n w e = rw e refl
 
-no_height_request : (n : Option ℕ) (k : Option DrawKind) (s : Option (List ℕ)) → format_by n None k s ≡ None
-no_height_request None k s = refl
-no_height_request (Some n) k s = refl
+no_height_request : (v : Version) (n : Option ℕ) (k : Option DrawKind) (s : Option (List ℕ)) → format_by v n None k s ≡ None
+no_height_request v None k s = refl
+no_height_request v (Some n) k s = refl
 
-no_kind_request : (n h : Option ℕ) (s : Option (List ℕ)) → format_by n h None s ≡ None
-no_kind_request None h s = refl
-no_kind_request (Some n) None s = refl
-no_kind_request (Some n) (Some h) s = refl
+no_kind_request : (v : Version) (n h : Option ℕ) (s : Option (List ℕ)) → format_by v n h None s ≡ None
+no_kind_request v None h s = refl
+no_kind_request v (Some n) None s = refl
+no_kind_request v (Some n) (Some h) s = refl
 
-no_seed_request : (n h : Option ℕ) (k : Option DrawKind) → format_by n h k None ≡ None
-no_seed_request None h k = refl
-no_seed_request (Some n) None k = refl
-no_seed_request (Some n) (Some h) None = refl
-no_seed_request (Some n) (Some h) (Some k) = refl
+no_seed_request : (v : Version) (n h : Option ℕ) (k : Option DrawKind) → format_by v n h k None ≡ None
+no_seed_request v None h k = refl
+no_seed_request v (Some n) None k = refl
+no_seed_request v (Some n) (Some h) None = refl
+no_seed_request v (Some n) (Some h) (Some k) = refl
 
 -- a word that spells no number of slots, or of levels, or no draw, or no seed
-pub no_slots : (a b k s : List ℕ) → number_of a ≡ None → request_of (format_words a b k s) ≡ None
-no_slots a b k s e = rw (asked a b k s, number_in_none 1 slots_limit a e) refl
+pub no_slots : (v : Version) (a b k s : List ℕ) → number_of a ≡ None → request_of (format_words v a b k s) ≡ None
+no_slots v a b k s e = rw (asked v a b k s, number_in_none 1 slots_limit a e) refl
 
-pub no_height : (a b k s : List ℕ) → number_of b ≡ None → request_of (format_words a b k s) ≡ None
-no_height a b k s e = rw (asked a b k s, number_in_none 1 8 b e) (no_height_request (number_in 1 slots_limit a) (kind_of_word k) (seed_of_word s))
+pub no_height : (v : Version) (a b k s : List ℕ) → number_of b ≡ None → request_of (format_words v a b k s) ≡ None
+no_height v a b k s e = rw (asked v a b k s, number_in_none 1 8 b e) (no_height_request v (number_in 1 slots_limit a) (kind_of_word k) (seed_of_word s))
 
-pub great_height : (a b k s : List ℕ) (h : ℕ) → number_of b ≡ Some h → 8 < h → request_of (format_words a b k s) ≡ None
-great_height a b k s h e great =
-    rw (asked a b k s, number_in_some 1 8 h b e, in_range_no 1 8 h great) (no_height_request (number_in 1 slots_limit a) (kind_of_word k) (seed_of_word s))
+pub great_height : (v : Version) (a b k s : List ℕ) (h : ℕ) → number_of b ≡ Some h → 8 < h → request_of (format_words v a b k s) ≡ None
+great_height v a b k s h e great =
+    rw (asked v a b k s, number_in_some 1 8 h b e, in_range_no 1 8 h great) (no_height_request v (number_in 1 slots_limit a) (kind_of_word k) (seed_of_word s))
 
-pub no_kind : (a b k s : List ℕ) → kind_of_word k ≡ None → request_of (format_words a b k s) ≡ None
-no_kind a b k s e = rw (asked a b k s, e) (no_kind_request (number_in 1 slots_limit a) (number_in 1 8 b) (seed_of_word s))
+pub no_kind : (v : Version) (a b k s : List ℕ) → kind_of_word k ≡ None → request_of (format_words v a b k s) ≡ None
+no_kind v a b k s e = rw (asked v a b k s, e) (no_kind_request v (number_in 1 slots_limit a) (number_in 1 8 b) (seed_of_word s))
 
-pub no_seed : (a b k s : List ℕ) → seed_of_word s ≡ None → request_of (format_words a b k s) ≡ None
-no_seed a b k s e = rw (asked a b k s, e) (no_seed_request (number_in 1 slots_limit a) (number_in 1 8 b) (kind_of_word k))
+pub no_seed : (v : Version) (a b k s : List ℕ) → seed_of_word s ≡ None → request_of (format_words v a b k s) ≡ None
+no_seed v a b k s e = rw (asked v a b k s, e) (no_seed_request v (number_in 1 slots_limit a) (number_in 1 8 b) (kind_of_word k))
 
 -- a number that is read into a byte, and one that does not fit
 pub fits_byte : {E : Type 0} (r : Result ℕ E) (n x : ℕ) → OkIff r (n < 256) n → Some x ≡ result_ok r → x ≡ n
@@ -101,13 +99,13 @@ passes_byte (Ok y) n h e = absurd (cc)
 passes_byte (Err d) n h e = omega (arith, h)
 
 -- what is made of two numbers, a draw and a seed of 32 bytes, exactly where they are in range, is what the words ask for
-made : {E : Type 0} (r : Result Parameters E) (n h : ℕ) (kind : DrawKind) (seed : List ℕ) → length seed ≡ 32 → IsBytes seed
-    → IsOk r ↔ IsParameters (params_of n h kind seed) → IfOk r (λ p. p ≡ params_of n h kind seed)
-    → option_map Format (result_ok r) ≡ format_by (in_range 1 slots_limit n) (in_range 1 8 h) (Some kind) (Some seed)
-made (Ok p) n h kind seed size bytes exact value =
+made : {E : Type 0} (r : Result Parameters E) (v : Version) (n h : ℕ) (kind : DrawKind) (seed : List ℕ) → length seed ≡ 32 → IsBytes seed
+    → IsOk r ↔ IsParameters (params_of One n h kind seed) → IfOk r (λ p. p ≡ params_of One n h kind seed)
+    → option_map (λ p. Format (with_version p v)) (result_ok r) ≡ format_by v (in_range 1 slots_limit n) (in_range 1 8 h) (Some kind) (Some seed)
+made (Ok p) v n h kind seed size bytes exact value =
     let valid = exact.0 refl in
-    rw (in_range_yes 1 slots_limit n valid.some_slot valid.slots_in_range, in_range_yes 1 8 h valid.some_level valid.height_in_range) (ap (λ q. Some (Format q)) value)
-made (Err e) n h kind seed size bytes exact value =
+    rw (in_range_yes 1 slots_limit n valid.some_slot valid.slots_in_range, in_range_yes 1 8 h valid.some_level valid.height_in_range) (ap (λ q. Some (Format (with_version q v))) value)
+made (Err e) v n h kind seed size bytes exact value =
     ⊎_elim
     (λ few. ⊎_elim
     (λ low. absurd (false≢true (exact.1 (record {
@@ -118,26 +116,26 @@ made (Err e) n h kind seed size bytes exact value =
       seed_length = size;
       seed_bytes = bytes;
     }))))
-    (λ low. rw low (sym (no_height_request (in_range 1 slots_limit n) (Some kind) (Some seed))))
+    (λ low. rw low (sym (no_height_request v (in_range 1 slots_limit n) (Some kind) (Some seed))))
     (cases_Bool (leb 1 h && leb h 8)))
     (λ few. rw few refl)
     (cases_Bool (leb 1 n && leb n slots_limit))
 
-pub made_request : {E : Type 0} (r : Result Parameters E) (a b k s : List ℕ) (n h : ℕ) (kind : DrawKind) (seed : List ℕ)
+pub made_request : {E : Type 0} (r : Result Parameters E) (v : Version) (a b k s : List ℕ) (n h : ℕ) (kind : DrawKind) (seed : List ℕ)
     → number_of a ≡ Some n → number_of b ≡ Some h → kind_of_word k ≡ Some kind → seed_of_word s ≡ Some seed → length seed ≡ 32 → IsBytes seed
-    → IsOk r ↔ IsParameters (params_of n h kind seed) → IfOk r (λ p. p ≡ params_of n h kind seed)
-    → option_map Format (result_ok r) ≡ request_of (format_words a b k s)
-made_request r a b k s n h kind seed slots height draw digits size bytes exact value =
-    rw (asked a b k s, number_in_some 1 slots_limit n a slots, number_in_some 1 8 h b height, draw, digits) (made r n h kind seed size bytes exact value)
+    → IsOk r ↔ IsParameters (params_of One n h kind seed) → IfOk r (λ p. p ≡ params_of One n h kind seed)
+    → option_map (λ p. Format (with_version p v)) (result_ok r) ≡ request_of (format_words v a b k s)
+made_request r v a b k s n h kind seed slots height draw digits size bytes exact value =
+    rw (asked v a b k s, number_in_some 1 slots_limit n a slots, number_in_some 1 8 h b height, draw, digits) (made r v n h kind seed size bytes exact value)
 
 pub not_same : (xs ys : List ℕ) → xs ≢ ys → same_bytes xs ys ≡ false
 not_same xs ys other = ⊎_elim (λ yes. absurd (other ((bytes_decides xs ys).0 yes))) (λ no. no) (cases_Bool (same_bytes xs ys))
 
 -- another single word than these asks for nothing
-pub other_single : (w : List ℕ) → w ≢ codes "run" → w ≢ codes "check" → w ≢ codes "scrub" → w ≢ codes "wipe" → request_of (w ∷ []) ≡ None
+pub other_single : (w : List ℕ) → w ≢ codes "run" → w ≢ codes "check" → w ≢ codes "scrub" → w ≢ codes "wipe" → w ≢ codes "upgrade" → request_of (w ∷ []) ≡ None
 unfolding request_of
-other_single w run check scrub wipe =
-    rw (not_same w (codes "run") run, not_same w (codes "check") check, not_same w (codes "scrub") scrub, not_same w (codes "wipe") wipe) refl
+other_single w run check scrub wipe upgrade =
+    rw (not_same w (codes "run") run, not_same w (codes "check") check, not_same w (codes "scrub") scrub, not_same w (codes "wipe") wipe, not_same w (codes "upgrade") upgrade) refl
 
 seed_right : (w : List ℕ) → eqb (length w) 64 ≡ true → seed_of_word w ≡ ok_value (decode_of w)
 unfolding seed_of_word

@@ -7,15 +7,17 @@ use Rattle.clap.specs.Takes.{takes}
 use Rattle.clap.specs.Walk.{Text}
 use Rattle.clap.specs.declared.builder.value_parser.ValueParser.{ValueParser}
 use Rattle.clap.specs.declared.parser.matches.ArgMatches.{ArgMatches}
-use Rattle.store_model.specs.declared.version.Version.TheVariants.{One}
+use Rattle.store_model.specs.declared.version.Version.{Version}
+use Rattle.store_model.specs.declared.version.Version.TheVariants.{One, Two}
 use Rattle.store_model.specs.Lists.{same_bytes}
 use Rattle.store_model.specs.Grammar.{◌>>=◌, number_limit, number_of, on_word}
 use Rattle.store_model.specs.Parameters.{slots_limit, height_limit}
-use Rattle.store_model.specs.Words.{Request, commands_limit, kind_of_word, number_in, request_of, seed_of_word}
-use Rattle.store_model.specs.Words.Request.{Format, Run, Check, Scrub, Wipe, Big}
+use Rattle.store_model.specs.Words.{Request, commands_limit, kind_of_word, number_in, request_of, seed_of_word, version_of_word}
+use Rattle.store_model.specs.Words.Request.{Format, Run, Check, Scrub, Wipe, Upgrade, Big}
 use Rattle.store_model.proofs.ListsLemmas.{first_true}
-use Rattle.command_line.specs.Line.{HoldsLine, IsLine, TakesDraws}
-use Rattle.command_line.proofs.TakenLines.{IsTaken, run_taken, check_taken, scrub_taken, wipe_taken, big_taken, format_taken}
+use Rattle.command_line.specs.Line.{HoldsLine, IsLine, TakesDraws, format_word}
+use Rattle.command_line.proofs.LineLemmas.{some_same}
+use Rattle.command_line.proofs.TakenLines.{IsTaken, run_taken, check_taken, scrub_taken, wipe_taken, upgrade_taken, big_taken, format_taken}
 use Rattle.command_line.proofs.ValueLemmas.{draw_names, draw_passes, draw_plain, number_limited, number_plain, number_passes, range_passes, range_plain, seed_plain}
 
 -- where one of two words was found, it is the first, or the other was found
@@ -36,8 +38,16 @@ comes (Some x) f y e = record { value = x; there = refl; then = e }
 nothing : {A B : Type 0} (x : A) → ◌≡◌ {A = Option A} None (Some x) → B
 nothing x e = absurd (cc)
 
-module _ (draws : ValueParser) (takes : TakesDraws draws) where
-  single : (word : Text) (request : Request) → on_word word (codes "run") (Some Run) (on_word word (codes "check") (Some Check) (on_word word (codes "scrub") (Some Scrub) (on_word word (codes "wipe") (Some Wipe) None))) ≡ Some request
+-- a word that makes images of a version is the one for it
+word_of_version : (word : Text) (version : Version) → version_of_word word ≡ Some version → word ≡ format_word version
+unfolding version_of_word
+word_of_version word version e =
+    ⊎_elim (λ one. one.0 ∙ ap format_word (some_same _ _ one.1))
+    (λ other. ⊎_elim (λ two. two.0 ∙ ap format_word (some_same _ _ two.1)) (λ none. nothing version none) (by_word word (codes "format2") _ _ version other))
+    (by_word word (codes "format") _ _ version e)
+
+module _ (draws : Version → ValueParser) (takes : (version : Version) → TakesDraws (draws version)) where
+  single : (word : Text) (request : Request) → on_word word (codes "run") (Some Run) (on_word word (codes "check") (Some Check) (on_word word (codes "scrub") (Some Scrub) (on_word word (codes "wipe") (Some Wipe) (on_word word (codes "upgrade") (Some Upgrade) None)))) ≡ Some request
       → IsTaken draws (word ∷ [])
   single word request e =
       let taken = λ (name : Text) (is : word ≡ name) (so : IsTaken draws (name ∷ [])). subst (λ w. IsTaken draws (w ∷ [])) (sym is) so in
@@ -45,7 +55,9 @@ module _ (draws : ValueParser) (takes : TakesDraws draws) where
       (λ not_run. ⊎_elim (λ check. taken (codes "check") check.0 (check_taken draws))
       (λ not_check. ⊎_elim (λ scrub. taken (codes "scrub") scrub.0 (scrub_taken draws))
       (λ not_scrub. ⊎_elim (λ wipe. taken (codes "wipe") wipe.0 (wipe_taken draws))
+      (λ not_wipe. ⊎_elim (λ upgrade. taken (codes "upgrade") upgrade.0 (upgrade_taken draws))
       (λ none. nothing request none)
+      (by_word word (codes "upgrade") _ _ request not_wipe))
       (by_word word (codes "wipe") _ _ request not_scrub))
       (by_word word (codes "scrub") _ _ request not_check))
       (by_word word (codes "check") _ _ request not_run))
@@ -58,17 +70,17 @@ module _ (draws : ValueParser) (takes : TakesDraws draws) where
       big_taken draws number count (number_plain number first.value first.there) (range_plain 1 commands_limit second.value count second.there)
       (number_passes number 0 number_limit first.value first.there (le-leb 0 first.value (omega arith)) (number_limited number first.value first.there)) (range_passes 1 commands_limit second.value count second.there)
 
-  format : (slots height draw seed : Text) (request : Request)
-      → (number_in 1 slots_limit slots >>= λ n. number_in 1 height_limit height >>= λ h. kind_of_word draw >>= λ k. seed_of_word seed >>= λ s. Some (Format (record { slots = n; height = h; kind = k; seed = s; version = One }))) ≡ Some request
-      → IsTaken draws (codes "format" ∷ slots ∷ height ∷ draw ∷ seed ∷ [])
-  format slots height draw seed request e =
+  format : (version : Version) (slots height draw seed : Text) (request : Request)
+      → (number_in 1 slots_limit slots >>= λ n. number_in 1 height_limit height >>= λ h. kind_of_word draw >>= λ k. seed_of_word seed >>= λ s. Some (Format (record { slots = n; height = h; kind = k; seed = s; version = version }))) ≡ Some request
+      → IsTaken draws (format_word version ∷ slots ∷ height ∷ draw ∷ seed ∷ [])
+  format version slots height draw seed request e =
       let first = comes (number_in 1 slots_limit slots) _ request e in
       let second = comes (number_in 1 height_limit height) _ request first.then in
       let third = comes (kind_of_word draw) _ request second.then in
       let fourth = comes (seed_of_word seed) _ request third.then in
       let named = draw_names draw third.value third.there in
-      format_taken draws slots height draw seed (range_plain 1 slots_limit first.value slots first.there) (range_plain 1 height_limit second.value height second.there) (draw_plain draw named) (seed_plain seed fourth.value fourth.there)
-      (range_passes 1 slots_limit first.value slots first.there) (range_passes 1 height_limit second.value height second.there) (draw_passes draws draw takes named)
+      format_taken draws version slots height draw seed (range_plain 1 slots_limit first.value slots first.there) (range_plain 1 height_limit second.value height second.there) (draw_plain draw named) (seed_plain seed fourth.value fourth.there)
+      (range_passes 1 slots_limit first.value slots first.there) (range_passes 1 height_limit second.value height second.there) (draw_passes (draws version) draw (takes version) named)
 
   pub request_taken : (line : List Text) (request : Request) → request_of line ≡ Some request → IsTaken draws line
   unfolding request_of
@@ -79,7 +91,8 @@ module _ (draws : ValueParser) (takes : TakesDraws draws) where
       ⊎_elim (λ found. subst (λ (word : Text). IsTaken draws (word ∷ a ∷ b ∷ [])) (sym found.0) (big a b request found.1)) (λ none. nothing request none) (by_word w (codes "big") _ _ request e)
   request_taken (w ∷ a ∷ b ∷ c ∷ []) request e = nothing request e
   request_taken (w ∷ a ∷ b ∷ c ∷ d ∷ []) request e =
-      ⊎_elim (λ found. subst (λ (word : Text). IsTaken draws (word ∷ a ∷ b ∷ c ∷ d ∷ [])) (sym found.0) (format a b c d request found.1)) (λ none. nothing request none) (by_word w (codes "format") _ _ request e)
+      let version = comes (version_of_word w) _ request e in
+      subst (λ (word : Text). IsTaken draws (word ∷ a ∷ b ∷ c ∷ d ∷ [])) (sym (word_of_version w version.value version.there)) (format version.value a b c d request version.then)
   request_taken (w ∷ a ∷ b ∷ c ∷ d ∷ x ∷ rest) request e = nothing request e
 
 -- What `clap` answers to a line that asks for something.

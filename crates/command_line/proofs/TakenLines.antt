@@ -8,24 +8,26 @@ use Rattle.clap.specs.ValueTests.{accepts}
 use Rattle.clap.specs.Walk.{Text, Walk, answers_to, finished, first_of, idle, nothing_held, subcommand_met, walk, walked}
 use Rattle.clap.specs.declared.builder.value_parser.ValueParser.{ValueParser}
 use Rattle.clap.specs.declared.builder.value_parser.ValueParser.TheVariants as parsers
+use Rattle.store_model.specs.declared.version.Version.{Version}
+use Rattle.store_model.specs.declared.version.Version.TheVariants.{One, Two}
 use Rattle.store_model.specs.Grammar.{number_limit}
 use Rattle.store_model.specs.Parameters.{slots_limit, height_limit}
 use Rattle.store_model.specs.Words.{commands_limit}
-use Rattle.command_line.specs.Line.{HoldsLine, arguments_of, big_subcommand, format_subcommand, line_of, without_help}
+use Rattle.command_line.specs.Line.{HoldsLine, arguments_of, big_subcommand, format_arguments, format_subcommand, format_word, line_of, without_help}
 use Rattle.command_line.proofs.WalkLemmas.{all_true, is_plain, walk_at, next_walk, plain_walked, passes_next, passes_end, ends_well, level_by, stopped_at, stops, stopping_passes}
 
 -- a subcommand as building leaves it
 abbrev built_subcommand : Shape → Shape
-built_subcommand shape = built_leaf (inherited (with_leaf_noted (marked_built (line_of parsers.String).top)) shape)
+built_subcommand shape = built_leaf (inherited (with_leaf_noted (marked_built (line_of (λ version. parsers.String)).top)) shape)
 
 -- the line is taken, and the matches hold it
-pub record IsTaken (draws : ValueParser) (line : List Text) : Type 0 where
+pub record IsTaken (draws : Version → ValueParser) (line : List Text) : Type 0 where
   pub taken : takes (line_of draws) line ≡ true
   pub held : HoldsLine line (subcommand_of (line_of draws) line)
 
 -- ---- any subcommand
 
-module _ (draws : ValueParser) (name : Text) (shape : Shape) (rest : List Text)
+module _ (draws : Version → ValueParser) (name : Text) (shape : Shape) (rest : List Text)
     (met : subcommand_met (names_of (built (line_of draws))) idle name ≡ Some name)
     (no_help : bytes_eq name (codes "help") ≡ false)
     (found : find (λ s. answers_to name (label_of s)) (built (line_of draws)).subs ≡ Some (built_subcommand shape))
@@ -54,7 +56,7 @@ module _ (draws : ValueParser) (name : Text) (shape : Shape) (rest : List Text)
 
 -- ---- subcommands with no argument
 
-module _ (draws : ValueParser) (name : Text)
+module _ (draws : Version → ValueParser) (name : Text)
     (met : subcommand_met (names_of (built (line_of draws))) idle name ≡ Some name)
     (no_help : bytes_eq name (codes "help") ≡ false)
     (found : find (λ s. answers_to name (label_of s)) (built (line_of draws)).subs ≡ Some (built_subcommand (without_help name [])))
@@ -72,17 +74,20 @@ module _ (draws : ValueParser) (name : Text)
     };
   }
 
-pub run_taken : (draws : ValueParser) → IsTaken draws (codes "run" ∷ [])
+pub run_taken : (draws : Version → ValueParser) → IsTaken draws (codes "run" ∷ [])
 run_taken draws = single_taken draws (codes "run") refl refl refl refl
 
-pub check_taken : (draws : ValueParser) → IsTaken draws (codes "check" ∷ [])
+pub check_taken : (draws : Version → ValueParser) → IsTaken draws (codes "check" ∷ [])
 check_taken draws = single_taken draws (codes "check") refl refl refl refl
 
-pub scrub_taken : (draws : ValueParser) → IsTaken draws (codes "scrub" ∷ [])
+pub scrub_taken : (draws : Version → ValueParser) → IsTaken draws (codes "scrub" ∷ [])
 scrub_taken draws = single_taken draws (codes "scrub") refl refl refl refl
 
-pub wipe_taken : (draws : ValueParser) → IsTaken draws (codes "wipe" ∷ [])
+pub wipe_taken : (draws : Version → ValueParser) → IsTaken draws (codes "wipe" ∷ [])
 wipe_taken draws = single_taken draws (codes "wipe") refl refl refl refl
+
+pub upgrade_taken : (draws : Version → ValueParser) → IsTaken draws (codes "upgrade" ∷ [])
+upgrade_taken draws = single_taken draws (codes "upgrade") refl refl refl refl
 
 -- ---- `big`
 
@@ -94,7 +99,7 @@ Passes parser text = accepts false parser text ≡ true
 one_passes : (parser : ValueParser) (text : Text) → Passes parser text → (accepts false parser text && true) ≡ true
 one_passes parser text passes = ap (λ b. b && true) passes
 
-module _ (draws : ValueParser) (number count : Text) (number_plain : is_plain number ≡ true) (count_plain : is_plain count ≡ true)
+module _ (draws : Version → ValueParser) (number count : Text) (number_plain : is_plain number ≡ true) (count_plain : is_plain count ≡ true)
     (number_passes : Passes (parsers.Unsigned 0 number_limit) number) (count_passes : Passes (parsers.Unsigned 1 commands_limit) count) where
   abbrev big : Shape
   big = built_subcommand big_subcommand
@@ -127,13 +132,30 @@ module _ (draws : ValueParser) (number count : Text) (number_plain : is_plain nu
     };
   }
 
--- ---- `format`
+-- ---- `format` and `format2`
 
-module _ (draws : ValueParser) (slots height draw seed : Text)
+format_met : (draws : Version → ValueParser) (version : Version) → subcommand_met (names_of (built (line_of draws))) idle (format_word version) ≡ Some (format_word version)
+format_met draws One = refl
+format_met draws Two = refl
+
+format_no_help : (version : Version) → bytes_eq (format_word version) (codes "help") ≡ false
+format_no_help One = refl
+format_no_help Two = refl
+
+format_found : (draws : Version → ValueParser) (version : Version)
+    → find (λ s. answers_to (format_word version) (label_of s)) (built (line_of draws)).subs ≡ Some (built_subcommand (format_subcommand version (draws version)))
+format_found draws One = refl
+format_found draws Two = refl
+
+format_named : (version : Version) → arguments_of (format_word version) ≡ format_arguments
+format_named One = refl
+format_named Two = refl
+
+module _ (draws : Version → ValueParser) (version : Version) (slots height draw seed : Text)
     (slots_plain : is_plain slots ≡ true) (height_plain : is_plain height ≡ true) (draw_plain : is_plain draw ≡ true) (seed_plain : is_plain seed ≡ true)
-    (slots_passes : Passes (parsers.Unsigned 1 slots_limit) slots) (height_passes : Passes (parsers.Unsigned 1 height_limit) height) (draw_passes : Passes draws draw) where
+    (slots_passes : Passes (parsers.Unsigned 1 slots_limit) slots) (height_passes : Passes (parsers.Unsigned 1 height_limit) height) (draw_passes : Passes (draws version) draw) where
   abbrev format : Shape
-  format = built_subcommand (format_subcommand draws)
+  format = built_subcommand (format_subcommand version (draws version))
 
   abbrev behind_slots : Walk
   behind_slots = next_walk format.rules nothing_held 1 slots
@@ -159,18 +181,19 @@ module _ (draws : ValueParser) (slots height draw seed : Text)
       (passes_next format nothing_held 1 slots (height ∷ draw ∷ seed ∷ []) slots_plain refl
       (passes_next format behind_slots.held 2 height (draw ∷ seed ∷ []) height_plain (one_passes (parsers.Unsigned 1 slots_limit) slots slots_passes)
       (passes_next format behind_height.held 3 draw (seed ∷ []) draw_plain (one_passes (parsers.Unsigned 1 height_limit) height height_passes)
-      (passes_next format behind_draw.held 4 seed [] seed_plain (one_passes draws draw draw_passes) (passes_end format behind_seed)))))
+      (passes_next format behind_draw.held 4 seed [] seed_plain (one_passes (draws version) draw draw_passes) (passes_end format behind_seed)))))
       refl
 
-  pub format_taken : IsTaken draws (codes "format" ∷ slots ∷ height ∷ draw ∷ seed ∷ [])
+  pub format_taken : IsTaken draws (format_word version ∷ slots ∷ height ∷ draw ∷ seed ∷ [])
   format_taken = record {
-    taken = taken_by draws (codes "format") (format_subcommand draws) (slots ∷ height ∷ draw ∷ seed ∷ []) refl refl refl format_passes;
+    taken = taken_by draws (format_word version) (format_subcommand version (draws version)) (slots ∷ height ∷ draw ∷ seed ∷ []) (format_met draws version) (format_no_help version) (format_found draws version) format_passes;
     held = record {
-      subcommand = codes "format";
+      subcommand = format_word version;
       values = slots ∷ height ∷ draw ∷ seed ∷ [];
       rows = finished format.rules behind_seed.held;
       line_is = refl;
-      found_is = entered_by draws (codes "format") (format_subcommand draws) (slots ∷ height ∷ draw ∷ seed ∷ []) refl refl refl format_passes ∙ ap (λ (w : Walk). Some (codes "format", finished format.rules w.held)) format_walks;
-      values_are = refl;
+      found_is = entered_by draws (format_word version) (format_subcommand version (draws version)) (slots ∷ height ∷ draw ∷ seed ∷ []) (format_met draws version) (format_no_help version) (format_found draws version) format_passes
+          ∙ ap (λ (w : Walk). Some (format_word version, finished format.rules w.held)) format_walks;
+      values_are = ap (map (λ name. first_of name (finished format.rules behind_seed.held))) (format_named version);
     };
   }

@@ -8,6 +8,8 @@ use Rattle.clap.specs.declared.builder.command.Command.{Command}
 use Rattle.clap.specs.declared.builder.command.Command.TheViews.{out-Command}
 use Rattle.clap.specs.declared.builder.value_parser.ValueParser.{ValueParser}
 use Rattle.clap.specs.declared.builder.value_parser.ValueParser.TheVariants as parsers
+use Rattle.store_model.specs.declared.version.Version.{Version}
+use Rattle.store_model.specs.declared.version.Version.TheVariants.{One, Two}
 use Rattle.store_model.specs.Grammar.{number_limit}
 use Rattle.store_model.specs.Parameters.{slots_limit, height_limit}
 use Rattle.store_model.specs.Words.{commands_limit}
@@ -22,17 +24,25 @@ argument name parser = record (new_rule name) { required = true; parser = Some p
 abbrev pub without_help : Text → List Rule → Shape
 without_help name rules = record (new_shape name) { rules = rules; disable_help_flag = true }
 
--- the subcommands, where DRAW passes this parser
-abbrev pub format_subcommand : ValueParser → Shape
-format_subcommand draws = without_help (codes "format")
+-- the word that makes images of a version
+abbrev pub format_word : Version → Text
+format_word One = codes "format"
+format_word Two = codes "format2"
+
+-- the subcommand that makes them, where its DRAW passes this parser
+abbrev pub format_subcommand : Version → ValueParser → Shape
+format_subcommand version draws = without_help (format_word version)
     (argument (codes "SLOTS") (parsers.Unsigned 1 slots_limit) ∷ argument (codes "HEIGHT") (parsers.Unsigned 1 height_limit)
     ∷ argument (codes "DRAW") draws ∷ argument (codes "SEED") parsers.String ∷ [])
 
 abbrev pub big_subcommand : Shape
 big_subcommand = without_help (codes "big") (argument (codes "NUMBER") (parsers.Unsigned 0 number_limit) ∷ argument (codes "COUNT") (parsers.Unsigned 1 commands_limit) ∷ [])
 
-abbrev pub subcommands_of : ValueParser → List Shape
-subcommands_of draws = format_subcommand draws ∷ without_help (codes "run") [] ∷ without_help (codes "check") [] ∷ without_help (codes "scrub") [] ∷ without_help (codes "wipe") [] ∷ big_subcommand ∷ []
+-- the subcommands, by the parser of each DRAW
+abbrev pub subcommands_of : (Version → ValueParser) → List Shape
+subcommands_of draws =
+    format_subcommand One (draws One) ∷ format_subcommand Two (draws Two) ∷ without_help (codes "run") [] ∷ without_help (codes "check") [] ∷ without_help (codes "scrub") [] ∷ without_help (codes "wipe") []
+    ∷ without_help (codes "upgrade") [] ∷ big_subcommand ∷ []
 
 -- the command line with no subcommands: one is required, and the program's name is not among them
 abbrev pub without_subcommands : App
@@ -42,7 +52,7 @@ without_subcommands = record {
 }
 
 -- and the whole
-abbrev pub line_of : ValueParser → App
+abbrev pub line_of : (Version → ValueParser) → App
 line_of draws = record { top = record without_subcommands.top { is_leaf = false }; subs = subcommands_of draws }
 
 -- the parser takes the names of the draws, and nothing else
@@ -56,31 +66,37 @@ pub record IsSubcommand (shape : Shape) (command : Command) : Type 0 where
   pub subcommand_is : app_of command ≡ record { top = shape; subs = [] }
   pub local : (out-Command command).has_globals ≡ false
 
--- the command is the subcommand `format`
-pub record IsFormatSubcommand (command : Command) : Type 0 where
+-- the command is the subcommand that makes images of this version
+pub record IsFormatSubcommand (version : Version) (command : Command) : Type 0 where
   pub draws : ValueParser
   pub takes_draws : TakesDraws draws
-  pub subcommand : IsSubcommand (format_subcommand draws) command
+  pub subcommand : IsSubcommand (format_subcommand version draws) command
 
 -- the command is that of a subcommand
 abbrev pub IsSubcommandOf : Subcommand → Command → Type 0
-IsSubcommandOf subcommands.Format = IsFormatSubcommand
+IsSubcommandOf subcommands.Format = IsFormatSubcommand One
+IsSubcommandOf subcommands.Format2 = IsFormatSubcommand Two
 IsSubcommandOf subcommands.Run = IsSubcommand (without_help (codes "run") [])
 IsSubcommandOf subcommands.Check = IsSubcommand (without_help (codes "check") [])
 IsSubcommandOf subcommands.Scrub = IsSubcommand (without_help (codes "scrub") [])
 IsSubcommandOf subcommands.Wipe = IsSubcommand (without_help (codes "wipe") [])
+IsSubcommandOf subcommands.Upgrade = IsSubcommand (without_help (codes "upgrade") [])
 IsSubcommandOf subcommands.Big = IsSubcommand big_subcommand
 
 -- the command line is as it is defined here
 pub record IsLine (app : App) : Type 0 where
-  pub draws : ValueParser
-  pub takes_draws : TakesDraws draws
+  pub draws : Version → ValueParser
+  pub takes_draws : (version : Version) → TakesDraws (draws version)
   pub line_is : app ≡ line_of draws
 
 -- the names of the arguments of a subcommand
+abbrev pub format_arguments : List Text
+format_arguments = codes "SLOTS" ∷ codes "HEIGHT" ∷ codes "DRAW" ∷ codes "SEED" ∷ []
+
 abbrev pub arguments_of : Text → List Text
 arguments_of name =
-    if bytes_eq name (codes "format") then codes "SLOTS" ∷ codes "HEIGHT" ∷ codes "DRAW" ∷ codes "SEED" ∷ []
+    if bytes_eq name (codes "format") then format_arguments
+    else if bytes_eq name (codes "format2") then format_arguments
     else if bytes_eq name (codes "big") then codes "NUMBER" ∷ codes "COUNT" ∷ []
     else []
 

@@ -3,7 +3,8 @@ use Rattle.std.specs.Prelude.{◌≤◌, List, [], ◌∷◌, Option, Some, None
 use Rattle.clap.specs.Walk.{Text}
 use Rattle.store_model.specs.Parameters.{IsParameters, image_len}
 use Rattle.store_model.specs.Words.{Request, commands_limit}
-use Rattle.store_model.specs.Words.Request.{Format, Run, Check, Scrub, Wipe, Big}
+use Rattle.store_model.specs.Words.Request.{Format, Run, Check, Scrub, Wipe, Upgrade, Big}
+use Rattle.command_line.specs.Line.{format_word}
 use Rattle.command_line.specs.declared.request.Request as own
 use Rattle.command_line.specs.declared.request.Request.TheVariants as own_requests
 use Rattle.command_line.specs.declared.line_read.LineRead.{LineRead}
@@ -18,6 +19,7 @@ request_seen own_requests.Run = Run
 request_seen own_requests.Check = Check
 request_seen own_requests.Scrub = Scrub
 request_seen own_requests.Wipe = Wipe
+request_seen own_requests.Upgrade = Upgrade
 request_seen (own_requests.Big number count) = Big number count
 
 -- the parameters of a request, if it has some, are in range
@@ -27,21 +29,23 @@ IsInRange own_requests.Run = Unit {0}
 IsInRange own_requests.Check = Unit {0}
 IsInRange own_requests.Scrub = Unit {0}
 IsInRange own_requests.Wipe = Unit {0}
+IsInRange own_requests.Upgrade = Unit {0}
 IsInRange (own_requests.Big number count) = (1 ≤ count) × (count ≤ commands_limit)
 
 -- the words of a line that was read
 abbrev pub words_read : LineRead → List Text
-words_read (lines.Format slots height draw seed) = codes "format" ∷ slots.now ∷ height.now ∷ draw.now ∷ seed.now ∷ []
+words_read (lines.Format version slots height draw seed) = format_word version ∷ slots.now ∷ height.now ∷ draw.now ∷ seed.now ∷ []
 words_read (lines.Big number count) = codes "big" ∷ number.now ∷ count.now ∷ []
 words_read (lines.Single name) = name.now ∷ []
 
--- the file that a request needs: one that is there, or for `format` one of the image's length
+-- the file that a request needs: one that is there, or for a format one of the image's length
 abbrev pub wanted_by : Request → Wanted
 wanted_by (Format p) = Fresh (image_len p.slots)
 wanted_by Run = Existing
 wanted_by Check = Existing
 wanted_by Scrub = Existing
 wanted_by Wipe = Existing
+wanted_by Upgrade = Existing
 wanted_by (Big number count) = Existing
 
 abbrev pub wanted_of : Option Request → Wanted

@@ -45,8 +45,12 @@ impl Request {
     {
         match self {
             Request::Format(params) => Wanted::Fresh(image_len(params.slots())),
-            Request::Run | Request::Check | Request::Scrub | Request::Wipe | Request::Big(..) =>
-                Wanted::Existing,
+            Request::Run
+            | Request::Check
+            | Request::Scrub
+            | Request::Wipe
+            | Request::Upgrade
+            | Request::Big(..) => Wanted::Existing,
         }
     }
 
@@ -56,8 +60,12 @@ impl Request {
     {
         match self {
             Request::Check => Access::Reading,
-            Request::Format(_) | Request::Run | Request::Scrub | Request::Wipe | Request::Big(..) =>
-                Access::Writing,
+            Request::Format(_)
+            | Request::Run
+            | Request::Scrub
+            | Request::Wipe
+            | Request::Upgrade
+            | Request::Big(..) => Access::Writing,
         }
     }
 }

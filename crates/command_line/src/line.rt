@@ -8,7 +8,7 @@ ghost use Rattle.clap.specs.declared.builder.command.Command.TheViews.{out-Comma
 ghost use Rattle.command_line.specs.Building.{AddsArguments, AddsSubcommand, IsBuilt, rule_told};
 ghost use Rattle.command_line.specs.Line.{IsLine, IsSubcommandOf, without_help, without_subcommands};
 
-use self::Subcommand::{Big, Check, Format, Run, Scrub, Wipe};
+use self::Subcommand::{Big, Check, Format, Format2, Run, Scrub, Upgrade, Wipe};
 use clap::builder::ValueParser;
 use clap::{Arg, Command};
 use std::alloc::{AllocError, Global};
@@ -22,6 +22,8 @@ pub const MAX_COMMANDS: u32 = 1_000_000;
 pub enum Subcommand {
     /// `format SLOTS HEIGHT DRAW SEED`.
     Format,
+    /// `format2 SLOTS HEIGHT DRAW SEED`.
+    Format2,
     /// `run`.
     Run,
     /// `check`.
@@ -30,6 +32,8 @@ pub enum Subcommand {
     Scrub,
     /// `wipe`.
     Wipe,
+    /// `upgrade`.
+    Upgrade,
     /// `big NUMBER COUNT`.
     Big,
 }
@@ -41,7 +45,7 @@ struct Argument {
     parser: ValueParser<'static>,
 }
 
-/// The arguments of `format`.
+/// The arguments of `format` and `format2`.
 static FORMAT: [Argument; 4] = [
     Argument {
         name: "SLOTS",
@@ -80,7 +84,7 @@ static BIG: [Argument; 2] = [
 ];
 
 /// The subcommands, in the order of the help.
-static SUBCOMMANDS: [Subcommand; 6] = [Format, Run, Check, Scrub, Wipe, Big];
+static SUBCOMMANDS: [Subcommand; 8] = [Format, Format2, Run, Check, Scrub, Wipe, Upgrade, Big];
 
 /// What `clap` has as the argument, which is required and has one value, which passes the parser.
 fn arg_of<'a>(alloc: Global, argument: &'static Argument) -> Arg<'a>
@@ -134,12 +138,17 @@ fn subcommand_with<'a>(
 }
 
 /// What `format` does.
-const FORMAT_ABOUT: &str = "Makes an image with nothing in it.";
+const FORMAT_ABOUT: &str = "Makes an image of version 1 with nothing in it.";
 
-/// What is to be known of `format` besides.
+/// What `format2` does.
+const FORMAT2_ABOUT: &str = "Makes an image of version 2 with nothing in it.";
+
+/// What is to be known of `format` and `format2` besides.
 const FORMAT_NOTES: &str =
     "The file is made where there is none. One that is there must have just the length that SLOTS asks\n\
-    for, and must not begin as an image does: `wipe` readies it for a second `format`.";
+    for, and must not begin as an image does: `wipe` readies it for a second one.\n\
+    Version 2 keeps files of at most 200 bytes in less room, and an image of version 1 is made one by\n\
+    `upgrade`.";
 
 /// What `run` does.
 const RUN_ABOUT: &str = "Answers the script on standard input, with a reply for each line.";
@@ -167,7 +176,16 @@ const SCRUB_NOTES: &str = "It prints the line that `check` prints from then on.\
 const WIPE_ABOUT: &str = "Makes every byte of the file zero, whatever the file is.";
 
 /// What is to be known of `wipe` besides.
-const WIPE_NOTES: &str = "The file keeps its length, and `format` can make an image of it again.";
+const WIPE_NOTES: &str =
+    "The file keeps its length, and `format` or `format2` can make an image of it again.";
+
+/// What `upgrade` does.
+const UPGRADE_ABOUT: &str = "Makes an image of version 1 one of version 2.";
+
+/// What is to be known of `upgrade` besides.
+const UPGRADE_NOTES: &str =
+    "The image holds what it held, and none of its bytes tells that it was of version 1. It cannot be taken\n\
+    back. On an image of version 2 nothing is done.";
 
 /// What `big` does.
 const BIG_ABOUT: &str = "Carries out generated commands, and prints what came of them.";
@@ -183,10 +201,18 @@ pub fn command_of<'a>(alloc: Global, subcommand: Subcommand) -> Result<Command<'
 {
     match subcommand {
         Subcommand::Format => subcommand_with(alloc, "format", FORMAT_ABOUT, FORMAT_NOTES, &FORMAT),
+        Subcommand::Format2 => subcommand_with(
+            alloc,
+            "format2",
+            FORMAT2_ABOUT,
+            FORMAT_NOTES,
+            &FORMAT,
+        ),
         Subcommand::Run => subcommand_with(alloc, "run", RUN_ABOUT, RUN_NOTES, &[]),
         Subcommand::Check => subcommand_with(alloc, "check", CHECK_ABOUT, CHECK_NOTES, &[]),
         Subcommand::Scrub => subcommand_with(alloc, "scrub", SCRUB_ABOUT, SCRUB_NOTES, &[]),
         Subcommand::Wipe => subcommand_with(alloc, "wipe", WIPE_ABOUT, WIPE_NOTES, &[]),
+        Subcommand::Upgrade => subcommand_with(alloc, "upgrade", UPGRADE_ABOUT, UPGRADE_NOTES, &[]),
         Subcommand::Big => subcommand_with(alloc, "big", BIG_ABOUT, BIG_NOTES, &BIG),
     }
 }
@@ -201,7 +227,8 @@ fn without_subcommands<'a>(alloc: Global) -> Command<'a>
         "hstore",
         "Keeps directories and files in one file, the image. Its bytes tell what it holds now, and nothing of\n\
          what it held before or of how it came to be.",
-        "IMAGE is the path of the image's file. `format` makes the file; every other subcommand wants it there.\n\
+        "IMAGE is the path of the image's file. `format` and `format2` make the file; every other subcommand\n\
+         wants it there.\n\
          Numbers are decimal digits, with no sign and no leading zero.",
     )
     .subcommand_value_name("SUBCOMMAND")

@@ -7,17 +7,18 @@ ghost use Rattle.clap.specs.Matches.{found_of};
 ghost use Rattle.clap.specs.Simple.{subcommand_rows_of};
 ghost use Rattle.clap.specs.Walk.{first_of, rows_of};
 ghost use Rattle.store_model.specs.Words.{request_of};
-ghost use Rattle.command_line.specs.Line.{HoldsLine, arguments_of};
+ghost use Rattle.command_line.specs.Line.{HoldsLine, arguments_of, format_arguments, format_word};
 ghost use Rattle.command_line.specs.Requests.{request_seen, words_read, IsInRange};
 
 use crate::request::{Request, big_request, format_request, single_request};
 use clap::ArgMatches;
+use store_model::Version;
 
 /// A line as `clap` read it: a subcommand, and the value of each of its arguments.
 #[derive(Clone, Copy)]
 pub(crate) enum LineRead<'a> {
-    /// `format`, with the slots, the height, the draw and the seed.
-    Format(&'a str, &'a str, &'a str, &'a str),
+    /// `format` or `format2`, by the version, with the slots, the height, the draw and the seed.
+    Format(Version, &'a str, &'a str, &'a str, &'a str),
     /// `big`, with the number and the count.
     Big(&'a str, &'a str),
     /// A subcommand with no arguments, by its name.
@@ -38,22 +39,23 @@ impl<'a> LineRead<'a> {
     {
         let (name, given) = matches.subcommand()?;
         match name {
-            "format" => LineRead::of_format(given),
+            "format" => LineRead::of_format(Version::One, given),
+            "format2" => LineRead::of_format(Version::Two, given),
             "big" => LineRead::of_big(given),
             _ => Some(LineRead::Single(name)),
         }
     }
 
-    /// The line of a `format` with these values.
-    fn of_format(given: &ArgMatches<'a>) -> Option<LineRead<'a>>
-        ensures { (values : List (List ℕ)) → map (λ name. first_of name (rows_of (found_of given.now))) (arguments_of (codes "format")) ≡ map Some values
-            → option_map words_read result ≡ Some (codes "format" ∷ values) }
+    /// The line of a `format` or `format2` with these values.
+    fn of_format(version: Version, given: &ArgMatches<'a>) -> Option<LineRead<'a>>
+        ensures { (values : List (List ℕ)) → map (λ name. first_of name (rows_of (found_of given.now))) format_arguments ≡ map Some values
+            → option_map words_read result ≡ Some (format_word version ∷ values) }
     {
         let slots = value(given, "SLOTS")?;
         let height = value(given, "HEIGHT")?;
         let draw = value(given, "DRAW")?;
         let seed = value(given, "SEED")?;
-        Some(LineRead::Format(slots, height, draw, seed))
+        Some(LineRead::Format(version, slots, height, draw, seed))
     }
 
     /// The line of a `big` with these values.
@@ -71,9 +73,13 @@ impl<'a> LineRead<'a> {
         ensures { IsTrue result ↔ (map string_bytes words.now ≡ words_read self.entry) }
     {
         match self {
-            LineRead::Format(slots, height, draw, seed) => are(
+            LineRead::Format(Version::One, slots, height, draw, seed) => are(
                 words,
                 &["format", slots, height, draw, seed],
+            ),
+            LineRead::Format(Version::Two, slots, height, draw, seed) => are(
+                words,
+                &["format2", slots, height, draw, seed],
             ),
             LineRead::Big(number, count) => are(words, &["big", number, count]),
             LineRead::Single(name) => are(words, &[name]),
@@ -86,8 +92,8 @@ impl<'a> LineRead<'a> {
         ensures valid { IfSome result IsInRange }
     {
         match self {
-            LineRead::Format(slots, height, draw, seed) => format_request(
-                slots, height, draw, seed,
+            LineRead::Format(version, slots, height, draw, seed) => format_request(
+                version, slots, height, draw, seed,
             ),
             LineRead::Big(number, count) => big_request(number, count),
             LineRead::Single(name) => single_request(name),

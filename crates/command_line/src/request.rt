@@ -5,13 +5,14 @@ ghost use Rattle.std.specs.Option.{option_map};
 ghost use Rattle.store_model.specs.Parameters.{IsParameters};
 ghost use Rattle.store_model.specs.Words.{kind_of_word, request_of, seed_of_word};
 ghost use Rattle.store_model.specs.Words.Request.{Format};
+ghost use Rattle.command_line.specs.Line.{format_word};
 ghost use Rattle.command_line.specs.Requests.{request_seen, IsInRange};
 
 use crate::line::MAX_COMMANDS;
 use hex::FromHex;
 use script_lines::parse_number;
 use store_base::Params;
-use store_model::DrawKind;
+use store_model::{DrawKind, Version};
 
 /// What a command line asks for.
 #[derive(Clone, Copy, Debug)]
@@ -26,6 +27,8 @@ pub enum Request {
     Scrub,
     /// Makes every byte zero.
     Wipe,
+    /// Makes the image one of version 2.
+    Upgrade,
     /// Carries out generated commands: their number, which tells which they are, and how many, 1 to 1,000,000.
     Big(u32, u32),
 }
@@ -40,21 +43,34 @@ pub(crate) fn single_request(name: &str) -> Option<Request>
         "check" => Some(Request::Check),
         "scrub" => Some(Request::Scrub),
         "wipe" => Some(Request::Wipe),
+        "upgrade" => Some(Request::Upgrade),
         _ => None,
     }
 }
 
-/// What `format` asks for, by its arguments.
-pub(crate) fn format_request(slots: &str, height: &str, draw: &str, seed: &str) -> Option<Request>
-    ensures value { option_map request_seen result ≡ request_of (codes "format" ∷ slots.now ∷ height.now ∷ draw.now ∷ seed.now ∷ []) }
+/// What `format` or `format2` asks for, by the version of the images that it makes and by its arguments.
+pub(crate) fn format_request(
+    version: Version,
+    slots: &str,
+    height: &str,
+    draw: &str,
+    seed: &str,
+) -> Option<Request>
+    ensures value { option_map request_seen result ≡ request_of (format_word version ∷ slots.now ∷ height.now ∷ draw.now ∷ seed.now ∷ []) }
     ensures valid { IfSome result IsInRange }
 {
-    Some(Request::Format(params_of_values(slots, height, draw, seed)?))
+    Some(Request::Format(params_of_values(version, slots, height, draw, seed)?))
 }
 
-/// The parameters that these texts spell; `None` exactly where one of them spells nothing in its range.
-fn params_of_values(slots: &str, height: &str, draw: &str, seed: &str) -> Option<Params>
-    ensures value { option_map Format result ≡ request_of (codes "format" ∷ slots.now ∷ height.now ∷ draw.now ∷ seed.now ∷ []) }
+/// The parameters of this version that the texts spell; `None` exactly where one of them spells nothing in its range.
+fn params_of_values(
+    version: Version,
+    slots: &str,
+    height: &str,
+    draw: &str,
+    seed: &str,
+) -> Option<Params>
+    ensures value { option_map Format result ≡ request_of (format_word version ∷ slots.now ∷ height.now ∷ draw.now ∷ seed.now ∷ []) }
     ensures valid { IfSome result IsParameters }
 {
     let slots = parse_number(slots.as_bytes())?;
@@ -62,7 +78,8 @@ fn params_of_values(slots: &str, height: &str, draw: &str, seed: &str) -> Option
     let height = u8::try_from(height).ok()?;
     let kind = draw_kind(draw)?;
     let seed = seed_of(seed)?;
-    Params::new(slots, height, kind, seed).ok()
+    let params = Params::new(slots, height, kind, seed).ok()?;
+    Some(params.with_version(version))
 }
 
 /// The draw that a word names.

@@ -3,7 +3,6 @@ use Rattle.std.proofs.Common.{◌≡◌, ◌⊎◌, ℕ, zero, suc, ◌+◌, ◌
 use Rattle.std.specs.List.{AllByRecursion}
 use Rattle.std.proofs.lemmas.List.{take_at, drop_at, drop-drop, length-replicate}
 use Rattle.std.proofs.lemmas.Option.{same_Some, slice_get-get_or}
-use Rattle.store_model.specs.declared.version.Version.TheVariants.{One}
 use Rattle.store_model.specs.Lists.{zeros}
 use Rattle.store_model.specs.Parameters.{Parameters, IsParameters, table_at, image_len}
 use Rattle.store_model.specs.Trees.{Tree, IsTree}
@@ -108,23 +107,23 @@ slots-represent image t p names long tree fits has = record {
 }
 
 -- an image of that length that recovers to the layout of a tree represents it
-pub recovered-represents : (image : List ℕ) (t : Tree) (p : Parameters) → IsParameters p → p.version ≡ One → IsTree t → Fits t p → length image ≡ image_len p.slots → recovered p.slots image ≡ layout t p → Represents image t p
-recovered-represents image t p valid one tree fits long is = record {
-  names = record { in_range = valid; header_is = sym (take-recovered p.slots image long) ∙ ap (take 4096) is ∙ header-layout t p valid; served = one };
+pub recovered-represents : (image : List ℕ) (t : Tree) (p : Parameters) → IsParameters p → IsTree t → Fits t p → length image ≡ image_len p.slots → recovered p.slots image ≡ layout t p → Represents image t p
+recovered-represents image t p valid tree fits long is = record {
+  names = record { in_range = valid; header_is = sym (take-recovered p.slots image long) ∙ ap (take 4096) is ∙ header-layout t p valid };
   length_is = long;
   tree = tree;
   fits = fits;
   layout_is = is;
 }
 
-module _ (t u : Tree) (p : Parameters) (valid : IsParameters p) (one : p.version ≡ One) (tree : IsTree t) (other : IsTree u) (fits : Fits t p) (other_fits : Fits u p) where
+module _ (t u : Tree) (p : Parameters) (valid : IsParameters p) (tree : IsTree t) (other : IsTree u) (fits : Fits t p) (other_fits : Fits u p) where
   -- what recovers to the one layout or to the other represents the one tree or the other
   pub either-represents : (image : List ℕ) → RecoversToEither p.slots (layout t p) (layout u p) image → Represents image t p ⊎ Represents image u p
   either-represents image either =
       let long : length image ≡ image_len p.slots = either.same_length ∙ length-layout t p valid tree fits in
       elim either.recovers [
-        | inl old ↦ inl (recovered-represents image t p valid one tree fits long old)
-        | inr new ↦ inr (recovered-represents image u p valid one other other_fits long new)
+        | inl old ↦ inl (recovered-represents image t p valid tree fits long old)
+        | inr new ↦ inr (recovered-represents image u p valid other other_fits long new)
       ]
 
   module _ (changes : Changes) (are : AreChanges p.slots changes) where
@@ -174,4 +173,4 @@ module _ (t u : Tree) (p : Parameters) (valid : IsParameters p) (one : p.version
 -- what recovers as an image that represents a tree represents it too
 pub recovers-represents : (old image : List ℕ) (t : Tree) (p : Parameters) → Represents old t p → RecoversAs p.slots old image → Represents image t p
 recovers-represents old image t p represents alike =
-    recovered-represents image t p represents.names.in_range represents.names.served represents.tree represents.fits (alike.same_length ∙ represents.length_is) (alike.recovers ∙ represents.layout_is)
+    recovered-represents image t p represents.names.in_range represents.tree represents.fits (alike.same_length ∙ represents.length_is) (alike.recovers ∙ represents.layout_is)

@@ -6,7 +6,7 @@ use Rattle.std.proofs.lemmas.List.{drop-set-add, take-set-le}
 use Rattle.store_model.specs.Lists.{zero_filled}
 use Rattle.store_model.specs.Parameters.{Parameters, IsParameters, mark_at, image_len}
 use Rattle.store_model.specs.Images.{header, is_flag_set, is_marked, viewed_header}
-use Rattle.gate_journal.specs.Headers.{as_read, HasHeader}
+use Rattle.gate_journal.specs.Headers.{as_read, IsImageWith}
 use Rattle.gate_journal.proofs.Areas.{marks_end, shadow_end, table_end}
 
 -- the version's byte does not lie in the number of slots
@@ -32,10 +32,10 @@ viewed_as_read slots image = refl
 
 module _ (image block : List ℕ) (read : block ≡ take 4096 image) (p : Parameters) where
   -- an image with the header of these parameters names their slots
-  pub named_by_header : HasHeader image p → from_be_bytes w32 (take 4 (drop 8 block)) ≡ p.slots
+  pub named_by_header : IsImageWith image p → from_be_bytes w32 (take 4 (drop 8 block)) ≡ p.slots
   named_by_header has =
-      slots_named p (is_flag_set image && is_marked image p.slots) block has.in_range
-      (sym has.header_is ∙ viewed_as_read p.slots image ∙ ap (as_read (is_flag_set image && is_marked image p.slots)) (sym read))
+      slots_named p (is_flag_set image && is_marked image p.slots) block has.names.in_range
+      (sym has.names.header_is ∙ viewed_as_read p.slots image ∙ ap (as_read (is_flag_set image && is_marked image p.slots)) (sym read))
 
   module _ (slots : ℕ) (marked : Bool) (slots_is : slots ≡ p.slots) (marked_is : marked ≡ (is_flag_set image && is_marked image slots)) where
     block_as_read : as_read marked block ≡ viewed_header p.slots image
@@ -44,12 +44,12 @@ module _ (image block : List ℕ) (read : block ≡ take 4096 image) (p : Parame
         ∙ ap (λ (n : ℕ). as_read (is_flag_set image && is_marked image n) (take 4096 image)) slots_is ∙ sym (viewed_as_read p.slots image)
 
     -- the header that was read is the image's
-    pub header_found : IsParameters p → header p ≡ as_read marked block → length image ≡ image_len p.slots → HasHeader image p
-    header_found valid is long = record { in_range = valid; header_is = sym (is ∙ block_as_read); length_is = long }
+    pub header_found : IsParameters p → header p ≡ as_read marked block → length image ≡ image_len p.slots → IsImageWith image p
+    header_found valid is long = record { names = record { in_range = valid; header_is = sym (is ∙ block_as_read) }; length_is = long }
 
     -- and no other
-    pub header_read : HasHeader image p → header p ≡ as_read marked block
-    header_read has = sym (block_as_read ∙ has.header_is)
+    pub header_read : IsImageWith image p → header p ≡ as_read marked block
+    header_read has = sym (block_as_read ∙ has.names.header_is)
 
 -- a disk of an image's length has a header at least, a flag and a mark behind the last slot's
 pub header_end : (slots : ℕ) → 4096 ≤ image_len slots

@@ -18,7 +18,8 @@ use Rattle.layout_conditions.specs.Layouts.{HaveLayout}
 use Rattle.layout_conditions.specs.Conditions.{MeetConditions}
 use Rattle.layout_conditions.proofs.LawLemmas.{layout_meets, conditions_tell}
 use Rattle.image_check.specs.Contents.{AreContents}
-use Rattle.image_check.specs.Verdicts.{clean_of, HasParameters, IsDamaged, IsVerdict}
+use Rattle.gate_journal.specs.Headers.{HasParameters}
+use Rattle.image_check.specs.Verdicts.{clean_of, IsDamaged, IsVerdict}
 use Rattle.image_check.specs.SlotCalls.{AreFound, FindsContents, contents_in, verdict_in}
 use Rattle.image_check.specs.ImageCalls.{HasImage, IsFoundOn, FindsImage, ChecksImage}
 use Rattle.image_check.proofs.Images.{slots_in, one_name, represents_tree, represented_layout}

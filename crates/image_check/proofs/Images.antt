@@ -15,7 +15,7 @@ use Rattle.store_model.proofs.PlacementLemmas.{length-place}
 use Rattle.store_model.proofs.TreesLemmasBytes.{viewed_headers_same}
 use Rattle.gate_journal.proofs.Layouts.{represented-slots, slots-represent}
 use Rattle.layout_conditions.specs.Layouts.{table_of_tree, HaveLayout}
-use Rattle.image_check.specs.Verdicts.{IsImageWith}
+use Rattle.gate_journal.specs.Headers.{IsImageWith}
 
 -- the slots that recovery would leave
 abbrev pub slots_in : ℕ → List ℕ → List (List ℕ)

@@ -14,7 +14,8 @@ use Rattle.image_check.specs.declared.fault.AttachFault.TheVariants as attach
 use Rattle.image_check.specs.declared.verdict.Verdict.{Verdict}
 use Rattle.image_check.specs.Contents.{AreContents}
 use Rattle.image_check.specs.SlotCalls.{verdict_in}
-use Rattle.image_check.specs.Verdicts.{clean_of, IsVerdict, IsNoImage, IsDamaged, HasParameters}
+use Rattle.gate_journal.specs.Headers.{HasParameters}
+use Rattle.image_check.specs.Verdicts.{clean_of, IsVerdict, IsNoImage, IsDamaged}
 
 -- Reads of a disk, of which the first that fails is the last: nothing is written or synced, and nothing is pending but
 -- what was. The count of faults is one more after a fault of the disk, and else the same; no count falls.

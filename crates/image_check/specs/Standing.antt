@@ -1,6 +1,5 @@
 -- Trees that fit, and disks that read their layouts.
 use Rattle.std.specs.Prelude.{◌≡◌}
-use Rattle.store_model.specs.declared.version.Version.TheVariants.{One}
 use Rattle.store_model.specs.Parameters.{Parameters, IsParameters}
 use Rattle.store_model.specs.Trees.{Tree, IsTree}
 use Rattle.store_model.specs.Pages.{Fits}
@@ -10,8 +9,6 @@ use Rattle.disk_model.specs.DiskState.{DiskState, IsDurable}
 -- a tree whose pages are no more than the slots, under parameters in their range
 pub record IsFitting (t : Tree) (p : Parameters) : Type 0 where
   pub in_range : IsParameters p
-  -- as long as not every subcommand serves version 2; it goes with that of `NamesParameters`
-  pub served : p.version ≡ One
   pub tree : IsTree t
   pub fits : Fits t p
 

@@ -1,11 +1,11 @@
 -- Verdicts on slots and on images.
-use Rattle.std.specs.Prelude.{◌≡◌, ℕ, List, length}
-use Rattle.store_model.specs.declared.version.Version.TheVariants.{One}
-use Rattle.store_model.specs.Parameters.{Parameters, IsParameters, image_len}
+use Rattle.std.specs.Prelude.{◌≡◌, ℕ, List}
+use Rattle.store_model.specs.Parameters.{Parameters}
 use Rattle.store_model.specs.Trees.{Tree}
 use Rattle.store_model.specs.Pages.{page_count}
-use Rattle.store_model.specs.Images.{NamesParameters, Represents}
+use Rattle.store_model.specs.Images.{Represents}
 use Rattle.disk_model.specs.DiskState.{DiskState, IsObservable}
+use Rattle.gate_journal.specs.Headers.{IsImageWith, HasParameters}
 use Rattle.layout_conditions.specs.Conditions.{MeetConditions}
 use Rattle.tree_reader.specs.Counts.{count_dirs, count_files, count_bytes}
 use Rattle.image_check.specs.declared.verdict.Verdict.{Verdict}
@@ -26,19 +26,6 @@ abbrev pub IsSlotsVerdict : List (List ℕ) → Parameters → Verdict → Type 
 IsSlotsVerdict slots p (verdicts.Clean pages dirs files bytes) = AreCleanSlots slots p (verdicts.Clean pages dirs files bytes)
 IsSlotsVerdict slots p verdicts.NotImage = ⊥
 IsSlotsVerdict slots p verdicts.Damaged = MeetConditions slots p → ⊥
-
--- the image's header names these parameters, and the image has their length
-pub record IsImageWith (image : List ℕ) (p : Parameters) : Type 0 where
-  pub names : NamesParameters image p
-  pub length_is : length image ≡ image_len p.slots
-
--- the disk has the length of an image with these parameters, and an observable one is such an image
-pub record HasParameters (disk : DiskState) (p : Parameters) : Type 0 where
-  pub in_range : IsParameters p
-  -- as long as not every subcommand serves version 2; it goes with that of `NamesParameters`
-  pub served : p.version ≡ One
-  pub size_is : disk.size ≡ image_len p.slots
-  pub named : IsObservable disk → IsImageWith disk.bytes p
 
 -- an observable disk is no image
 abbrev pub IsNoImage : DiskState → Type 0

@@ -4,11 +4,10 @@ ghost use Rattle.image_check.specs.ImageCalls.{FindsImage, ChecksImage};
 
 use crate::contents::Contents;
 use crate::fault::AttachFault;
-use crate::header::read_params;
 use crate::slots::find_contents;
 use crate::verdict::{Verdict, contents_of, verdict_of};
 use disk_model::Disk;
-use gate_journal::View;
+use gate_journal::{Journal, View};
 use store_base::Fault;
 
 /// What a disk holds as recovery would leave it; the disk is only read, and handed back. `NotImage` is the answer to a
@@ -17,7 +16,7 @@ use store_base::Fault;
 pub fn find_image<D: Disk>(mut disk: D) -> (D, Result<Contents, AttachFault>)
     ensures { FindsImage (D.state disk) (D.state result.0) result.1 }
 {
-    let params = match read_params(&mut disk) {
+    let params = match Journal::view_header(&mut disk) {
         Ok(Some(params)) => params,
         Ok(None) => return (disk, Err(AttachFault::NotImage)),
         Err(fault) => return (disk, Err(fault.into())),

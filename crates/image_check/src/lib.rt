@@ -8,7 +8,6 @@
 
 mod contents;
 mod fault;
-mod header;
 mod image;
 mod pairs;
 mod slots;
@@ -16,7 +15,6 @@ mod verdict;
 
 pub use contents::Contents;
 pub use fault::{ApplyFault, AttachFault};
-pub use header::read_params;
 pub use image::{check, find_image};
 pub use slots::{check_slots, find_contents};
 pub use tree_reader::Counts;

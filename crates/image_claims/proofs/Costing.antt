@@ -33,20 +33,20 @@ use Rattle.image_claims.proofs.EndingLemmas.{is_judged}
 
 -- ---- counts
 
-just : (writes syncs : ℕ) (old new : DiskState) → Made writes syncs old new → MakesJust writes syncs old new
+pub just : (writes syncs : ℕ) (old new : DiskState) → Made writes syncs old new → MakesJust writes syncs old new
 just writes syncs old new made = record {
   writes_are = λ low. let is = made.write_count in omega arith;
   syncs_are = λ low. let is = made.sync_count in omega arith;
 }
 
-at_most : (writes syncs : ℕ) (old new : DiskState) → MadeAtMost writes syncs old new → MakesAtMost writes syncs old new
+pub at_most : (writes syncs : ℕ) (old new : DiskState) → MadeAtMost writes syncs old new → MakesAtMost writes syncs old new
 at_most writes syncs old new made = record {
   write_limit = λ low. let is = made.write_limit in omega arith;
   sync_limit = λ low. let is = made.sync_limit in omega arith;
 }
 
 -- with one status
-with_one : (expected status : Status) → IsOneOf status (expected ∷ []) → status ≡ expected
+pub with_one : (expected status : Status) → IsOneOf status (expected ∷ []) → status ≡ expected
 with_one expected status is = ⊎_elim (λ e. e) (λ none. absurd none) is
 
 -- ---- making, wiping and checking

@@ -66,7 +66,6 @@ scrubs_alike old image t p to same =
         names = record {
           in_range = to.image_is.names.in_range;
           header_is = sym (take-scrubbed p.slots image long) ∙ ap (take 4096) same.scrubs ∙ take-scrubbed p.slots old to.image_is.length_is ∙ to.image_is.names.header_is;
-          served = to.image_is.names.served;
         };
         length_is = long;
       };

@@ -2,10 +2,10 @@
 use Rattle.std.proofs.Common.{◌≡◌, ◌⊎◌, List, [], ◌∷◌, ℕ, false, IsTrue, refl, sym, subst, ◌∙◌, inl, inr, ⊎_elim}
 use Rattle.std.specs.List.{AllByRecursion}
 use Rattle.std.proofs.lemmas.Bool.{false≢true}
-use Rattle.store_model.specs.Words.Request.{Run, Check, Scrub, Wipe}
+use Rattle.store_model.specs.Words.Request.{Run, Check, Scrub, Wipe, Upgrade}
 use Rattle.image_subcommands.specs.declared.status.Status.{Status}
 use Rattle.image_subcommands.specs.declared.status.Status.TheVariants.{Done, Usage, SourceFault, SinkFault, DiskFault, TooLong, NotImage, Damaged, NoMemory, AlreadyImage, WrongLength}
-use Rattle.image_subcommands.specs.Statuses.{row, IsFormatStatus, IsRunStatus, IsCheckStatus, IsScrubStatus, IsWipeStatus, IsBigStatus, IsJudged, IsRefusedImage, IsRefusedDisk, IsPastHeader, IsSummed, IsBetweenLines, MayComeFirst, done_of_work, done_of_verdict}
+use Rattle.image_subcommands.specs.Statuses.{row, IsFormatStatus, IsRunStatus, IsCheckStatus, IsScrubStatus, IsWipeStatus, IsUpgradeStatus, IsBigStatus, IsJudged, IsRefusedImage, IsRefusedDisk, IsPastHeader, IsSummed, IsBetweenLines, MayComeFirst, done_of_work, done_of_verdict}
 use Rattle.image_subcommands.specs.Reports.{IsUnreported}
 use Rattle.image_claims.specs.Endings.{IsOneOf, CountsOne, number, endings}
 
@@ -86,6 +86,20 @@ wipe_ends NoMemory h = inr (inr (inl refl))
 wipe_ends AlreadyImage h = absurd (false≢true h)
 wipe_ends WrongLength h = absurd (false≢true h)
 
+-- how `upgrade` may end
+pub upgrade_ends : (status : Status) → IsUpgradeStatus status → IsOneOf status (endings Upgrade)
+upgrade_ends Done h = inl refl
+upgrade_ends Usage h = absurd (false≢true h)
+upgrade_ends SourceFault h = absurd (false≢true h)
+upgrade_ends SinkFault h = absurd (false≢true h)
+upgrade_ends DiskFault h = inr (inl refl)
+upgrade_ends TooLong h = absurd (false≢true h)
+upgrade_ends NotImage h = inr (inr (inl refl))
+upgrade_ends Damaged h = inr (inr (inr (inl refl)))
+upgrade_ends NoMemory h = inr (inr (inr (inr (inl refl))))
+upgrade_ends AlreadyImage h = absurd (false≢true h)
+upgrade_ends WrongLength h = absurd (false≢true h)
+
 -- how `big` may end
 pub big_ends : (status : Status) → IsBigStatus status → IsOneOf status (Done ∷ SinkFault ∷ DiskFault ∷ NotImage ∷ Damaged ∷ NoMemory ∷ [])
 big_ends Done h = inl refl
@@ -141,6 +155,9 @@ may_end_scrub status is = one_of IsScrubStatus (Done ∷ SinkFault ∷ DiskFault
 
 pub may_end_wipe : (status : Status) → IsOneOf status (Done ∷ DiskFault ∷ NoMemory ∷ []) → IsWipeStatus status
 may_end_wipe status is = one_of IsWipeStatus (Done ∷ DiskFault ∷ NoMemory ∷ []) (refl, (refl, (refl, tt))) status is
+
+pub may_end_upgrade : (status : Status) → IsOneOf status (Done ∷ DiskFault ∷ NotImage ∷ Damaged ∷ NoMemory ∷ []) → IsUpgradeStatus status
+may_end_upgrade status is = one_of IsUpgradeStatus (Done ∷ DiskFault ∷ NotImage ∷ Damaged ∷ NoMemory ∷ []) (refl, (refl, (refl, (refl, (refl, tt))))) status is
 
 pub may_end_big : (status : Status) → IsOneOf status (Done ∷ SinkFault ∷ DiskFault ∷ NotImage ∷ Damaged ∷ NoMemory ∷ []) → IsBigStatus status
 may_end_big status is = one_of IsBigStatus (Done ∷ SinkFault ∷ DiskFault ∷ NotImage ∷ Damaged ∷ NoMemory ∷ []) (refl, (refl, (refl, (refl, (refl, (refl, tt)))))) status is

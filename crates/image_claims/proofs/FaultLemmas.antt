@@ -1,7 +1,7 @@
 -- Which failed call a status tells, and when a call is done.
-use Rattle.std.proofs.Common.{◌≡◌, ◌⊎◌, ℕ, [], ◌∷◌, refl, inl, inr, ⊎_elim}
+use Rattle.std.proofs.Common.{◌≡◌, ◌∙◌, ◌⊎◌, ℕ, [], ◌∷◌, refl, ap, inl, inr, ⊎_elim}
 use Rattle.store_model.specs.Parameters.{Parameters}
-use Rattle.store_model.specs.Words.Request.{Format, Run, Check, Scrub, Wipe, Big}
+use Rattle.store_model.specs.Words.Request.{Format, Run, Check, Scrub, Wipe, Upgrade, Big}
 use Rattle.store_model.specs.Trees.{Tree}
 use Rattle.store_model.specs.Images.{Represents}
 use Rattle.disk_model.specs.DiskState.{DiskState, IsObservable}
@@ -15,10 +15,11 @@ use Rattle.image_subcommands.specs.CheckCall.{IsCheck}
 use Rattle.image_subcommands.specs.FormatCall.{IsFormat}
 use Rattle.image_subcommands.specs.Outside.{Outside, KeepsOutside}
 use Rattle.image_subcommands.specs.ScrubCall.{IsScrub}
-use Rattle.image_subcommands.specs.Statuses.{disk_faults_by, source_faults_by, sink_faults_by}
+use Rattle.image_subcommands.specs.Statuses.{disk_faults_by, source_faults_by, sink_faults_by, done_of_work}
 use Rattle.image_subcommands.specs.WipeCall.{IsWipe}
 use Rattle.store_top.specs.BigCall.{IsBig}
 use Rattle.store_top.specs.RunCall.{IsRun}
+use Rattle.store_top.specs.UpgradeCall.{IsUpgrade}
 use Rattle.image_claims.specs.Endings.{IsOneOf}
 use Rattle.image_claims.specs.Faults.{CountsFault, FailsByStatus, IsDoneOrLacks, DoesWhatCanBeDone, RefusesLength, RefusesImage}
 use Rattle.image_claims.proofs.EndingLemmas.{is_past_header, is_refused_image, is_refused_and_summed}
@@ -117,6 +118,12 @@ module _ {D R W : Type 0} (disk_of : D → DiskState) (source_of : R → SourceS
     lines = λ can none. tt;
   }
 
+  pub upgrade_done : IsUpgrade disk_of before after → DoesWhatCanBeDone Upgrade after.status after.done (disk_of before.disk) (disk_of after.disk) (source_of before.source) (source_of after.source) (sink_of before.sink) (sink_of after.sink)
+  upgrade_done is = record {
+    done_or_lacks = λ can none. done_or_lacks after.status (((is.observed can.0).upgrades can.1.0 can.1.1 can.1.2).complete none.disk_well);
+    lines = λ can none. tt;
+  }
+
   pub big_done : (number count : ℕ) → IsBig disk_of sink_of number count before after → DoesWhatCanBeDone (Big number count) after.status after.done (disk_of before.disk) (disk_of after.disk) (source_of before.source) (source_of after.source) (sink_of before.sink) (sink_of after.sink)
   big_done number count is = record {
     done_or_lacks = λ can none. done_or_lacks after.status (((is.observed can.0).runs can.1.0 can.1.1 can.1.2).complete none.disk_well none.sink_well);
@@ -131,6 +138,12 @@ no_tree_there : (status : Status) (disk : DiskState) → IsObservable disk → I
 no_tree_there status disk told (inl e) none broken t p is = none e told p (record { names = is.names; length_is = is.length_is })
 no_tree_there status disk told (inr (inl e)) none broken t p is = (broken e).no_tree told t p is
 no_tree_there status disk told (inr (inr never)) none broken t p is = absurd never
+
+-- such an image counts as no piece of work
+none_where_refused : (status : Status) → IsOneOf status (NotImage ∷ Damaged ∷ []) → done_of_work status ≡ 0
+none_where_refused status (inl e) = ap done_of_work e
+none_where_refused status (inr (inl e)) = ap done_of_work e
+none_where_refused status (inr (inr never)) = absurd never
 
 module _ {D R W : Type 0} (disk_of : D → DiskState) (before : Outside D R W) (after : Outcome D R W) where
   pub format_lengths : (p : Parameters) → IsFormat disk_of p before after → RefusesLength p after.status (disk_of before.disk)
@@ -147,6 +160,17 @@ module _ {D R W : Type 0} (disk_of : D → DiskState) (before : Outside D R W) (
     unwritten = λ so told.
         let runs = is.observed told in
         (runs.nothing (no_tree_there after.status (disk_of before.disk) told so runs.not_image.only runs.damaged.only)).synced;
+    length_is = λ so. let named = is.named (is_past_header after.status so) in (named.0, named.1.in_range, named.1.size_is);
+  }
+
+  pub upgrade_refuses : IsUpgrade disk_of before after → RefusesImage after.status after.done (disk_of before.disk) (disk_of after.disk) before.source after.source before.sink after.sink
+  upgrade_refuses is = record {
+    done_is = λ so. is.done ∙ none_where_refused after.status so;
+    source_is = λ so. is.source;
+    sink_is = λ so. is.sink;
+    unwritten = λ so told.
+        let upgrades = is.observed told in
+        (upgrades.nothing (no_tree_there after.status (disk_of before.disk) told so upgrades.not_image.only upgrades.damaged.only)).synced;
     length_is = λ so. let named = is.named (is_past_header after.status so) in (named.0, named.1.in_range, named.1.size_is);
   }
 

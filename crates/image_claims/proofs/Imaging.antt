@@ -79,7 +79,7 @@ module _ (disk : DiskState) (told : IsObservable disk) (sound : IsSound disk) wh
   from_broken : IsBroken (ScrubsTo disk.bytes) disk.bytes → IsBeyondScrubbing disk
   from_broken is = record {
     params = is.image.0;
-    has_parameters = record { in_range = is.image.1.names.in_range; served = is.image.1.names.served; size_is = sym sound.size ∙ is.image.1.length_is; named = λ observable. is.image.1 };
+    has_parameters = record { in_range = is.image.1.names.in_range; size_is = sym sound.size ∙ is.image.1.length_is; named = λ observable. is.image.1 };
     no_tree = λ observable. is.none;
   }
 

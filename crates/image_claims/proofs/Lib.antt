@@ -7,4 +7,5 @@ pub mod Imaging
 pub mod MachineLemmas
 pub mod MadeTrees
 pub mod RequestLemmas
+pub mod Upgrading
 pub mod WordLemmas

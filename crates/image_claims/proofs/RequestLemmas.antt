@@ -1,7 +1,7 @@
 -- What holds of a call with any well-formed words: how it ends, what it counts, and when it is done.
 use Rattle.std.proofs.Common.{◌≡◌, ℕ, List, Some, None}
 use Rattle.store_model.specs.Words.{Request, request_of}
-use Rattle.store_model.specs.Words.Request.{Format, Run, Check, Scrub, Wipe, Big}
+use Rattle.store_model.specs.Words.Request.{Format, Run, Check, Scrub, Wipe, Upgrade, Big}
 use Rattle.disk_model.specs.DiskState.{DiskState}
 use Rattle.script_lines.specs.SourceState.{SourceState}
 use Rattle.script_lines.specs.SinkState.{SinkState}
@@ -10,9 +10,9 @@ use Rattle.image_subcommands.specs.declared.status.Status.TheVariants.{Usage}
 use Rattle.image_subcommands.specs.Outside.{Outside}
 use Rattle.script_claims.specs.Serving.{Serves}
 use Rattle.image_claims.specs.Endings.{IsOneOf, endings, CountsWork, DoesNothing}
-use Rattle.image_claims.specs.Faults.{FailsByStatus, DoesWhatCanBeDone, TakesCommands, RefusesImage}
-use Rattle.image_claims.proofs.EndingLemmas.{format_ends, run_ends, check_ends, scrub_ends, wipe_ends, big_ends, counts_work, counts_verdict}
-use Rattle.image_claims.proofs.FaultLemmas.{fails_by_status, format_done, run_done, check_done, scrub_done, wipe_done, big_done, run_refuses, big_refuses}
+use Rattle.image_claims.specs.Faults.{FailsByStatus, DoesWhatCanBeDone, OpensStore, RefusesImage}
+use Rattle.image_claims.proofs.EndingLemmas.{format_ends, run_ends, check_ends, scrub_ends, wipe_ends, upgrade_ends, big_ends, counts_work, counts_verdict}
+use Rattle.image_claims.proofs.FaultLemmas.{fails_by_status, format_done, run_done, check_done, scrub_done, wipe_done, upgrade_done, big_done, run_refuses, upgrade_refuses, big_refuses}
 use Rattle.image_claims.proofs.WordLemmas.{unserved_words}
 
 module _ {D R W : Type 0} (disk_of : D → DiskState) (source_of : R → SourceState) (sink_of : W → SinkState) (words : List (List ℕ)) (before : Outside D R W) (after : Outcome D R W) (serves : Serves disk_of source_of sink_of words before after) where
@@ -22,6 +22,7 @@ module _ {D R W : Type 0} (disk_of : D → DiskState) (source_of : R → SourceS
   ends_as_listed Check is = check_ends after.status (serves.check is).ends
   ends_as_listed Scrub is = scrub_ends after.status (serves.scrub is).ends
   ends_as_listed Wipe is = wipe_ends after.status (serves.wipe is).ends
+  ends_as_listed Upgrade is = upgrade_ends after.status (serves.upgrade is).ends
   ends_as_listed (Big number count) is = big_ends after.status (serves.big number count is).ends
 
   pub counts_its_work : (request : Request) → request_of words ≡ Some request → CountsWork request after.status after.done
@@ -30,6 +31,7 @@ module _ {D R W : Type 0} (disk_of : D → DiskState) (source_of : R → SourceS
   counts_its_work Check is = counts_verdict after.status after.done (serves.check is).done
   counts_its_work Scrub is = counts_verdict after.status after.done (serves.scrub is).done
   counts_its_work Wipe is = counts_work after.status after.done (serves.wipe is).done
+  counts_its_work Upgrade is = counts_work after.status after.done (serves.upgrade is).done
   counts_its_work (Big number count) is = tt
 
   pub does_what_can_be_done : (request : Request) → request_of words ≡ Some request
@@ -39,14 +41,16 @@ module _ {D R W : Type 0} (disk_of : D → DiskState) (source_of : R → SourceS
   does_what_can_be_done Check is = check_done disk_of source_of sink_of before after (serves.check is)
   does_what_can_be_done Scrub is = scrub_done disk_of source_of sink_of before after (serves.scrub is)
   does_what_can_be_done Wipe is = wipe_done disk_of source_of sink_of before after (serves.wipe is)
+  does_what_can_be_done Upgrade is = upgrade_done disk_of source_of sink_of before after (serves.upgrade is)
   does_what_can_be_done (Big number count) is = big_done disk_of source_of sink_of before after number count (serves.big number count is)
 
-  pub refuses_image : (request : Request) → request_of words ≡ Some request → TakesCommands request → RefusesImage after.status after.done (disk_of before.disk) (disk_of after.disk) before.source after.source before.sink after.sink
+  pub refuses_image : (request : Request) → request_of words ≡ Some request → OpensStore request → RefusesImage after.status after.done (disk_of before.disk) (disk_of after.disk) before.source after.source before.sink after.sink
   refuses_image (Format p) is takes = absurd takes
   refuses_image Run is takes = run_refuses disk_of before after source_of sink_of (serves.run is)
   refuses_image Check is takes = absurd takes
   refuses_image Scrub is takes = absurd takes
   refuses_image Wipe is takes = absurd takes
+  refuses_image Upgrade is takes = upgrade_refuses disk_of before after (serves.upgrade is)
   refuses_image (Big number count) is takes = big_refuses disk_of before after sink_of number count (serves.big number count is)
 
   -- words that ask for nothing do nothing, and no others are said to

@@ -10,7 +10,7 @@ use Rattle.store_model.specs.Scripts.{lines, replies, tree_after, replies_text}
 use Rattle.disk_model.specs.DiskState.{DiskState}
 use Rattle.gate_journal.specs.Places.{ReadsOnly}
 use Rattle.tree_reader.specs.Counts.{count_dirs, count_files, count_bytes}
-use Rattle.image_check.specs.Verdicts.{IsImageWith}
+use Rattle.gate_journal.specs.Headers.{IsImageWith}
 use Rattle.script_lines.specs.SinkState.{SinkState, AppendsPrefix}
 use Rattle.image_subcommands.specs.declared.status.Status.{Status}
 use Rattle.image_subcommands.specs.declared.status.Status.TheVariants.{Done, SourceFault, SinkFault, DiskFault, TooLong, NotImage, Damaged, NoMemory}

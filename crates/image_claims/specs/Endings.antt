@@ -1,7 +1,7 @@
 -- How a call may end: the statuses of each subcommand and their numbers, spelled out.
 use Rattle.std.specs.Prelude.{◌≡◌, ◌⊎◌, ℕ, List, [], ◌∷◌}
 use Rattle.store_model.specs.Words.{Request}
-use Rattle.store_model.specs.Words.Request.{Format, Run, Check, Scrub, Wipe, Big}
+use Rattle.store_model.specs.Words.Request.{Format, Run, Check, Scrub, Wipe, Upgrade, Big}
 use Rattle.image_subcommands.specs.declared.status.Status.{Status}
 use Rattle.image_subcommands.specs.declared.status.Status.TheVariants.{Done, Usage, SourceFault, SinkFault, DiskFault, TooLong, NotImage, Damaged, NoMemory, AlreadyImage, WrongLength}
 
@@ -36,6 +36,7 @@ endings Run = Done ∷ SourceFault ∷ SinkFault ∷ DiskFault ∷ TooLong ∷ N
 endings Check = Done ∷ SinkFault ∷ DiskFault ∷ NotImage ∷ Damaged ∷ NoMemory ∷ []
 endings Scrub = Done ∷ SinkFault ∷ DiskFault ∷ NotImage ∷ Damaged ∷ NoMemory ∷ []
 endings Wipe = Done ∷ DiskFault ∷ NoMemory ∷ []
+endings Upgrade = Done ∷ DiskFault ∷ NotImage ∷ Damaged ∷ NoMemory ∷ []
 endings (Big number count) = Done ∷ SinkFault ∷ DiskFault ∷ NotImage ∷ Damaged ∷ NoMemory ∷ []
 
 -- the count `done` is 1 with these statuses, and else 0
@@ -50,6 +51,7 @@ CountsWork Run status done = Unit {0}
 CountsWork Check status done = CountsOne (Done ∷ SinkFault ∷ NotImage ∷ Damaged ∷ []) status done
 CountsWork Scrub status done = CountsOne (Done ∷ SinkFault ∷ NotImage ∷ Damaged ∷ []) status done
 CountsWork Wipe status done = CountsOne (Done ∷ []) status done
+CountsWork Upgrade status done = CountsOne (Done ∷ []) status done
 CountsWork (Big number count) status done = Unit {0}
 
 -- Words that are not well formed do nothing: nothing is called, and the call says so, or that memory ran out.

@@ -4,3 +4,4 @@ pub mod Crashes
 pub mod Endings
 pub mod Faults
 pub mod Images
+pub mod Upgrades

@@ -1,11 +1,12 @@
-//! How many writes and syncs making, checking, scrubbing and wiping an image take.
+//! How many writes and syncs making, checking, scrubbing, wiping and upgrading an image take.
 
 ghost use Rattle.std.specs.Prelude.{◌≡◌, ◌≢◌, ◌<◌, Some, slice_index};
 ghost use Rattle.store_model.specs.Parameters.{Parameters, image_len};
 ghost use Rattle.store_model.specs.Words.{request_of};
-ghost use Rattle.store_model.specs.Words.Request.{Format, Check, Scrub, Wipe};
+ghost use Rattle.store_model.specs.Words.Request.{Format, Check, Scrub, Wipe, Upgrade};
 ghost use Rattle.store_model.specs.Images.{first_byte};
 ghost use Rattle.image_claims.specs.Costs.{CostsOfFormat, CostsOfWipe, CostsNothing, CostsOfScrub};
+ghost use Rattle.image_claims.specs.Upgrades.{CostsOfUpgrade};
 ghost use Rattle.script_claims.specs.Machines.{meaning};
 
 use crate::call::call;
@@ -41,4 +42,13 @@ pub fn wipe_at_cost(alloc: Global, wipe: &Words, machine: Machine) -> Ended
     ensures { request_of wipe.now ≡ Some Wipe → 0 < (meaning machine.disk).size → CostsOfWipe result.status (meaning machine.disk) (meaning result.disk) }
 {
     call(alloc, wipe, machine)
+}
+
+/// Upgrading an image of version 1 takes the writes and syncs of opening it, and 5d + 5 writes and 5 syncs, where the images of its
+/// tree differ in d slots between the two versions. One of version 2 takes those of opening it alone: so two syncs and no write,
+/// where there is nothing to be recovered. Where it fails, it takes no more.
+pub fn upgrade_at_cost(alloc: Global, upgrade: &Words, machine: Machine) -> Ended
+    ensures { request_of upgrade.now ≡ Some Upgrade → CostsOfUpgrade result.status (meaning machine.disk) (meaning result.disk) }
+{
+    call(alloc, upgrade, machine)
 }

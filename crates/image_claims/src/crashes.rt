@@ -1,14 +1,16 @@
-//! A crash tells nothing: what it leaves of an image that is made, wiped or scrubbed.
+//! A crash tells nothing: what it leaves of an image that is made, wiped, scrubbed or upgraded.
 
 ghost use Rattle.std.specs.Prelude.{◌≡◌, ◌≢◌, Some, slice_index};
 ghost use Rattle.store_model.specs.Parameters.{Parameters, image_len};
 ghost use Rattle.store_model.specs.Words.{request_of};
-ghost use Rattle.store_model.specs.Words.Request.{Format, Scrub, Wipe};
-ghost use Rattle.store_model.specs.Images.{first_byte};
+ghost use Rattle.store_model.specs.Words.Request.{Format, Scrub, Wipe, Upgrade};
+ghost use Rattle.store_model.specs.Trees.{Tree};
+ghost use Rattle.store_model.specs.Images.{first_byte, Represents};
 ghost use Rattle.disk_model.specs.DiskState.{IsDurable};
 ghost use Rattle.script_lines.specs.Memory.{sink_state};
 ghost use Rattle.image_claims.specs.Crashes.{MightLeave, MakesAllOrNone, WipesAllOrNone, ScrubsAgain};
 ghost use Rattle.image_claims.specs.Images.{ScrubsExactly};
+ghost use Rattle.image_claims.specs.Upgrades.{UpgradesAllOrNone};
 ghost use Rattle.script_claims.specs.Machines.{meaning};
 
 use crate::call::call;
@@ -31,6 +33,14 @@ pub fn wipe_cut_short(alloc: Global, wipe: &Words, machine: Machine) -> Ended
     ensures { request_of wipe.now ≡ Some Wipe → slice_index (meaning machine.disk).bytes 0 ≡ first_byte → WipesAllOrNone (meaning machine.disk) (meaning result.disk) }
 {
     call(alloc, wipe, machine)
+}
+
+/// The image of a tree is upgraded. Whatever call of the disk fails first, and wherever a crash comes, what is left is an
+/// image of that tree, of the version that it had or of version 2.
+pub fn upgrade_cut_short(alloc: Global, upgrade: &Words, machine: Machine) -> Ended
+    ensures { (t : Tree) (p : Parameters) → request_of upgrade.now ≡ Some Upgrade → Represents (meaning machine.disk).bytes t p → UpgradesAllOrNone t p (meaning machine.disk) (meaning result.disk) }
+{
+    call(alloc, upgrade, machine)
 }
 
 /// How three scrubs ended.

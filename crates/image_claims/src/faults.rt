@@ -5,7 +5,7 @@ ghost use Rattle.store_model.specs.Parameters.{Parameters};
 ghost use Rattle.store_model.specs.Words.{Request, request_of};
 ghost use Rattle.store_model.specs.Words.Request.{Format};
 ghost use Rattle.image_claims.specs.Endings.{IsOneOf, endings};
-ghost use Rattle.image_claims.specs.Faults.{FailsByStatus, DoesWhatCanBeDone, RefusesLength, TakesCommands, RefusesImage};
+ghost use Rattle.image_claims.specs.Faults.{FailsByStatus, DoesWhatCanBeDone, RefusesLength, OpensStore, RefusesImage};
 
 use disk_model::Disk;
 use script_claims::serve;
@@ -29,7 +29,7 @@ pub fn call_anything<D: Disk, R: Source, W: Sink>(
     ensures done { (request : Request) → request_of words.now ≡ Some request →
         DoesWhatCanBeDone request result.status result.done (D.state disk) (D.state result.disk) (R.state source) (R.state result.source) (W.state sink) (W.state result.sink) }
     ensures lengths { (p : Parameters) → request_of words.now ≡ Some (Format p) → RefusesLength p result.status (D.state disk) }
-    ensures refused { (request : Request) → request_of words.now ≡ Some request → TakesCommands request → RefusesImage result.status result.done (D.state disk) (D.state result.disk) source result.source sink result.sink }
+    ensures refused { (request : Request) → request_of words.now ≡ Some request → OpensStore request → RefusesImage result.status result.done (D.state disk) (D.state result.disk) source result.source sink result.sink }
 {
     serve(alloc, words, disk, source, sink)
 }

@@ -1,11 +1,12 @@
-//! Making, scrubbing and wiping an image do what they say.
+//! Making, scrubbing, wiping and upgrading an image do what they say.
 
 ghost use Rattle.std.specs.Prelude.{◌≡◌, Some};
 ghost use Rattle.store_model.specs.Parameters.{Parameters};
 ghost use Rattle.store_model.specs.Words.{request_of};
-ghost use Rattle.store_model.specs.Words.Request.{Format, Scrub, Wipe};
+ghost use Rattle.store_model.specs.Words.Request.{Format, Scrub, Wipe, Upgrade};
 ghost use Rattle.script_lines.specs.Memory.{sink_state};
 ghost use Rattle.image_claims.specs.Images.{SparesAllElse, MakesImage, ScrubsExactly, WipesAll, MakesBehindWipe};
+ghost use Rattle.image_claims.specs.Upgrades.{UpgradesImage};
 ghost use Rattle.script_claims.specs.Machines.{meaning};
 
 use crate::call::call;
@@ -40,6 +41,16 @@ pub fn wipe(alloc: Global, wipe: &Words, machine: Machine) -> Ended
     ensures empty { request_of wipe.now ≡ Some Wipe → (meaning machine.disk).size ≡ 0 → result.disk ≡ machine.disk }
 {
     call(alloc, wipe, machine)
+}
+
+/// Upgrades an image: that of the same tree is left, of version 2, durably. What is no image of a tree is refused, and not
+/// written. Nothing is taken, and nothing is printed.
+pub fn upgrade(alloc: Global, upgrade: &Words, machine: Machine) -> Ended
+    ensures upgrades { request_of upgrade.now ≡ Some Upgrade → UpgradesImage result.status (meaning machine.disk) (meaning result.disk) }
+    ensures takes_nothing { request_of upgrade.now ≡ Some Upgrade → result.source ≡ machine.source }
+    ensures prints_nothing { request_of upgrade.now ≡ Some Upgrade → result.sink ≡ machine.sink }
+{
+    call(alloc, upgrade, machine)
 }
 
 /// How a wipe ended, and how making an image behind it did.

@@ -3,9 +3,9 @@
 ghost use Rattle.std.specs.Prelude.{◌≡◌, ◌↔◌, ℕ, Some};
 ghost use Rattle.store_model.specs.Parameters.{Parameters};
 ghost use Rattle.store_model.specs.Words.{Request, request_of};
-ghost use Rattle.store_model.specs.Words.Request.{Format, Run, Check, Scrub, Wipe, Big};
+ghost use Rattle.store_model.specs.Words.Request.{Format, Run, Check, Scrub, Wipe, Upgrade, Big};
 ghost use Rattle.image_subcommands.specs.declared.status.Status.{Status};
-ghost use Rattle.image_subcommands.specs.Statuses.{row, IsFormatStatus, IsRunStatus, IsCheckStatus, IsScrubStatus, IsWipeStatus, IsBigStatus};
+ghost use Rattle.image_subcommands.specs.Statuses.{row, IsFormatStatus, IsRunStatus, IsCheckStatus, IsScrubStatus, IsWipeStatus, IsUpgradeStatus, IsBigStatus};
 ghost use Rattle.image_claims.specs.Endings.{IsOneOf, endings, number, CountsWork};
 
 use crate::call::call;
@@ -30,6 +30,7 @@ pub fn table_is_spelled_out()
     ensures check { (status : Status) → IsCheckStatus status ↔ IsOneOf status (endings Check) }
     ensures scrub { (status : Status) → IsScrubStatus status ↔ IsOneOf status (endings Scrub) }
     ensures wipe { (status : Status) → IsWipeStatus status ↔ IsOneOf status (endings Wipe) }
+    ensures upgrade { (status : Status) → IsUpgradeStatus status ↔ IsOneOf status (endings Upgrade) }
     ensures big { (number count : ℕ) (status : Status) → IsBigStatus status ↔ IsOneOf status (endings (Big number count)) }
 {}
 

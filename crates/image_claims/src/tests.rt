@@ -8,7 +8,8 @@
 use crate::{
     Judged, Remade, Scrubs, call_anything, call_counted, call_unserved, check, check_at_cost,
     check_behind_runs, check_then_run, format, format_at_cost, format_cut_short, number_of, scrub,
-    scrub_at_cost, scrub_cut_short, wipe, wipe_at_cost, wipe_cut_short, wipe_then_format,
+    scrub_at_cost, scrub_cut_short, upgrade, upgrade_at_cost, upgrade_cut_short, wipe,
+    wipe_at_cost, wipe_cut_short, wipe_then_format,
 };
 use disk_model::{FailingDisk, MemDisk, StopChoice};
 use script_claims::{Machine, Making};
@@ -158,6 +159,29 @@ fn a_disk_is_wiped(rt: HostRuntime) {
     } = remade;
     assert!(rt; (wiped == Status::Done) & (made.status == Status::Done));
     assert!(rt; made.disk.into_disk().bytes() == empty(&rt, alloc).as_slice());
+}
+
+#[test]
+fn an_image_is_upgraded(rt: HostRuntime) {
+    let alloc = rt.alloc();
+    let upgrading = words(&rt, alloc, "upgrade");
+    let image = one_directory(&rt, alloc);
+    let mut wanted = one_directory(&rt, alloc);
+    if let Some(version) = wanted.get_mut(14) {
+        *version = 2;
+    }
+    let upgraded = upgrade(alloc, &upgrading, machine(&rt, alloc, &image, NEVER, ""));
+    assert!(rt; (upgraded.status == Status::Done) & (upgraded.done == 1));
+    assert!(rt; upgraded.disk.into_disk().bytes() == wanted.as_slice());
+
+    // No slot differs, and the version does.
+    let disk = upgrade_at_cost(alloc, &upgrading, machine(&rt, alloc, &image, NEVER, "")).disk;
+    let disk = disk.into_disk();
+    assert!(rt; (disk.write_count() == 5) & (disk.sync_count() == 7));
+
+    let cut = upgrade_cut_short(alloc, &upgrading, machine(&rt, alloc, &image, 1, ""));
+    assert!(rt; cut.status == Status::DiskFault);
+    assert!(rt; cut.disk.into_disk().stopped(StopChoice::Old).bytes() == image.as_slice());
 }
 
 /// Looks whether a check of these bytes ends so and prints this.

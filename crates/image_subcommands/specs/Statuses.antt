@@ -21,6 +21,7 @@ pub record Row : Type 0 where
   pub of_check : Bool
   pub of_scrub : Bool
   pub of_wipe : Bool
+  pub of_upgrade : Bool
   pub of_big : Bool
   -- what failed
   pub failed : Failed
@@ -50,6 +51,7 @@ with_code code = record {
   of_check = false;
   of_scrub = false;
   of_wipe = false;
+  of_upgrade = false;
   of_big = false;
   failed = Nothing;
   is_done = false;
@@ -63,15 +65,15 @@ with_code code = record {
 }
 
 abbrev pub row : Status → Row
-row Done = record (with_code 0) { of_format = true; of_run = true; of_check = true; of_scrub = true; of_wipe = true; of_big = true; is_done = true; is_judged = true; is_past_header = true; is_between_lines = true }
+row Done = record (with_code 0) { of_format = true; of_run = true; of_check = true; of_scrub = true; of_wipe = true; of_upgrade = true; of_big = true; is_done = true; is_judged = true; is_past_header = true; is_between_lines = true }
 row Usage = with_code 2
 row SourceFault = record (with_code 3) { of_run = true; failed = TheSource; is_past_header = true; is_between_lines = true; is_cut_short = true }
 row SinkFault = record (with_code 4) { of_run = true; of_check = true; of_scrub = true; of_big = true; failed = TheSink; is_judged = true; is_past_header = true; is_between_lines = true }
-row DiskFault = record (with_code 5) { of_format = true; of_run = true; of_check = true; of_scrub = true; of_wipe = true; of_big = true; failed = TheDisk; is_cut_short = true; may_come_first = true }
+row DiskFault = record (with_code 5) { of_format = true; of_run = true; of_check = true; of_scrub = true; of_wipe = true; of_upgrade = true; of_big = true; failed = TheDisk; is_cut_short = true; may_come_first = true }
 row TooLong = record (with_code 6) { of_run = true; is_past_header = true; is_between_lines = true; is_cut_short = true }
-row NotImage = record (with_code 7) { of_run = true; of_check = true; of_scrub = true; of_big = true; is_judged = true; refuses_image = true }
-row Damaged = record (with_code 8) { of_run = true; of_check = true; of_scrub = true; of_big = true; is_judged = true; refuses_image = true; is_past_header = true }
-row NoMemory = record (with_code 9) { of_format = true; of_run = true; of_check = true; of_scrub = true; of_wipe = true; of_big = true; is_cut_short = true; may_come_first = true }
+row NotImage = record (with_code 7) { of_run = true; of_check = true; of_scrub = true; of_upgrade = true; of_big = true; is_judged = true; refuses_image = true }
+row Damaged = record (with_code 8) { of_run = true; of_check = true; of_scrub = true; of_upgrade = true; of_big = true; is_judged = true; refuses_image = true; is_past_header = true }
+row NoMemory = record (with_code 9) { of_format = true; of_run = true; of_check = true; of_scrub = true; of_wipe = true; of_upgrade = true; of_big = true; is_cut_short = true; may_come_first = true }
 row AlreadyImage = record (with_code 10) { of_format = true; refuses_disk = true }
 row WrongLength = record (with_code 11) { of_format = true; refuses_disk = true }
 
@@ -92,6 +94,9 @@ IsScrubStatus status = IsTrue (row status).of_scrub
 
 abbrev pub IsWipeStatus : Status → Type 0
 IsWipeStatus status = IsTrue (row status).of_wipe
+
+abbrev pub IsUpgradeStatus : Status → Type 0
+IsUpgradeStatus status = IsTrue (row status).of_upgrade
 
 abbrev pub IsBigStatus : Status → Type 0
 IsBigStatus status = IsTrue (row status).of_big
@@ -133,7 +138,7 @@ MayComeFirst status = IsTrue (row status).may_come_first
 abbrev pub one_if : Bool → ℕ
 one_if b = if b then 1 else 0
 
--- the count `done` of `format` and `wipe`, and that of `check` and `scrub`
+-- the count `done` of `format`, `wipe` and `upgrade`, and that of `check` and `scrub`
 abbrev pub done_of_work : Status → ℕ
 done_of_work status = one_if (row status).is_done
 

@@ -13,8 +13,9 @@ use store_base::{DiskFault, Fault};
 /// How a call of `top` ended. The program ends with its code.
 #[derive(Clone, Copy, Debug, PartialEq, Eq)]
 pub enum Status {
-    /// All was done: the image is formatted, or is found clean, or is scrubbed, or the disk is wiped, or no line of the
-    /// script is left and every reply is written, or all commands of a number are carried out and summed up.
+    /// All was done: the image is formatted, or is found clean, or is scrubbed, or is one of version 2, or the disk is
+    /// wiped, or no line of the script is left and every reply is written, or all commands of a number are carried out
+    /// and summed up.
     Done,
     /// The words are not served. Nothing was read, written or printed.
     Usage,
@@ -61,8 +62,8 @@ impl Status {
         }
     }
 
-    /// How many pieces of work were carried out by `format` or `wipe`: one or none.
-    pub(crate) fn done_of_work(self) -> u64
+    /// How many pieces of work were carried out by `format`, `wipe` or `upgrade`: one or none.
+    pub fn done_of_work(self) -> u64
         ensures { result ≡ done_of_work self }
     {
         match self {

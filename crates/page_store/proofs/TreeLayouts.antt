@@ -2,7 +2,6 @@
 use Rattle.std.proofs.Common.{◌≡◌, ℕ, suc, ◌+◌, ◌<◌, List, [], ◌∷◌, map, length, Option, Some, slice_get, refl, sym, ap, ap₂, subst, ◌∙◌, arith}
 use Rattle.std.specs.Option.{option_map}
 use Rattle.std.proofs.lemmas.Option.{same_Some, slice_get-map, slice_get_within}
-use Rattle.store_model.specs.declared.version.Version.TheVariants.{One}
 use Rattle.store_model.specs.Lists.{numbers_from}
 use Rattle.store_model.specs.Parameters.{Parameters, IsParameters, image_len}
 use Rattle.store_model.specs.Trees.{Tree, IsTree}
@@ -63,8 +62,8 @@ module _ (t : Tree) (p : Parameters) (valid : IsParameters p) (tree : IsTree t) 
       })
 
   -- an image that represents the pages of a tree represents the tree
-  pub represents_tree : p.version ≡ One → (image : List ℕ) → RepresentsPages (draw_of p) p (map_of_pages (pages t p)) image → Represents image t p
-  represents_tree served image is = recovered-represents image t p valid served tree fits is.length_is (tree_layout (recovered p.slots image) (long-recovered p.slots image is.length_is) is.layout)
+  pub represents_tree : (image : List ℕ) → RepresentsPages (draw_of p) p (map_of_pages (pages t p)) image → Represents image t p
+  represents_tree image is = recovered-represents image t p valid tree fits is.length_is (tree_layout (recovered p.slots image) (long-recovered p.slots image is.length_is) is.layout)
 
   -- and the other way round
   pub represents_pages : (image : List ℕ) → Represents image t p → RepresentsPages (draw_of p) p (map_of_pages (pages t p)) image

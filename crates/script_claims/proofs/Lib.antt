@@ -11,3 +11,4 @@ pub mod RequestedParameters
 pub mod RunCostLemmas
 pub mod RunWays
 pub mod StoppingLemmas
+pub mod UpgradedLemmas

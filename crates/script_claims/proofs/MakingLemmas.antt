@@ -27,11 +27,15 @@ formatted p disk source sink after format e = image_of after.disk empty_tree p (
 
 -- an image of a tree that fits represents it
 pub represented : (disk : Disk) (t : Tree) (p : Parameters) → IsFitting t p → HasImage disk t p → Represents (bytes_of disk) t p
-represented disk t p is image = subst (λ (bytes : List ℕ). Represents bytes t p) (sym image.bytes) (Represents-layout t p is.in_range is.served is.tree is.fits)
+represented disk t p is image = subst (λ (bytes : List ℕ). Represents bytes t p) (sym image.bytes) (Represents-layout t p is.in_range is.tree is.fits)
 
 -- the tree after lines fits
 pub after_fits : (t : Tree) (p : Parameters) (texts : List (List ℕ)) → IsFitting t p → IsFitting (tree_after t texts p) p
-after_fits t p texts is = record { in_range = is.in_range; served = is.served; tree = IsTree-tree_after t texts p is.tree; fits = Fits-tree_after t texts p is.tree is.fits }
+after_fits t p texts is = record { in_range = is.in_range; tree = IsTree-tree_after t texts p is.tree; fits = Fits-tree_after t texts p is.tree is.fits }
+
+-- so does the tree that scripts leave of the empty one
+pub made_fits : (scripts : List SourceMemory) (p : Parameters) → IsFitting empty_tree p → IsFitting (made_tree scripts p) p
+made_fits scripts p is = after_fits empty_tree p (flat_map (λ (s : SourceMemory). lines s.left) scripts) is
 
 -- the tree after one script more
 pub one_more : (t : Tree) (p : Parameters) (scripts : List SourceMemory) (script : SourceMemory)
@@ -45,9 +49,8 @@ one_more t p scripts script =
 pub equal_contents : (p : Parameters) (first_scripts second_scripts : List SourceMemory) (first second : Disk) → IsFitting empty_tree p
     → HasImage first (made_tree first_scripts p) p → HasImage second (made_tree second_scripts p) p → EqualContentsEqualBytes first_scripts second_scripts p first second
 equal_contents p first_scripts second_scripts first second empty one other =
-    let fit = λ (scripts : List SourceMemory). after_fits empty_tree p (flat_map (λ (s : SourceMemory). lines s.left) scripts) empty in
-    let a = fit first_scripts in
-    let b = fit second_scripts in
+    let a = made_fits first_scripts p empty in
+    let b = made_fits second_scripts p empty in
     record {
       first_image = one;
       second_image = other;

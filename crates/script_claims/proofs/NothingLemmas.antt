@@ -2,7 +2,8 @@
 use Rattle.std.proofs.Common.{◌≡◌, ◌⊎◌, inl, inr, ℕ, refl, sym, subst, ⊎_elim}
 use Rattle.std.proofs.lemmas.Bool.{false≢true}
 use Rattle.store_model.specs.Parameters.{Parameters}
-use Rattle.image_check.specs.Verdicts.{IsImageWith, IsDamaged}
+use Rattle.gate_journal.specs.Headers.{IsImageWith}
+use Rattle.image_check.specs.Verdicts.{IsDamaged}
 use Rattle.script_lines.specs.Memory.{SourceMemory, SinkMemory, source_state, sink_state}
 use Rattle.image_subcommands.specs.declared.status.Status.{Status}
 use Rattle.image_subcommands.specs.declared.status.Status.TheVariants as statuses
@@ -56,7 +57,7 @@ refused_big statuses.WrongLength runs never = absurd (false≢true runs)
 damaged_with : (disk : Disk) (p : Parameters) → HasNoTree (bytes_of disk) → IsImageWith (bytes_of disk) p → IsDamaged (meaning disk)
 damaged_with disk p none is = record {
   params = p;
-  has_parameters = record { in_range = is.names.in_range; served = is.names.served; size_is = is.length_is; named = λ observable. is };
+  has_parameters = record { in_range = is.names.in_range; size_is = is.length_is; named = λ observable. is };
   no_tree = λ observable. none;
 }
 

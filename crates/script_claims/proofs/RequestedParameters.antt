@@ -1,26 +1,27 @@
--- What words ask for is in its range, and of version 1.
+-- What words ask for is in its range.
 use Rattle.std.proofs.Common.{◌≡◌, ℕ, ◌≤◌, ◌&&◌, ◌==◌, List, [], ◌∷◌, length, Bool, true, false, Option, Some, None, IfSome, Result, Ok, Err, refl, subst, cond, codes, nat_le, leb-true, arith}
 use Rattle.std.proofs.lemmas.Bool.{and_parts, eqb-true}
 use Rattle.hex.specs.Hex.{decode_of}
 use Rattle.hex.specs.declared.error.FromHexError.{FromHexError}
 use Rattle.hex.proofs.HexLemmas.{decode_of-ok}
-use Rattle.store_model.specs.declared.version.Version.TheVariants.{One}
+use Rattle.store_model.specs.declared.version.Version.{Version}
 use Rattle.store_model.specs.Lists.{IsBytes, same_bytes}
 use Rattle.store_model.specs.Parameters.{Parameters, IsParameters, slots_limit, height_limit}
 use Rattle.store_model.specs.Trees.{empty_tree}
 use Rattle.store_model.specs.Grammar.{number_of, ok_value, ◌>>=◌}
-use Rattle.store_model.specs.Words.{Request, number_in, kind_of_word, seed_of_word, request_of, commands_limit}
-use Rattle.store_model.specs.Words.Request.{Format, Run, Check, Scrub, Wipe, Big}
+use Rattle.store_model.specs.Words.{Request, number_in, kind_of_word, seed_of_word, version_of_word, request_of, commands_limit}
+use Rattle.store_model.specs.Words.Request.{Format, Run, Check, Scrub, Wipe, Upgrade, Big}
 use Rattle.store_model.proofs.TreesLemmasFits.{Fits-empty, IsTree-empty}
 use Rattle.image_check.specs.Standing.{IsFitting}
 
--- the parameters of a request, if it has some, are in range and of version 1
+-- the parameters of a request, if it has some, are in range
 abbrev IsRanged : Request → Type 0
-IsRanged (Format p) = IsParameters p × (p.version ≡ One)
+IsRanged (Format p) = IsParameters p
 IsRanged Run = Unit {0}
 IsRanged Check = Unit {0}
 IsRanged Scrub = Unit {0}
 IsRanged Wipe = Unit {0}
+IsRanged Upgrade = Unit {0}
 IsRanged (Big number count) = Unit {0}
 
 if_tested : {A : Type 0} (P : A → Type 0) (b : Bool) (x : A) → (b ≡ true → P x) → IfSome (cond b (Some x) None) P
@@ -59,17 +60,17 @@ ranged_seed : (word : List ℕ) → IfSome (seed_of_word word) (λ seed. (length
 unfolding seed_of_word
 ranged_seed word = ranged_seed_by word (length word == 64) refl
 
-ranged_format : (slots height kind seed : List ℕ)
-    → IfSome (number_in 1 slots_limit slots >>= λ n. number_in 1 height_limit height >>= λ h. kind_of_word kind >>= λ k. seed_of_word seed >>= λ s. Some (Format (record { slots = n; height = h; kind = k; seed = s; version = One }))) IsRanged
-ranged_format slots height kind seed =
-    if_next (λ n. (1 ≤ n) × (n ≤ slots_limit)) IsRanged (number_in 1 slots_limit slots) (λ n. number_in 1 height_limit height >>= λ h. kind_of_word kind >>= λ k. seed_of_word seed >>= λ s. Some (Format (record { slots = n; height = h; kind = k; seed = s; version = One })))
+ranged_format : (version : Version) (slots height kind seed : List ℕ)
+    → IfSome (number_in 1 slots_limit slots >>= λ n. number_in 1 height_limit height >>= λ h. kind_of_word kind >>= λ k. seed_of_word seed >>= λ s. Some (Format (record { slots = n; height = h; kind = k; seed = s; version = version }))) IsRanged
+ranged_format version slots height kind seed =
+    if_next (λ n. (1 ≤ n) × (n ≤ slots_limit)) IsRanged (number_in 1 slots_limit slots) (λ n. number_in 1 height_limit height >>= λ h. kind_of_word kind >>= λ k. seed_of_word seed >>= λ s. Some (Format (record { slots = n; height = h; kind = k; seed = s; version = version })))
     (ranged_number 1 slots_limit slots) (λ n few.
-    if_next (λ h. (1 ≤ h) × (h ≤ height_limit)) IsRanged (number_in 1 height_limit height) (λ h. kind_of_word kind >>= λ k. seed_of_word seed >>= λ s. Some (Format (record { slots = n; height = h; kind = k; seed = s; version = One })))
+    if_next (λ h. (1 ≤ h) × (h ≤ height_limit)) IsRanged (number_in 1 height_limit height) (λ h. kind_of_word kind >>= λ k. seed_of_word seed >>= λ s. Some (Format (record { slots = n; height = h; kind = k; seed = s; version = version })))
     (ranged_number 1 height_limit height) (λ h low.
-    if_next (λ k. Unit {0}) IsRanged (kind_of_word kind) (λ k. seed_of_word seed >>= λ s. Some (Format (record { slots = n; height = h; kind = k; seed = s; version = One })))
+    if_next (λ k. Unit {0}) IsRanged (kind_of_word kind) (λ k. seed_of_word seed >>= λ s. Some (Format (record { slots = n; height = h; kind = k; seed = s; version = version })))
     (if_any (kind_of_word kind)) (λ k any.
-    if_next (λ s. (length s ≡ 32) × IsBytes s) IsRanged (seed_of_word seed) (λ s. Some (Format (record { slots = n; height = h; kind = k; seed = s; version = One })))
-    (ranged_seed seed) (λ s is. (record { some_slot = few.0; slots_in_range = few.1; some_level = low.0; height_in_range = low.1; seed_length = is.0; seed_bytes = is.1 }, refl)))))
+    if_next (λ s. (length s ≡ 32) × IsBytes s) IsRanged (seed_of_word seed) (λ s. Some (Format (record { slots = n; height = h; kind = k; seed = s; version = version })))
+    (ranged_seed seed) (λ s is. record { some_slot = few.0; slots_in_range = few.1; some_level = low.0; height_in_range = low.1; seed_length = is.0; seed_bytes = is.1 }))))
 
 ranged : (words : List (List ℕ)) → IfSome (request_of words) IsRanged
 unfolding request_of
@@ -78,7 +79,8 @@ ranged (w ∷ []) =
     if_picked IsRanged (same_bytes w (codes "run")) (Some Run) _ tt
     (if_picked IsRanged (same_bytes w (codes "check")) (Some Check) _ tt
     (if_picked IsRanged (same_bytes w (codes "scrub")) (Some Scrub) _ tt
-    (if_picked IsRanged (same_bytes w (codes "wipe")) (Some Wipe) None tt tt)))
+    (if_picked IsRanged (same_bytes w (codes "wipe")) (Some Wipe) _ tt
+    (if_picked IsRanged (same_bytes w (codes "upgrade")) (Some Upgrade) None tt tt))))
 ranged (w ∷ a ∷ []) = tt
 ranged (w ∷ number ∷ count ∷ []) =
     if_picked IsRanged (same_bytes w (codes "big")) (number_of number >>= λ n. number_in 1 commands_limit count >>= λ k. Some (Big n k)) None
@@ -87,12 +89,12 @@ ranged (w ∷ number ∷ count ∷ []) =
     tt
 ranged (w ∷ a ∷ b ∷ c ∷ []) = tt
 ranged (w ∷ slots ∷ height ∷ kind ∷ seed ∷ []) =
-    if_picked IsRanged (same_bytes w (codes "format")) (number_in 1 slots_limit slots >>= λ n. number_in 1 height_limit height >>= λ h. kind_of_word kind >>= λ k. seed_of_word seed >>= λ s. Some (Format (record { slots = n; height = h; kind = k; seed = s; version = One }))) None
-    (ranged_format slots height kind seed) tt
+    if_next (λ v. Unit {0}) IsRanged (version_of_word w)
+    (λ v. number_in 1 slots_limit slots >>= λ n. number_in 1 height_limit height >>= λ h. kind_of_word kind >>= λ k. seed_of_word seed >>= λ s. Some (Format (record { slots = n; height = h; kind = k; seed = s; version = v })))
+    (if_any (version_of_word w)) (λ v any. ranged_format v slots height kind seed)
 ranged (w ∷ a ∷ b ∷ c ∷ d ∷ e ∷ rest) = tt
 
 -- the empty tree fits the parameters of a format
 pub requested_fits : (words : List (List ℕ)) (p : Parameters) → request_of words ≡ Some (Format p) → IsFitting empty_tree p
 requested_fits words p is =
-    let asked : IsParameters p × (p.version ≡ One) = subst (λ (asked : Option Request). IfSome asked IsRanged) is (ranged words) in
-    record { in_range = asked.0; served = asked.1; tree = IsTree-empty; fits = Fits-empty p }
+    record { in_range = subst (λ (asked : Option Request). IfSome asked IsRanged) is (ranged words); tree = IsTree-empty; fits = Fits-empty p }

@@ -60,7 +60,7 @@ way t p disk source sink after run represents =
 
 -- the layout of the tree after lines represents it
 pub layout_after : (t : Tree) (p : Parameters) (image : List ℕ) (texts : List (List ℕ)) → Represents image t p → Represents (layout (tree_after t texts p) p) (tree_after t texts p) p
-layout_after t p image texts is = Represents-layout (tree_after t texts p) p is.names.in_range is.names.served (IsTree-tree_after t texts p is.tree) (Fits-tree_after t texts p is.tree is.fits)
+layout_after t p image texts is = Represents-layout (tree_after t texts p) p is.names.in_range (IsTree-tree_after t texts p is.tree) (Fits-tree_after t texts p is.tree is.fits)
 
 -- ---- images
 

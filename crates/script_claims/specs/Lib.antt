@@ -10,3 +10,4 @@ pub mod Refusals
 pub mod Removals
 pub mod RunCosts
 pub mod Serving
+pub mod Upgrades

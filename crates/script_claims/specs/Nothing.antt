@@ -4,7 +4,7 @@ use Rattle.store_model.specs.Parameters.{Parameters}
 use Rattle.store_model.specs.Trees.{Tree}
 use Rattle.store_model.specs.Images.{Represents}
 use Rattle.gate_journal.specs.Disks.{IsOnlySynced}
-use Rattle.image_check.specs.Verdicts.{IsImageWith}
+use Rattle.gate_journal.specs.Headers.{IsImageWith}
 use Rattle.script_lines.specs.Memory.{SourceMemory, SinkMemory}
 use Rattle.image_subcommands.specs.declared.status.Status.{Status}
 use Rattle.image_subcommands.specs.declared.status.Status.TheVariants as statuses

@@ -2,7 +2,7 @@
 use Rattle.std.specs.Prelude.{◌≡◌, ◌⊎◌, ℕ, List, Some, None}
 use Rattle.store_model.specs.Parameters.{Parameters}
 use Rattle.store_model.specs.Words.{request_of}
-use Rattle.store_model.specs.Words.Request.{Format, Run, Check, Scrub, Wipe, Big}
+use Rattle.store_model.specs.Words.Request.{Format, Run, Check, Scrub, Wipe, Upgrade, Big}
 use Rattle.disk_model.specs.DiskState.{DiskState}
 use Rattle.script_lines.specs.SourceState.{SourceState}
 use Rattle.script_lines.specs.SinkState.{SinkState}
@@ -15,6 +15,7 @@ use Rattle.image_subcommands.specs.ScrubCall.{IsScrub}
 use Rattle.image_subcommands.specs.WipeCall.{IsWipe}
 use Rattle.store_top.specs.RunCall.{IsRun}
 use Rattle.store_top.specs.BigCall.{IsBig}
+use Rattle.store_top.specs.UpgradeCall.{IsUpgrade}
 
 module _ {D R W : Type 0} (disk_of : D → DiskState) (source_of : R → SourceState) (sink_of : W → SinkState) where
   -- The words were carried out on the disk, the source and the sink, each subcommand as its record says.
@@ -31,4 +32,5 @@ module _ {D R W : Type 0} (disk_of : D → DiskState) (source_of : R → SourceS
     pub check : request_of words ≡ Some Check → IsCheck disk_of sink_of before after
     pub scrub : request_of words ≡ Some Scrub → IsScrub disk_of sink_of before after
     pub wipe : request_of words ≡ Some Wipe → IsWipe disk_of before after
+    pub upgrade : request_of words ≡ Some Upgrade → IsUpgrade disk_of before after
     pub big : (number count : ℕ) → request_of words ≡ Some (Big number count) → IsBig disk_of sink_of number count before after

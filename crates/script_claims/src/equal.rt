@@ -39,7 +39,7 @@ pub struct Images {
 }
 
 /// A call that ended with 0. `Err` has one that did not.
-fn done(ended: Ended) -> Result<Ended, Ended>
+pub(crate) fn done(ended: Ended) -> Result<Ended, Ended>
     ensures ok { IfOk result (λ left. (left ≡ ended) × (ended.status ≡ Status.Done)) }
     ensures ended { IfErr result (λ left. (left ≡ ended) × (ended.status ≢ Status.Done)) }
 {

@@ -19,6 +19,7 @@ mod refused;
 mod removed;
 #[cfg(test)]
 mod tests;
+mod upgraded;
 
 pub use acknowledged::what_was_acknowledged_stays;
 pub use answered::a_script_is_answered;
@@ -33,3 +34,4 @@ pub use refused::{
     Shortened, full_is_exact, refused_lines_change_nothing, refused_lines_may_be_left_out,
 };
 pub use removed::{Removal, what_was_removed_is_gone};
+pub use upgraded::an_upgraded_image_is_the_one_made_so;

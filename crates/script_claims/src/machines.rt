@@ -1,8 +1,8 @@
-//! The disks, sources and sinks of the sentences, all of them in memory, and the word `run`.
+//! The disks, sources and sinks of the sentences, all of them in memory, and the words `run` and `upgrade`.
 
 ghost use Rattle.std.specs.Prelude.{◌≡◌, [], IfOk, Some, None};
 ghost use Rattle.store_model.specs.Words.{request_of};
-ghost use Rattle.store_model.specs.Words.Request.{Run};
+ghost use Rattle.store_model.specs.Words.Request.{Run, Upgrade};
 ghost use Rattle.store_base.specs.Counts.{raised_by};
 ghost use Rattle.disk_model.specs.FailingDisk.{first_of_all, listed};
 ghost use Rattle.script_claims.specs.Machines.{meaning};
@@ -54,5 +54,14 @@ pub(crate) fn run_word(alloc: Global) -> Result<Words, NoMemory>
 {
     let mut words = Words::new(alloc);
     words.push("run")?;
+    Ok(words)
+}
+
+/// The command line of the one word `upgrade`.
+pub(crate) fn upgrade_word(alloc: Global) -> Result<Words, NoMemory>
+    ensures { IfOk result (λ words. request_of words ≡ Some Upgrade) }
+{
+    let mut words = Words::new(alloc);
+    words.push("upgrade")?;
     Ok(words)
 }

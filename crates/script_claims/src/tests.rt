@@ -7,6 +7,7 @@
 use crate::{
     Crash, Disk, Ended, Machine, Making, Removal, Shortened, a_crash_loses_nothing,
     a_run_costs_its_changes, a_run_on_no_tree_does_nothing, a_script_is_answered,
+    an_upgraded_image_is_the_one_made_so,
     big_costs_its_changes, big_is_a_run, big_on_no_tree_does_nothing, commands_of_big_stay,
     equal_contents_have_equal_bytes, full_is_exact, refused_lines_change_nothing,
     refused_lines_may_be_left_out, serve, what_was_acknowledged_stays, what_was_removed_is_gone,
@@ -40,6 +41,13 @@ static SUMMARY: &str =
 /// The words of a format with one slot.
 static FORMAT: &str =
     "format 1 1 ruler 0000000000000000000000000000000000000000000000000000000000000000";
+
+/// The words of one of version 2.
+static FORMAT2: &str =
+    "format2 1 1 ruler 0000000000000000000000000000000000000000000000000000000000000000";
+
+/// The image of version 2 with the file `/a` of the byte 41.
+static SHORT_FILE: &str = "11:1 12:1 14:2 16384:1 16515:1 16516:97 16641:2 16642:3 16643:65";
 
 /// The room of a disk's record and of a sink.
 const ROOM: usize = 1_048_576;
@@ -303,6 +311,22 @@ fn expect_images(rt: &impl Abort, alloc: Global, scripts: [&str; 2], images: [&s
         scripts[0],
         scripts[1]
     );
+}
+
+#[test]
+fn an_upgrade_leads_to_the_image_of_version_2(rt: HostRuntime) {
+    let alloc = rt.alloc();
+    let (one, two) = (words_of(&rt, alloc, FORMAT), words_of(&rt, alloc, FORMAT2));
+    let first = making_of(&rt, alloc, "write /a 0 41\n");
+    let second = making_of(&rt, alloc, "write /a 0 41\n");
+    let sink = sink_of(&rt, alloc);
+    let Ok(made) = an_upgraded_image_is_the_one_made_so(alloc, &one, &two, first, second, sink) else {
+        assert!(rt; false, "two images");
+        return;
+    };
+    let wanted = image_of(&rt, alloc, SHORT_FILE);
+    let (upgraded, made) = (made.first.into_disk(), made.second.into_disk());
+    assert!(rt; (upgraded.bytes() == wanted.as_slice()) & (made.bytes() == wanted.as_slice()));
 }
 
 #[test]

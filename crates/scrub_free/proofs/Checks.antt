@@ -25,7 +25,8 @@ use Rattle.layout_conditions.specs.Layouts.{HaveLayout}
 use Rattle.layout_conditions.proofs.LawLemmas.{layout_meets, conditions_tell}
 use Rattle.image_check.specs.ImageCalls.{ReadsDisk}
 use Rattle.image_check.specs.SlotCalls.{ChecksSlots}
-use Rattle.image_check.specs.Verdicts.{clean_of, IsSlotsVerdict, IsImageWith, HasParameters}
+use Rattle.gate_journal.specs.Headers.{IsImageWith, HasParameters}
+use Rattle.image_check.specs.Verdicts.{clean_of, IsSlotsVerdict}
 use Rattle.image_check.proofs.Images.{slots_in, one_name, represents_tree, represented_layout}
 use Rattle.scrub_free.specs.ScrubbedSlots.{scrubbed_slots}
 use Rattle.scrub_free.specs.Scrubbing.{ScrubsAs, ScrubsImage, writes_to_scrub, CountsScrub}
@@ -57,7 +58,7 @@ image_scrubbed : (image : List ℕ) (p : Parameters) → IsImageWith image p →
 image_scrubbed image p is =
     let long = length-scrubbed p.slots image is.length_is in
     let header = sym (take-recovered p.slots (scrubbed p.slots image) long) ∙ ap (take 4096) (recovered-scrubbed p.slots image is.length_is) ∙ take-scrubbed p.slots image is.length_is ∙ is.names.header_is in
-    record { names = record { in_range = is.names.in_range; header_is = header; served = is.names.served }; length_is = long }
+    record { names = record { in_range = is.names.in_range; header_is = header }; length_is = long }
 
 -- an image whose scrubbed slots are the layout of a tree scrubs to it
 scrubs_to : (image : List ℕ) (t : Tree) (p : Parameters) → IsImageWith image p → HaveLayout (map scrubbed_block (slots_in p.slots image)) t p → ScrubsTo image t p

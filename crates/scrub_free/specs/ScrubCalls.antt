@@ -14,7 +14,8 @@ use Rattle.gate_journal.specs.ViewState.{viewed}
 use Rattle.image_check.specs.declared.verdict.Verdict.{Verdict}
 use Rattle.image_check.specs.declared.verdict.Verdict.TheVariants as verdicts
 use Rattle.layout_conditions.specs.Conditions.{MeetConditions}
-use Rattle.image_check.specs.Verdicts.{clean_of, IsSlotsVerdict, IsImageWith, HasParameters, IsNoImage}
+use Rattle.gate_journal.specs.Headers.{IsImageWith, HasParameters}
+use Rattle.image_check.specs.Verdicts.{clean_of, IsSlotsVerdict, IsNoImage}
 use Rattle.image_check.specs.ImageCalls.{ReadsDisk}
 use Rattle.scrub_free.specs.ScrubbedSlots.{scrubbed_slots}
 use Rattle.scrub_free.specs.Scrubbing.{ScrubsImage, CountsScrub}

@@ -10,8 +10,8 @@ ghost use Rattle.scrub_free.specs.ScrubCalls.{ChecksScrubbed, Scrubs};
 use crate::image::scrub_image;
 use crate::view::ScrubbedView;
 use disk_model::Disk;
-use gate_journal::View;
-use image_check::{Verdict, check_slots, read_params};
+use gate_journal::{Journal, View};
+use image_check::{Verdict, check_slots};
 use store_base::{DiskFault, Fault, Params};
 
 /// The verdict on the slots that scrubbing would leave. The disk is only read, and handed back; with it comes of how
@@ -50,7 +50,7 @@ fn answer_of(scrubbed: Result<(), DiskFault>, verdict: Verdict) -> Result<Verdic
 pub fn scrub<D: Disk>(mut disk: D) -> (D, Result<Verdict, Fault>)
     ensures { Scrubs (D.state disk) (D.state result.0) result.1 }
 {
-    let params = match read_params(&mut disk) {
+    let params = match Journal::view_header(&mut disk) {
         Ok(Some(params)) => params,
         Ok(None) => return (disk, Ok(Verdict::NotImage)),
         Err(fault) => return (disk, Err(fault.into())),

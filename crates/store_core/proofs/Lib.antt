@@ -9,3 +9,6 @@ pub mod StagedSteps
 pub mod StoreSteps
 pub mod TreePages
 pub mod Unchanged
+pub mod UpgradeLists
+pub mod UpgradeSteps
+pub mod UpgradeStores

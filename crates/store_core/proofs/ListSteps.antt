@@ -24,12 +24,14 @@ use Rattle.skip_levels.proofs.PagePairsLemmas.{holds_own, holds_its_pairs}
 use Rattle.tree_pairs.specs.TreeCalls.{pairs_limit, uncounted_step, CarriesOutUnder}
 use Rattle.page_store.specs.StagedState.{StagedState, IsTold, Follows, pages_state, without_changes}
 use Rattle.page_store.specs.declared.fault.SettleFault.{SettleFault}
-use Rattle.page_store.specs.Settling.{Settles}
+use Rattle.page_store.specs.declared.commit_kind.CommitKind.{CommitKind}
+use Rattle.page_store.specs.Settling.{SettlesBy}
 use Rattle.tree_commands.specs.Answers.{AnswersBy, change_reply}
 use Rattle.tree_commands.proofs.ReplyLemmas.{AnswersUnder, answers_under, carried_reply}
 use Rattle.tree_commands.proofs.StepLemmas.{uncounted_still}
 use Rattle.store_core.proofs.StagedAnswers.{AnswersAt}
-use Rattle.store_core.specs.StagedTree.{TreeList, IsStagedFor, IsListAt, HoldsTable}
+use Rattle.image_check.specs.Standing.{IsFitting}
+use Rattle.store_core.specs.StagedTree.{TreeList, IsListAt, HoldsTable}
 use Rattle.store_core.proofs.AnswerSteps.{reply_at}
 use Rattle.store_core.proofs.TreePages.{few_pairs, tree_holds, tree_valid, held_map}
 
@@ -89,18 +91,24 @@ changed_list state p version c old new r reply under is follows call =
     }
 
 module _ {D : Type 0} (state : D → DiskState) (t : Tree) (p : Parameters) (old : TreeList D) (list : IsListAt state t p old) (runs : old.pages.is_spent ≡ false) where
-  holds : IsObservable (state old.pages.disk) → HoldsPairs (draw_of p) (pairs t p) old.pages.map
+  pub holds : IsObservable (state old.pages.disk) → HoldsPairs (draw_of p) (pairs t p) old.pages.map
   holds observable = tree_holds t p old.pages.map list.fitting (list.pages.held observable runs).map_is
 
   -- the list has room for what a command adds
   pub room_at : IsHeld (any_draw old.draw) old.is_whole (pages_state state old.pages) → length (pairs_of_map old.pages.map) < pairs_limit
   room_at seen = subst (λ (s : List Pair). length s < pairs_limit) (sym (holds_own (draw_of p) (pairs t p) old.pages.map (holds seen.1.0.disk))) (few_pairs t p list.fitting)
 
-  seen_at : IsObservable (state old.pages.disk) → IsHeld (any_draw old.draw) old.is_whole (pages_state state old.pages)
+  pub seen_at : IsObservable (state old.pages.disk) → IsHeld (any_draw old.draw) old.is_whole (pages_state state old.pages)
   seen_at observable =
       let map_is = (list.pages.held observable runs).map_is in
       let told : IsTold state old.pages = record { disk = observable; runs = runs; valid = tree_valid t p old.pages.map list.fitting map_is } in
       (list.whole observable, (told, subst (λ (d : Draw). HoldsPairs d (pairs_of_map old.pages.map) old.pages.map) (sym list.draw) (holds_its_pairs (draw_of p) (pairs t p) old.pages.map (holds observable))))
+
+  -- behind a fault the pages in the table are still those of the tree
+  pub table_behind : (mid : TreeList D) → FollowsList state old mid → HoldsTable state mid
+  table_behind mid follows told =
+      let seen = sym follows.0.disk.observable ∙ told.disk in
+      (pairs t p, subst (λ (d : Draw). HoldsPairs d (pairs t p) mid.pages.table) (sym (ap any_draw follows.1 ∙ list.draw)) (tree_holds t p mid.pages.table list.fitting (follows.0.table seen ∙ (list.pages.held seen runs).table_is)))
 
   module _ (c : Command) (mid : TreeList D) where
     -- a command that the list answered is one that its pages did
@@ -129,32 +137,26 @@ module _ {D : Type 0} (state : D → DiskState) (t : Tree) (p : Parameters) (old
         let still = uncounted_still t c p (λ e. other answered.reply_is (answered.reply_is ∙ e)) in
         held_map (uncounted_step t c p).tree p mid.pages.map answered.holds ∙ ap (λ (u : Tree). map_of_pages (pages u p)) still ∙ sym (list.pages.held seen runs).table_is ∙ sym (is.follows.0.table seen)
 
-    -- behind a fault the pages in the table are still those of the tree
-    pub table_behind : FollowsList state old mid → HoldsTable state mid
-    table_behind follows told =
-        let seen = sym follows.0.disk.observable ∙ told.disk in
-        (pairs t p, subst (λ (d : Draw). HoldsPairs d (pairs t p) mid.pages.table) (sym (ap any_draw follows.1 ∙ list.draw)) (tree_holds t p mid.pages.table list.fitting (follows.0.table seen ∙ (list.pages.held seen runs).table_is)))
-
 -- ---- a settle
 
 module _ {D : Type 0} (state : D → DiskState) (old new : StagedState D AnyDraw) (runs : old.is_spent ≡ false) where
   -- the pages stay, however it ends
-  pub settle_stays : {r : Result (Unit {0}) SettleFault} → Settles state any_draw old new r → Stay state old new
+  pub settle_stays : {kind : CommitKind} {r : Result (Unit {0}) SettleFault} → SettlesBy kind state any_draw old new r → Stay state old new
   settle_stays settles told =
       let seen = sym settles.kept.observable ∙ told.disk in
       let same = settles.map seen told.runs in
       (record { disk = seen; runs = runs; valid = subst IsPageMap same told.valid }, same)
 
   -- also once what is staged is taken back, where it ends well
-  pub settled_stays : {value : Unit {0}} → Settles state any_draw old new (Ok value) → Stay state old (without_changes new)
+  pub settled_stays : {kind : CommitKind} {value : Unit {0}} → SettlesBy kind state any_draw old new (Ok value) → Stay state old (without_changes new)
   settled_stays settles told =
       let seen = sym settles.kept.observable ∙ told.disk in
       let same = settles.table seen in
       (record { disk = seen; runs = runs; valid = subst IsPageMap same told.valid }, same)
 
   -- where it fails the pages in the table are those that they were
-  pub table_behind_settle : (t next : Tree) (p : Parameters) (draw : AnyDraw) {fault : SettleFault} → IsStagedFor state t next p old → any_draw draw ≡ draw_of p → Settles {T = Unit {0}} state any_draw old new (Err fault) → IsTold state (without_changes new)
+  pub table_behind_settle : (t : Tree) (p : Parameters) (draw : AnyDraw) {kind : CommitKind} {fault : SettleFault} → IsFitting t p → (IsObservable (state old.disk) → old.table ≡ map_of_pages (pages t p)) → any_draw draw ≡ draw_of p → SettlesBy {T = Unit {0}} kind state any_draw old new (Err fault) → IsTold state (without_changes new)
       → (s : List Pair) × HoldsPairs (any_draw draw) s new.table
-  table_behind_settle t next p draw staged drawn settles told =
+  table_behind_settle t p draw fitting table_is drawn settles told =
       let seen = sym settles.kept.observable ∙ told.disk in
-      (pairs t p, subst (λ (d : Draw). HoldsPairs d (pairs t p) new.table) (sym drawn) (tree_holds t p new.table staged.fitting (settles.table_stays seen told.runs ∙ staged.table_is seen)))
+      (pairs t p, subst (λ (d : Draw). HoldsPairs d (pairs t p) new.table) (sym drawn) (tree_holds t p new.table fitting (settles.table_stays seen told.runs ∙ table_is seen)))

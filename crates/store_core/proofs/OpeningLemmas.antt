@@ -30,7 +30,8 @@ use Rattle.image_check.specs.declared.verdict.Verdict.{Verdict}
 use Rattle.image_check.specs.declared.verdict.Verdict.TheVariants as verdicts
 use Rattle.image_check.specs.SlotCalls.{clean_on}
 use Rattle.image_check.specs.ImageCalls.{ReadsDisk, HasTree, HasImage, FindsImage}
-use Rattle.image_check.specs.Verdicts.{IsImageWith, HasParameters, IsNoImage, IsDamaged}
+use Rattle.gate_journal.specs.Headers.{IsImageWith, HasParameters}
+use Rattle.image_check.specs.Verdicts.{IsNoImage, IsDamaged}
 use Rattle.page_store.specs.PageImages.{pages_in_table}
 use Rattle.page_store.specs.StagedState.{StagedState}
 use Rattle.image_check.specs.declared.fault.AttachFault.{AttachFault}
@@ -72,7 +73,6 @@ module _ (old new : DiskState) (size : new.size ≡ old.size) (observable : new.
   parameters_before : (p : Parameters) → HasParameters new p → HasParameters old p
   parameters_before p has = record {
     in_range = has.in_range;
-    served = has.served;
     size_is = sym size ∙ has.size_is;
     named = λ here. subst (λ (image : List ℕ). IsImageWith image p) (bytes here) (has.named (observable ∙ here));
   }
@@ -166,7 +166,7 @@ opening_tree disk contents has =
     let is = has.tree seen in (
       is.tree,
       record {
-        fitting = record { in_range = is.contents_are.in_range; served = has.has_parameters.served; tree = is.contents_are.tree; fits = is.contents_are.fits };
+        fitting = record { in_range = is.contents_are.in_range; tree = is.contents_are.tree; fits = is.contents_are.fits };
         represents = λ observable. is.represents;
         used_is = λ observable. is.contents_are.used_is;
         unseen = λ hidden. absurd (hidden seen);
@@ -176,7 +176,7 @@ opening_tree disk contents has =
     let unseen : IsObservable disk → ⊥ = λ seen. false≢true (sym hidden ∙ seen) in (
       empty_tree,
       record {
-        fitting = record { in_range = has.has_parameters.in_range; served = has.has_parameters.served; tree = IsTree-empty; fits = Fits-empty contents.params };
+        fitting = record { in_range = has.has_parameters.in_range; tree = IsTree-empty; fits = Fits-empty contents.params };
         represents = λ observable. absurd (unseen observable);
         used_is = λ observable. absurd (unseen observable);
         unseen = λ other. refl;

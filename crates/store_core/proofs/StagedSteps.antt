@@ -41,7 +41,7 @@ use Rattle.store_core.proofs.DiskLemmas.{keeps_then}
 use Rattle.store_core.proofs.TreePages.{held_map, held_count, stands_tree, slots_as}
 use Rattle.store_core.proofs.Unchanged.{reads_change, change_behind}
 
-kept_view : {D : Type 0} (state : D → DiskState) (old new : StagedState D AnyDraw) → Follows state old new → KeepsDisk (state old.disk) (state new.disk)
+pub kept_view : {D : Type 0} (state : D → DiskState) (old new : StagedState D AnyDraw) → Follows state old new → KeepsDisk (state old.disk) (state new.disk)
 kept_view state old new follows =
     let view = follows.disk in
     record { size = view.size; observable = view.observable; faults = view.rise; writes = view.writes; syncs = view.syncs }
@@ -147,7 +147,6 @@ module _ {D : Type 0} (state : D → DiskState) (t next : Tree) (p : Parameters)
   fitting_next : ((any_draw old.draw).slots < maps.len old.map → ⊥) → IsFitting next p
   fitting_next few = record {
     in_range = staged.fitting.in_range;
-    served = staged.fitting.served;
     tree = staged.tree;
     fits = ⊎_elim (λ fits. fits) (λ more. absurd (few (omega (arith, more, count_is, slots_are)))) (fits_or (page_count next p) p.slots);
   }
@@ -159,7 +158,7 @@ module _ {D : Type 0} (state : D → DiskState) (t next : Tree) (p : Parameters)
   module _ (to : IsFitting next p) (kept : KeepsDisk (state old.disk) (state new.disk)) (r : Result (Unit {0}) SettleFault) (disk : SettlesDisk (draw_of p) p (map_of_pages (pages t p)) (map_of_pages (pages next p)) (state old.disk) (state new.disk) new.is_spent r) where
     either : (image : List ℕ) → images.RepresentsPages (draw_of p) p (map_of_pages (pages t p)) image ⊎ images.RepresentsPages (draw_of p) p (map_of_pages (pages next p)) image → Represents image t p ⊎ Represents image next p
     either image is =
-        ⊎_elim (λ one. inl (represents_tree t p staged.fitting.in_range staged.fitting.tree staged.fitting.fits staged.fitting.served image one)) (λ other. inr (represents_tree next p to.in_range to.tree to.fits to.served image other)) is
+        ⊎_elim (λ one. inl (represents_tree t p staged.fitting.in_range staged.fitting.tree staged.fitting.fits image one)) (λ other. inr (represents_tree next p to.in_range to.tree to.fits image other)) is
 
     long : length (state new.disk).bytes ≡ image_len p.slots
     long = sound.size ∙ kept.size ∙ staged.size_is

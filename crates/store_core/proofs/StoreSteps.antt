@@ -29,7 +29,7 @@ store_of known list = record { params = known.params; tree = known.tree; disk = 
 
 -- the step of a command leads from a tree that fits to one that does
 fitting_step : (t : Tree) (c : Command) (p : Parameters) → IsFitting t p → IsCommand c → IsFitting (step t c p).tree p
-fitting_step t c p fitting is = record { in_range = fitting.in_range; served = fitting.served; tree = IsTree-step t c p fitting.tree is; fits = Fits-step t c p fitting.tree fitting.fits }
+fitting_step t c p fitting is = record { in_range = fitting.in_range; tree = IsTree-step t c p fitting.tree is; fits = Fits-step t c p fitting.tree fitting.fits }
 
 -- a store that is stopped does nothing
 pub stopped : {D : Type 0} (state : D → DiskState) (command : Command) (store : StoreState D) → store.is_stopped ≡ true → Applies state command store store (Err apply.Stopped)

@@ -1,16 +1,19 @@
 -- Lemmas on the pages of trees, in images and in maps of pages.
-use Rattle.std.proofs.Common.{◌≡◌, ℕ, ◌*◌, ◌<◌, ◌≤◌, List, [], length, slice_get, sym, ap, ap₂, subst, ◌∙◌, arith}
+use Rattle.std.proofs.Common.{◌≡◌, ℕ, ◌*◌, ◌<◌, ◌≤◌, List, [], length, slice_get, refl, sym, ap, ap₂, subst, ◌∙◌, arith}
 use Rattle.std.specs.FinMap as maps
 use Rattle.std.specs.Option.{option_map_or}
 use Rattle.std.proofs.lemmas.List.Sorted.{length_permutation}
-use Rattle.store_model.specs.Parameters.{Parameters, slots_limit, image_len}
+use Rattle.store_model.specs.declared.version.Version.TheVariants.{Two}
+use Rattle.store_model.specs.Parameters.{Parameters, with_version, slots_limit, image_len}
 use Rattle.store_model.specs.Trees.{Tree}
 use Rattle.store_model.specs.Pairs.{pairs}
-use Rattle.store_model.specs.Draws.{draw_of}
+use Rattle.store_model.specs.Draws.{Draw, draw_of}
 use Rattle.store_model.specs.Pages.{Page, pages, page_count}
 use Rattle.store_model.specs.PageMaps.{PageMap, IsPageMap, map_of_pages, pages_of_map}
 use Rattle.store_model.specs.Placement.{place, pages_in}
 use Rattle.store_model.specs.Images.{layout, slot_bytes}
+use Rattle.store_model.proofs.ImagesLemmas.{IsParameters-with_version}
+use Rattle.store_model.proofs.TreesLemmasUpgrade.{draw_of-with_version, Fits-upgraded}
 use Rattle.store_model.proofs.PagesLemmasSizes.{pairs_per_page}
 use Rattle.store_model.proofs.PairsLemmas.{pairs_are_pairs}
 use Rattle.store_model.proofs.PageMapsLemmas.{len-pages_of_map, pages_of_pairs_map, IsPageMap-pages_of_pairs}
@@ -24,7 +27,7 @@ use Rattle.table_memory.specs.Differences as places
 use Rattle.page_store.specs.PageImages as images
 use Rattle.page_store.proofs.SlotLemmas.{pages_in_held}
 use Rattle.page_store.proofs.TreeLayouts.{tree_layout, layout_of_tree}
-use Rattle.store_core.specs.TableChanges.{bytes_of, slots_between}
+use Rattle.store_core.specs.TableChanges.{bytes_of, differing, slots_between, slots_upgraded}
 use Rattle.image_check.specs.Standing.{IsFitting, Stands}
 
 -- a tree that fits has at most ten pairs a slot
@@ -89,10 +92,22 @@ table_pages t p image fitting is =
 placed_as : (t : Tree) (p : Parameters) (i : ℕ) → IsFitting t p → images.placed_slot (draw_of p) (map_of_pages (pages t p)) i ≡ bytes_of (table_of_tree t p) i
 placed_as t p i fitting = ap (λ (ps : List Page). option_map_or slot_bytes (slice_get (place (draw_of p) ps) i) []) (pages_again t p fitting)
 
--- as many slots differ between the placements of the pages of two trees as between their layouts
-pub slots_as : (t u : Tree) (p : Parameters) → IsFitting t p → IsFitting u p → images.slots_between (draw_of p) (map_of_pages (pages t p)) (map_of_pages (pages u p)) ≡ slots_between p t u
+-- as many slots differ between the placements of the pages of two trees as between their layouts, where the draw is one
+slots_by : (t u : Tree) (p q : Parameters) → draw_of q ≡ draw_of p → IsFitting t p → IsFitting u q → images.slots_between (draw_of p) (map_of_pages (pages t p)) (map_of_pages (pages u q)) ≡ differing (table_of_tree t p) (table_of_tree u q) p.slots
 unfolding draw_of
-slots_as t u p from to = ap₂ (λ (old new : ℕ → List ℕ). places.differing old new p.slots) (λ j i. placed_as t p i from j) (λ j i. placed_as u p i to j)
+slots_by t u p q drawn from to =
+    ap₂ (λ (old new : ℕ → List ℕ). places.differing old new p.slots) (λ j i. placed_as t p i from j)
+    (λ j i. (ap (λ (d : Draw). images.placed_slot d (map_of_pages (pages u q)) i) (sym drawn) ∙ placed_as u q i to) j)
+
+pub slots_as : (t u : Tree) (p : Parameters) → IsFitting t p → IsFitting u p → images.slots_between (draw_of p) (map_of_pages (pages t p)) (map_of_pages (pages u p)) ≡ slots_between p t u
+slots_as t u p from to = slots_by t u p p refl from to
+
+-- a tree that fits fits under version 2 too
+pub fitting_upgraded : (t : Tree) (p : Parameters) → IsFitting t p → IsFitting t (with_version p Two)
+fitting_upgraded t p fitting = record { in_range = IsParameters-with_version p Two fitting.in_range; tree = fitting.tree; fits = Fits-upgraded t p fitting.fits }
+
+pub slots_as_upgraded : (t : Tree) (p : Parameters) → IsFitting t p → images.slots_between (draw_of p) (map_of_pages (pages t p)) (map_of_pages (pages t (with_version p Two))) ≡ slots_upgraded p t
+slots_as_upgraded t p fitting = slots_by t t p (with_version p Two) (draw_of-with_version p Two) fitting (fitting_upgraded t p fitting)
 
 -- the table of its layout has as many pages
 pub table_count : (t : Tree) (p : Parameters) → IsFitting t p → length (pages_in (table_of_tree t p)) ≡ page_count t p

@@ -20,7 +20,7 @@ use Rattle.store_core.proofs.CostLemmas.{counts_reading, counts_behind, none_bet
 
 -- a layout represents its tree
 pub standing_represents : (t : Tree) (p : Parameters) (image : List ℕ) → IsFitting t p → image ≡ layout t p → Represents image t p
-standing_represents t p image fit is = subst (λ (bytes : List ℕ). Represents bytes t p) (sym is) (Represents-layout t p fit.in_range fit.served fit.tree fit.fits)
+standing_represents t p image fit is = subst (λ (bytes : List ℕ). Represents bytes t p) (sym is) (Represents-layout t p fit.in_range fit.tree fit.fits)
 
 -- what stands at a tree still does after reads
 pub stands_reading : (old new : DiskState) (t : Tree) (p : Parameters) → ReadsOnly old new → Stands old t p → Stands new t p

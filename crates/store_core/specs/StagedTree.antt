@@ -1,6 +1,7 @@
 -- Staged pages that are those of a tree.
 use Rattle.std.specs.Prelude.{◌≡◌, true, false, List}
-use Rattle.store_model.specs.Parameters.{Parameters, image_len}
+use Rattle.store_model.specs.declared.version.Version.TheVariants.{Two}
+use Rattle.store_model.specs.Parameters.{Parameters, with_version, image_len}
 use Rattle.store_model.specs.Trees.{Tree, IsTree}
 use Rattle.store_model.specs.Draws.{draw_of}
 use Rattle.store_model.specs.Pairs.{Pair, pairs}
@@ -39,6 +40,17 @@ pub record IsStagedFor {D : Type 0} (state : D → DiskState) (t next : Tree) (p
   pub stands : IsObservable (state s.disk) → Stands (state s.disk) t p
   pub table_is : IsObservable (state s.disk) → s.table ≡ map_of_pages (pages t p)
   pub holds : IsObservable (state s.disk) → HoldsPairs (draw_of p) (pairs next p) s.map
+
+-- Over an observable disk that stands at the tree, with the tree's pages in its table, those that it has under version 2
+-- are staged.
+pub record IsUpgradeStaged {D : Type 0} (state : D → DiskState) (t : Tree) (p : Parameters) (s : StagedState D AnyDraw) : Type 0 where
+  pub fitting : IsFitting t p
+  pub params : s.params ≡ p
+  pub draw : any_draw s.draw ≡ draw_of p
+  pub size_is : (state s.disk).size ≡ image_len p.slots
+  pub stands : IsObservable (state s.disk) → Stands (state s.disk) t p
+  pub table_is : IsObservable (state s.disk) → s.table ≡ map_of_pages (pages t p)
+  pub holds : IsObservable (state s.disk) → HoldsPairs (draw_of p) (pairs t (with_version p Two)) s.map
 
 -- a list over staged pages
 abbrev pub TreeList : Type 0 → Type 0

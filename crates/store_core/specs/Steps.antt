@@ -1,7 +1,8 @@
 -- A step that staged pages take which are those of a tree.
 use Rattle.std.specs.Prelude.{◌≡◌, false, Result, Ok, Err, IfOk, OnOk, OnErr}
 use Rattle.store_model.specs.declared.refusal.Refusal.TheVariants as refusals
-use Rattle.store_model.specs.Parameters.{Parameters}
+use Rattle.store_model.specs.declared.version.Version.TheVariants.{Two}
+use Rattle.store_model.specs.Parameters.{Parameters, with_version}
 use Rattle.store_model.specs.Trees.{Tree}
 use Rattle.store_model.specs.Pages.{pages}
 use Rattle.store_model.specs.PageMaps.{map_of_pages}
@@ -12,13 +13,15 @@ use Rattle.seeded_draw.specs.declared.any.AnyDraw.{AnyDraw}
 use Rattle.script_lines.specs.declared.reply.Reply.{Reply}
 use Rattle.script_lines.specs.declared.reply.Reply.TheVariants as replies
 use Rattle.script_lines.specs.Replies.{reply_of}
+use Rattle.page_store.specs.declared.commit_kind.CommitKind.TheVariants.{Upgrade}
+use Rattle.page_store.specs.CommitKinds.{params_after}
 use Rattle.page_store.specs.declared.fault.SettleFault.{SettleFault}
 use Rattle.page_store.specs.declared.fault.SettleFault.TheVariants as causes
 use Rattle.page_store.specs.StagedState.{StagedState}
 use Rattle.image_check.specs.declared.fault.ApplyFault.{ApplyFault}
 use Rattle.image_check.specs.declared.fault.ApplyFault.TheVariants as apply
 use Rattle.image_check.specs.Faults.{apply_faults_after}
-use Rattle.store_core.specs.StoreCalls.{ChangesImage}
+use Rattle.store_core.specs.StoreCalls.{ChangesImage, UpgradesImage}
 
 -- what a command answers whose changes were settled so
 abbrev pub settled_reply : Result (Unit {0}) SettleFault → Result Reply ApplyFault
@@ -48,4 +51,31 @@ pub record TakesStep {D : Type 0} (state : D → DiskState) (t : Tree) (to : Ste
 -- a step behind which nothing is staged
 pub record EndsStep {D : Type 0} (state : D → DiskState) (t : Tree) (to : Step) (p : Parameters) (old new : StagedState D AnyDraw) (result : Result Reply ApplyFault) : Type 0 where
   pub step : TakesStep state t to p old new result
+  pub none_staged : IsObservable (state new.disk) → new.is_spent ≡ false → new.map ≡ new.table
+
+-- ---- an upgrade
+
+-- why an upgrade failed whose settle did so; none of a tree that fits is full
+abbrev pub upgrade_fault : SettleFault → ApplyFault
+upgrade_fault (causes.Full need slots) = apply.NoMemory
+upgrade_fault causes.Disk = apply.Disk
+upgrade_fault causes.NoMemory = apply.NoMemory
+
+-- what an upgrade does over an observable disk that stands at the tree
+pub record UpgradesPages {D : Type 0} (state : D → DiskState) (t : Tree) (p : Parameters) (old new : StagedState D AnyDraw) (result : Result (Unit {0}) ApplyFault) : Type 0 where
+  pub image : UpgradesImage t p (state old.disk) (state new.disk) new.is_spent result
+  -- the pages in the table are then those of the tree under version 2, and after a fault those that they were
+  pub goes : OnOk result (new.table ≡ map_of_pages (pages t (with_version p Two)))
+  pub stays : new.is_spent ≡ false → OnErr result (new.table ≡ old.table)
+
+-- Staged pages of a tree become those that it has under version 2, and are spent only by a fault of the disk. Behind it
+-- nothing is staged.
+pub record EndsUpgrade {D : Type 0} (state : D → DiskState) (t : Tree) (p : Parameters) (old new : StagedState D AnyDraw) (result : Result (Unit {0}) ApplyFault) : Type 0 where
+  pub params : new.params ≡ params_after Upgrade old.params result
+  pub draw : new.draw ≡ old.draw
+  pub kept : KeepsDisk (state old.disk) (state new.disk)
+  pub faults : (state new.disk).faults ≡ apply_faults_after (state old.disk).faults result
+  pub never : result ≡ Err apply.Stopped → ⊥
+  pub runs : (result ≡ Err apply.Disk → ⊥) → new.is_spent ≡ false
+  pub observed : IsObservable (state old.disk) → UpgradesPages state t p old new result
   pub none_staged : IsObservable (state new.disk) → new.is_spent ≡ false → new.map ≡ new.table

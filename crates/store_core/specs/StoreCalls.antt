@@ -1,6 +1,7 @@
 -- What the calls of a store do.
-use Rattle.std.specs.Prelude.{◌≡◌, ◌↔◌, ◌⊎◌, Bool, true, false, Result, Err, IfOk, IfErr, OnOk, OnErr, IsErrOf}
-use Rattle.store_model.specs.Parameters.{Parameters}
+use Rattle.std.specs.Prelude.{◌≡◌, ◌↔◌, ◌⊎◌, Bool, true, false, Result, Ok, Err, IfOk, IfErr, OnOk, OnErr, IsErrOf}
+use Rattle.store_model.specs.declared.version.Version.TheVariants.{One, Two}
+use Rattle.store_model.specs.Parameters.{Parameters, with_version}
 use Rattle.store_model.specs.Trees.{Tree}
 use Rattle.store_model.specs.Images.{Represents}
 use Rattle.store_model.specs.Commands.{Command}
@@ -11,14 +12,16 @@ use Rattle.gate_journal.specs.Phases.{HasEmptyJournal}
 use Rattle.gate_journal.specs.Places.{Made, ReadsOnly}
 use Rattle.gate_journal.specs.Disks.{KeepsDisk, IsUnwritten, IsOnlySynced}
 use Rattle.gate_journal.specs.Costs.{opening_writes, opening_syncs, MadeAtMost, CountsCommit}
-use Rattle.image_check.specs.Verdicts.{HasParameters, IsNoImage, IsDamaged}
+use Rattle.gate_journal.specs.Headers.{HasParameters}
+use Rattle.image_check.specs.Verdicts.{IsNoImage, IsDamaged}
 use Rattle.script_lines.specs.declared.reply.Reply.{Reply}
 use Rattle.script_lines.specs.Replies.{reply_of}
 use Rattle.image_check.specs.declared.fault.AttachFault.{AttachFault}
 use Rattle.image_check.specs.declared.fault.AttachFault.TheVariants as attach
 use Rattle.image_check.specs.declared.fault.ApplyFault.{ApplyFault}
 use Rattle.image_check.specs.declared.fault.ApplyFault.TheVariants as apply
-use Rattle.store_core.specs.TableChanges.{slots_between}
+use Rattle.page_store.specs.CommitKinds.{CountsUpgrade}
+use Rattle.store_core.specs.TableChanges.{slots_between, slots_upgraded}
 use Rattle.image_check.specs.Faults.{attach_faults_by, apply_faults_after}
 use Rattle.image_check.specs.Standing.{IsFitting, Stands}
 use Rattle.store_core.specs.StoreState.{StoreState}
@@ -113,3 +116,38 @@ pub record Applies {D : Type 0} (state : D → DiskState) (command : Command) (o
   pub runs : old.is_stopped ≡ false → (result ≡ Err apply.Disk → ⊥) → new.is_stopped ≡ false
   pub observed : IsObservable (state old.disk) → old.is_stopped ≡ false
       → ChangesImage old.tree (step old.tree command old.params).tree old.params (state old.disk) (state new.disk) new.is_stopped result
+
+-- ---- upgrade
+
+-- What an upgrade does to an observable disk that stands at a tree under these parameters, which are of version 1.
+pub record UpgradesImage {T : Type 0} (t : Tree) (p : Parameters) (old new : DiskState) (is_stopped : Bool) (result : Result T ApplyFault) : Type 0 where
+  pub stands : OnOk result (Stands new t (with_version p Two))
+  -- a crash at any moment of the call leaves an image of the tree under the one version or the other, and the disk reads one
+  pub crash : LeavesOnly old new (λ image. Represents image t p ⊎ Represents image t (with_version p Two))
+  pub reads : Represents new.bytes t p ⊎ Represents new.bytes t (with_version p Two)
+  -- where memory ran out, the disk was read at most
+  pub no_memory : IsErrOf result apply.NoMemory → ReadsOnly old new
+  -- the slots that differ are committed, and no others
+  pub counts : CountsUpgrade (slots_upgraded p t) old new result
+  -- the store is stopped only by a fault at a write or a sync, or behind one, and any other fault leaves the disk as it
+  -- was
+  pub stops : is_stopped ≡ true → IsErrOf result apply.Disk × (Rose old.writes new.writes ⊎ Rose old.syncs new.syncs)
+  pub goes_on : is_stopped ≡ false → IsErrOf result apply.Disk → ReadsOnly old new
+
+-- A store makes its image one of version 2 that holds the same tree.
+pub record Upgrades {D : Type 0} (state : D → DiskState) (old new : StoreState D) (result : Result (Unit {0}) ApplyFault) : Type 0 where
+  -- after Ok the parameters have version 2, and after a fault they are those of before
+  pub params : OnOk result (new.params ≡ with_version old.params Two)
+  pub params_stay : OnErr result (new.params ≡ old.params)
+  pub tree : new.tree ≡ old.tree
+  pub kept : KeepsDisk (state old.disk) (state new.disk)
+  pub faults : (state new.disk).faults ≡ apply_faults_after (state old.disk).faults result
+  -- a stopped store answers so and does nothing, and no other answers so
+  pub stopped : (result ≡ Err apply.Stopped) ↔ (old.is_stopped ≡ true)
+  pub still : old.is_stopped ≡ true → new ≡ old
+  -- with version 2 nothing is to be done, and nothing is called
+  pub idle : old.is_stopped ≡ false → old.params.version ≡ Two → (result ≡ Ok tt) × (new ≡ old)
+  -- only a fault of the disk stops it
+  pub runs : old.is_stopped ≡ false → (result ≡ Err apply.Disk → ⊥) → new.is_stopped ≡ false
+  pub observed : IsObservable (state old.disk) → old.is_stopped ≡ false → old.params.version ≡ One
+      → UpgradesImage old.tree old.params (state old.disk) (state new.disk) new.is_stopped result

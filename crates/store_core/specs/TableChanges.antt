@@ -3,7 +3,8 @@ use Rattle.std.specs.Prelude.{ℕ, List, [], not, slice_get}
 use Rattle.std.specs.List.{count_by}
 use Rattle.std.specs.Option.{option_map_or}
 use Rattle.store_model.specs.Lists.{numbers_below, same_bytes}
-use Rattle.store_model.specs.Parameters.{Parameters}
+use Rattle.store_model.specs.declared.version.Version.TheVariants.{Two}
+use Rattle.store_model.specs.Parameters.{Parameters, with_version}
 use Rattle.store_model.specs.Trees.{Tree}
 use Rattle.store_model.specs.Placement.{Table}
 use Rattle.store_model.specs.Images.{slot_bytes}
@@ -20,3 +21,7 @@ differing old new slots = count_by (λ i. not (same_bytes (bytes_of old i) (byte
 -- how many slots differ between the layouts of two trees
 abbrev pub slots_between : Parameters → Tree → Tree → ℕ
 slots_between p t u = differing (table_of_tree t p) (table_of_tree u p) p.slots
+
+-- and between those of one tree under parameters, and under the same with version 2
+abbrev pub slots_upgraded : Parameters → Tree → ℕ
+slots_upgraded p t = differing (table_of_tree t p) (table_of_tree t (with_version p Two)) p.slots

@@ -165,7 +165,7 @@ fn end_change<D: Disk>(pairs: &mut TreeList<D>) -> Result<Answer<()>, ApplyFault
 }
 
 /// Takes back what is staged, of a list that may not be whole any more. It then knows no place.
-fn give_up<D: Disk>(pairs: &mut TreeList<D>)
+pub fn give_up<D: Disk>(pairs: &mut TreeList<D>)
     requires { HoldsTable D.state pairs.old }
     ensures pages { pairs.new.pages ≡ without_changes pairs.old.pages }
     ensures list { GoesOn D.state pairs.old pairs.new }

@@ -1,6 +1,8 @@
 //! The tree of a store, of which only the fact is kept: no part of it is in memory.
 
 ghost use Rattle.std.specs.Prelude.{◌≡◌};
+ghost use Rattle.store_model.specs.declared.version.Version.TheVariants.{Two};
+ghost use Rattle.store_model.specs.Parameters.{with_version};
 ghost use Rattle.store_model.specs.Trees.{Tree};
 ghost use Rattle.store_model.specs.Images.{layout};
 ghost use Rattle.disk_model.specs.DiskState.{IsObservable};
@@ -11,6 +13,7 @@ use disk_model::Disk;
 use std::marker::Model;
 use std::snapshot::Snapshot;
 use store_base::Params;
+use store_model::Version;
 
 /// The tree that a disk stood at when it was last settled, which fits. Contracts see it as that tree, with the
 /// parameters that it is laid out under and that disk. It takes no memory but that of the parameters.
@@ -57,6 +60,15 @@ impl<D: Disk> KnownTree<D> {
         ensures call { MovesOn D.state disk.now self.old self.new }
     {
         self.settled = Snapshot::of(disk);
+    }
+
+    /// Goes on to the same tree under version 2, at which the disk stands now.
+    pub fn upgrade(&mut self, disk: &D)
+        requires same { (D.state disk.now).is_observable ≡ (D.state self.old.settled).is_observable }
+        requires tree { IsObservable (D.state disk.now) → (D.state disk.now).bytes ≡ layout self.old.tree (with_version self.old.params Two) }
+        ensures { self.new ≡ record { params = with_version self.old.params Two; tree = self.old.tree; settled = disk.now } }
+    {
+        *self = KnownTree::new(self.params.with_version(Version::Two), disk);
     }
 }
 

@@ -1,7 +1,7 @@
 //! The store: a tree of directories and files in a disk image, as one value.
 //!
 //! It is had of a disk by `attach`, which checks the image whole and recovers it, and carries out one command after
-//! another by `apply`. What its calls promise is the definitions' step.
+//! another by `apply`. What its calls promise is the definitions' step. By `upgrade` its image becomes one of version 2.
 //!
 //! No part of the tree is in memory between two commands. A command works on the skip list in the staged pages of the
 //! table, and reads the pages that it asks for; what it changed is settled at once, so that only the slots that differ
@@ -13,6 +13,7 @@ mod attach;
 mod commands;
 mod known;
 mod store;
+mod upgrade;
 
 pub use image_check::{ApplyFault, AttachFault};
 pub use store::Store;

@@ -6,7 +6,7 @@ use Rattle.std.proofs.lemmas.List.{length-replicate, set-set, drop_all, drop-dro
 use Rattle.std.proofs.lemmas.List.Elements.{All-from_recursion, recursion_from_All}
 use Rattle.std.proofs.lemmas.List.Sorted.{All-permutation}
 use Rattle.store_model.specs.declared.version.Version.{Version}
-use Rattle.store_model.specs.declared.version.Version.TheVariants.{One, Two}
+use Rattle.store_model.specs.declared.version.Version.TheVariants.{Two}
 use Rattle.store_model.specs.Lists.{zeros, zero_filled, numbers_from}
 use Rattle.store_model.specs.Parameters.{Parameters, IsParameters, with_version, image_len, shadow_at, table_at}
 use Rattle.store_model.specs.Trees.{Tree, IsTree}
@@ -246,9 +246,9 @@ unfolding layout
 viewed_header-layout t p is = viewed_header-of_areas p.slots (header p) (table_bytes (place (draw_of p) (pages t p))) (length-header p is)
 
 -- so a layout represents its tree
-pub Represents-layout : (t : Tree) (p : Parameters) → IsParameters p → p.version ≡ One → IsTree t → Fits t p → Represents (layout t p) t p
-Represents-layout t p is one tree fits = record {
-  names = record { in_range = is; header_is = viewed_header-layout t p is; served = one };
+pub Represents-layout : (t : Tree) (p : Parameters) → IsParameters p → IsTree t → Fits t p → Represents (layout t p) t p
+Represents-layout t p is tree fits = record {
+  names = record { in_range = is; header_is = viewed_header-layout t p is };
   length_is = length-layout t p is tree fits;
   tree = tree;
   fits = fits;
@@ -257,7 +257,7 @@ Represents-layout t p is one tree fits = record {
 
 -- an image that represents a tree represents it once recovered
 pub Represents-recovered : (image : List ℕ) (t : Tree) (p : Parameters) → Represents image t p → Represents (recovered p.slots image) t p
-Represents-recovered image t p r = subst (λ (x : List ℕ). Represents x t p) (sym r.layout_is) (Represents-layout t p r.names.in_range r.names.served r.tree r.fits)
+Represents-recovered image t p r = subst (λ (x : List ℕ). Represents x t p) (sym r.layout_is) (Represents-layout t p r.names.in_range r.tree r.fits)
 
 -- bytes that lie in an image are as many as are asked for
 length-bytes_at : (image : List ℕ) (at n : ℕ) → at + n ≤ length image → length (bytes_at image at n) ≡ n

@@ -93,8 +93,6 @@ viewed_header slots image = if is_flag_set image && is_marked image slots then h
 pub record NamesParameters (image : List ℕ) (p : Parameters) : Type 0 where
   pub in_range : IsParameters p
   pub header_is : viewed_header p.slots image ≡ header p
-  -- as long as not every subcommand serves version 2, none does; IsFitting of image_check says it too
-  pub served : p.version ≡ One
 
 -- what recovery leaves in slot i: its shadow where the commit flag is set and the slot marked, and else the slot
 unfoldable pub recovered_slot : ℕ → List ℕ → ℕ → List ℕ

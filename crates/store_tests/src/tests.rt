@@ -9,4 +9,6 @@ mod reads;
 mod scripts;
 mod scrubs;
 mod support;
+mod upgraded;
+mod upgrades;
 mod words;

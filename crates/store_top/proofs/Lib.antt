@@ -12,4 +12,5 @@ pub mod RunLemmas
 pub mod ScriptTurns
 pub mod StoreTurns
 pub mod UncalledLemmas
+pub mod UpgradeEnds
 pub mod WorkTurns

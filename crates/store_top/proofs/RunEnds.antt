@@ -15,7 +15,8 @@ use Rattle.disk_model.specs.DiskState as disks
 use Rattle.disk_model.proofs.Crashes.{LeavesOnly-refl}
 use Rattle.gate_journal.specs.Costs.{opening_writes, opening_syncs}
 use Rattle.gate_journal.specs.Disks.{IsUnwritten}
-use Rattle.image_check.specs.Verdicts.{IsNoImage, IsDamaged, HasParameters}
+use Rattle.gate_journal.specs.Headers.{HasParameters}
+use Rattle.image_check.specs.Verdicts.{IsNoImage, IsDamaged}
 use Rattle.script_lines.specs.SourceState.{SourceState}
 use Rattle.script_lines.specs.SourceState as sources
 use Rattle.script_lines.specs.SinkState.{SinkState}

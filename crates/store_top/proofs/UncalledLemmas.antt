@@ -8,12 +8,17 @@ use Rattle.image_subcommands.specs.Outside.{Outside}
 use Rattle.image_subcommands.proofs.UncalledLemmas.{without_memory}
 use Rattle.store_top.specs.BigCall.{IsBig}
 use Rattle.store_top.specs.RunCall.{IsRun}
+use Rattle.store_top.specs.UpgradeCall.{IsUpgrade}
 use Rattle.store_top.proofs.BigEnds.{big_unopened}
 use Rattle.store_top.proofs.RunEnds.{nothing_opened, run_unopened}
+use Rattle.store_top.proofs.UpgradeEnds.{upgrade_unopened}
 
 module _ {D R W : Type 0} (disk_of : D → DiskState) (source_of : R → SourceState) (sink_of : W → SinkState) (sound : (disk : D) → IsObservable (disk_of disk) → IsSound (disk_of disk)) (before : Outside D R W) where
   pub run_uncalled : IsRun disk_of source_of sink_of before (without_memory before)
   run_uncalled = run_unopened disk_of source_of sink_of sound before faults.NoMemory before.disk (nothing_opened (disk_of before.disk) (sound before.disk))
+
+  pub upgrade_uncalled : IsUpgrade disk_of before (without_memory before)
+  upgrade_uncalled = upgrade_unopened disk_of before faults.NoMemory before.disk (nothing_opened (disk_of before.disk) (sound before.disk))
 
   pub big_uncalled : (number count : ℕ) → IsBig disk_of sink_of number count before (without_memory before)
   big_uncalled number count = big_unopened disk_of sink_of sound number count before faults.NoMemory before.disk (nothing_opened (disk_of before.disk) (sound before.disk))

@@ -8,7 +8,8 @@ use Rattle.disk_model.specs.DiskState.{DiskState, MayLeaveOnly}
 use Rattle.disk_model.specs.DiskState as disks
 use Rattle.gate_journal.specs.Phases.{HasEmptyJournal}
 use Rattle.gate_journal.specs.Disks.{IsUnwritten}
-use Rattle.image_check.specs.Verdicts.{HasParameters, IsNoImage, IsDamaged}
+use Rattle.gate_journal.specs.Headers.{HasParameters}
+use Rattle.image_check.specs.Verdicts.{IsNoImage, IsDamaged}
 use Rattle.script_lines.specs.SinkState.{SinkState}
 use Rattle.script_lines.specs.SinkState as sinks
 use Rattle.store_core.specs.StoreCalls.{LeavesImage}

@@ -10,7 +10,8 @@ use Rattle.disk_model.specs.DiskState as disks
 use Rattle.disk_model.specs.DiskCalls.{LeavesOnly}
 use Rattle.gate_journal.specs.Phases.{HasEmptyJournal}
 use Rattle.gate_journal.specs.Disks.{IsOnlySynced, IsUnwritten}
-use Rattle.image_check.specs.Verdicts.{HasParameters, IsNoImage, IsDamaged}
+use Rattle.gate_journal.specs.Headers.{HasParameters}
+use Rattle.image_check.specs.Verdicts.{IsNoImage, IsDamaged}
 use Rattle.script_lines.specs.SourceState.{SourceState}
 use Rattle.script_lines.specs.SourceState as sources
 use Rattle.script_lines.specs.SinkState.{SinkState}

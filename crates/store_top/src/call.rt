@@ -3,19 +3,21 @@
 ghost use Rattle.std.specs.Prelude.{◌≡◌, ◌≢◌, ◌⊎◌, ℕ, Some, None};
 ghost use Rattle.store_model.specs.Parameters.{Parameters};
 ghost use Rattle.store_model.specs.Words.{request_of};
-ghost use Rattle.store_model.specs.Words.Request.{Format, Run, Check, Scrub, Wipe, Big};
+ghost use Rattle.store_model.specs.Words.Request.{Format, Run, Check, Scrub, Wipe, Upgrade, Big};
 ghost use Rattle.store_top.specs.BigCall.{IsBig};
 ghost use Rattle.image_subcommands.specs.CheckCall.{IsCheck};
 ghost use Rattle.image_subcommands.specs.FormatCall.{IsFormat};
 ghost use Rattle.image_subcommands.specs.Outside.{KeepsOutside, CallsNothing, outside_of};
 ghost use Rattle.store_top.specs.RunCall.{IsRun};
 ghost use Rattle.image_subcommands.specs.ScrubCall.{IsScrub};
+ghost use Rattle.store_top.specs.UpgradeCall.{IsUpgrade};
 ghost use Rattle.image_subcommands.specs.WipeCall.{IsWipe};
 ghost use Rattle.command_line.specs.Requests.{request_seen};
 
 use crate::big::big;
 use crate::run::run;
 use crate::uncalled::{no_memory, usage};
+use crate::upgrade::upgrade;
 use command_line::{Request, Words};
 use disk_model::Disk;
 use image_subcommands::{Outcome, Status, check_disk, format_disk, scrub_disk, wipe_disk};
@@ -23,10 +25,11 @@ use script_lines::{Sink, Source};
 use std::alloc::Global;
 use store_base::NoMemory;
 
-/// Carries out the words of a command line on a disk: `format` makes the image of the empty tree, `run` answers the
-/// script that the source has and writes the replies to the sink, `check` prints a line that tells what the disk holds,
-/// `scrub` recovers the image, makes its free slots zero and prints such a line, `wipe` makes every byte zero, `big`
-/// carries out the commands that a number gives and prints four lines that sum them up.
+/// Carries out the words of a command line on a disk: `format` and `format2` make the image of the empty tree, of
+/// version 1 and 2, `run` answers the script that the source has and writes the replies to the sink, `check` prints a
+/// line that tells what the disk holds, `scrub` recovers the image, makes its free slots zero and prints such a line,
+/// `wipe` makes every byte zero, `upgrade` makes the image one of version 2, `big` carries out the commands that a
+/// number gives and prints four lines that sum them up.
 ///
 /// Words that are not well formed end with `Usage`, and then nothing is called; nor is anything called where memory
 /// runs out while the words are read. What each subcommand promises is one record: how it ends, which status comes
@@ -52,6 +55,7 @@ pub fn top<D: Disk, R: Source, W: Sink>(
     ensures check { request_of words.now ≡ Some Check → IsCheck D.state W.state (outside_of disk source sink) result }
     ensures scrub { request_of words.now ≡ Some Scrub → IsScrub D.state W.state (outside_of disk source sink) result }
     ensures wipe { request_of words.now ≡ Some Wipe → IsWipe D.state (outside_of disk source sink) result }
+    ensures upgrade { request_of words.now ≡ Some Upgrade → IsUpgrade D.state (outside_of disk source sink) result }
     ensures big { (number count : ℕ) → request_of words.now ≡ Some (Big number count) → IsBig D.state W.state number count (outside_of disk source sink) result }
 {
     match words.request() {
@@ -76,6 +80,7 @@ fn serve_request<D: Disk, R: Source, W: Sink>(
     ensures check { request_seen request ≡ Check → IsCheck D.state W.state (outside_of disk source sink) result }
     ensures scrub { request_seen request ≡ Scrub → IsScrub D.state W.state (outside_of disk source sink) result }
     ensures wipe { request_seen request ≡ Wipe → IsWipe D.state (outside_of disk source sink) result }
+    ensures upgrade { request_seen request ≡ Upgrade → IsUpgrade D.state (outside_of disk source sink) result }
     ensures big { (number count : ℕ) → request_seen request ≡ Big number count → IsBig D.state W.state number count (outside_of disk source sink) result }
 {
     match request {
@@ -84,6 +89,7 @@ fn serve_request<D: Disk, R: Source, W: Sink>(
         Request::Check => check_disk(disk, source, sink),
         Request::Scrub => scrub_disk(disk, source, sink),
         Request::Wipe => wipe_disk(disk, source, sink),
+        Request::Upgrade => upgrade(alloc, disk, source, sink),
         Request::Big(number, count) => big(alloc, number, count, disk, source, sink),
     }
 }

@@ -1,8 +1,9 @@
 //! The store as one call: words, an image, a script in; replies, a status and the image out.
 //!
-//! Served are the words `format SLOTS HEIGHT DRAW SEED`, `run`, `check`, `scrub`, `wipe` and `big NUMBER COUNT`, and
-//! in a script every command. Other words end with `Status::Usage`. Each subcommand has a file with its call, and a
-//! file of specs/ with what it promises: `run` and `big` here, those that need no store in `image_subcommands`.
+//! Served are the words `format SLOTS HEIGHT DRAW SEED`, `format2` with the same arguments, `run`, `check`, `scrub`,
+//! `wipe`, `upgrade` and `big NUMBER COUNT`, and in a script every command. Other words end with `Status::Usage`. Each
+//! subcommand has a file with its call, and a file of specs/ with what it promises: `run`, `upgrade` and `big` here,
+//! those that need no store in `image_subcommands`.
 #![tactic(auto)]
 
 mod big;
@@ -11,6 +12,7 @@ mod generated;
 mod lines;
 mod run;
 mod uncalled;
+mod upgrade;
 mod work;
 
 pub use call::top;

@@ -8,6 +8,7 @@ ghost use Rattle.image_subcommands.specs.FormatCall.{IsFormat};
 ghost use Rattle.image_subcommands.specs.Outside.{KeepsOutside, CallsNothing, outside_of};
 ghost use Rattle.store_top.specs.RunCall.{IsRun};
 ghost use Rattle.image_subcommands.specs.ScrubCall.{IsScrub};
+ghost use Rattle.store_top.specs.UpgradeCall.{IsUpgrade};
 ghost use Rattle.image_subcommands.specs.WipeCall.{IsWipe};
 
 use disk_model::Disk;
@@ -37,6 +38,7 @@ pub(crate) fn no_memory<D: Disk, R: Source, W: Sink>(
     ensures check { IsCheck D.state W.state (outside_of disk source sink) result }
     ensures scrub { IsScrub D.state W.state (outside_of disk source sink) result }
     ensures wipe { IsWipe D.state (outside_of disk source sink) result }
+    ensures upgrade { IsUpgrade D.state (outside_of disk source sink) result }
     ensures big { (number count : ℕ) → IsBig D.state W.state number count (outside_of disk source sink) result }
 {
     Outcome::idle(Status::NoMemory, disk, source, sink)

@@ -3,14 +3,16 @@
 
 ghost use Rattle.std.specs.Prelude.{◌≡◌, ℕ, List, [], ◌∷◌, ◌++◌, codes, map, replicate, Some, None, Ok};
 ghost use Rattle.store_model.specs.declared.draw_kind.DrawKind.TheVariants.{Ruler};
+ghost use Rattle.store_model.specs.declared.version.Version.TheVariants.{Two};
 ghost use Rattle.store_model.specs.Lists.{zeros};
 ghost use Rattle.store_model.specs.declared.refusal.Refusal.TheVariants as refusals;
 ghost use Rattle.store_model.specs.Commands.{reply_text};
 ghost use Rattle.store_model.specs.Commands.Command.{Digest};
 ghost use Rattle.store_model.specs.Commands.Reply.{ImageDigest, Refused};
 ghost use Rattle.store_model.specs.Grammar.{parse};
+ghost use Rattle.store_model.specs.Parameters.{with_version};
 ghost use Rattle.store_model.specs.Words.{request_of};
-ghost use Rattle.store_model.specs.Words.Request.{Run, Check, Scrub, Wipe, Format, Big};
+ghost use Rattle.store_model.specs.Words.Request.{Run, Check, Scrub, Wipe, Upgrade, Format, Big};
 ghost use Rattle.model_laws.specs.Examples.{ruler, text, output};
 
 /// Lines that no command spells, a path that no key can hold, and a missing parent.
@@ -35,14 +37,17 @@ pub fn cut_into_lines()
 
 /// Command lines that are well formed and that are not.
 pub fn command_lines()
-    ensures one_word { map (λ word. request_of (codes word ∷ [])) ("run" ∷ "check" ∷ "scrub" ∷ "wipe" ∷ "format" ∷ "big" ∷ []) ≡
-        Some Run ∷ Some Check ∷ Some Scrub ∷ Some Wipe ∷ None ∷ None ∷ [] }
+    ensures one_word { map (λ word. request_of (codes word ∷ [])) ("run" ∷ "check" ∷ "scrub" ∷ "wipe" ∷ "upgrade" ∷ "format" ∷ "format2" ∷ "big" ∷ []) ≡
+        Some Run ∷ Some Check ∷ Some Scrub ∷ Some Wipe ∷ Some Upgrade ∷ None ∷ None ∷ None ∷ [] }
     ensures format { request_of (codes "format" ∷ codes "4" ∷ codes "2" ∷ codes "ruler" ∷ replicate 64 0x30 ∷ []) ≡
         Some (Format (ruler 4 2)) }
+    ensures format_two { request_of (codes "format2" ∷ codes "4" ∷ codes "2" ∷ codes "ruler" ∷ replicate 64 0x30 ∷ []) ≡
+        Some (Format (with_version (ruler 4 2) Two)) }
+    ensures other_formats { map (λ word. request_of (codes word ∷ codes "4" ∷ codes "2" ∷ codes "ruler" ∷ replicate 64 0x30 ∷ [])) ("format1" ∷ "format3" ∷ "Format2" ∷ "upgrade" ∷ []) ≡ replicate 4 None }
     ensures other_draws { map (λ draw. request_of (codes "format" ∷ codes "4" ∷ codes "2" ∷ codes draw ∷ replicate 64 0x30 ∷ [])) ("Ruler" ∷ "sha-256" ∷ "sha" ∷ "" ∷ []) ≡ replicate 4 None }
     ensures no_levels { map (λ height. request_of (codes "format" ∷ codes "4" ∷ codes height ∷ codes "ruler" ∷ replicate 64 0x30 ∷ [])) ("0" ∷ "9" ∷ []) ≡ None ∷ None ∷ [] }
     ensures no_slots { request_of (codes "format" ∷ codes "0" ∷ codes "1" ∷ codes "ruler" ∷ replicate 64 0x30 ∷ []) ≡ None }
     ensures big { request_of (codes "big" ∷ codes "0" ∷ codes "1" ∷ []) ≡ Some (Big 0 1) }
-    ensures extra_word { map (λ word. request_of (codes word ∷ codes "x" ∷ [])) ("run" ∷ "check" ∷ "scrub" ∷ "wipe" ∷ []) ≡ replicate 4 None }
+    ensures extra_word { map (λ word. request_of (codes word ∷ codes "x" ∷ [])) ("run" ∷ "check" ∷ "scrub" ∷ "wipe" ∷ "upgrade" ∷ []) ≡ replicate 5 None }
     ensures no_word { request_of [] ≡ None }
 {}

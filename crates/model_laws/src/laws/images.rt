@@ -3,7 +3,7 @@
 
 ghost use Rattle.std.specs.Prelude.{◌≡◌, ◌≢◌, ◌↔◌, ◌⊎◌, ℕ, ◌<◌, List, length, take, slice_index, slice_set, true, false, Some, None};
 ghost use Rattle.store_model.specs.declared.version.Version.{Version};
-ghost use Rattle.store_model.specs.declared.version.Version.TheVariants.{One, Two};
+ghost use Rattle.store_model.specs.declared.version.Version.TheVariants.{Two};
 ghost use Rattle.store_model.specs.Lists.{IsBytes, zeros};
 ghost use Rattle.store_model.specs.Parameters.{Parameters, IsParameters, with_version, block_len, table_at, image_len};
 ghost use Rattle.store_model.specs.Trees.{Tree, IsTree};
@@ -29,12 +29,12 @@ pub fn layout_has_the_image_length()
         length (layout t p) ≡ image_len p.slots }
 {}
 
-/// Recovery leaves the layout of a tree that fits as it is, and the layout represents the tree, of version 1 as long as no
-/// other is served. An image that represents a tree still does so once recovered.
+/// Recovery leaves the layout of a tree that fits as it is, and the layout represents the tree. An image that represents
+/// a tree still does so once recovered.
 pub fn layout_is_its_own_recovery()
     ensures recovered { (t : Tree) (p : Parameters) → IsParameters p → IsTree t → Fits t p →
         recovered p.slots (layout t p) ≡ layout t p }
-    ensures represents { (t : Tree) (p : Parameters) → IsParameters p → p.version ≡ One → IsTree t → Fits t p →
+    ensures represents { (t : Tree) (p : Parameters) → IsParameters p → IsTree t → Fits t p →
         Represents (layout t p) t p }
     ensures represented { (image : List ℕ) (t : Tree) (p : Parameters) →
         Represents image t p → Represents (recovered p.slots image) t p }

@@ -9,13 +9,15 @@ use std::process::Abort;
 
 /// What a subcommand is called with what stands before it on a command line, in the order of the help; first the
 /// command line itself.
-static SUBCOMMANDS: [(Option<Subcommand>, &str); 7] = [
+static SUBCOMMANDS: [(Option<Subcommand>, &str); 9] = [
     (None, "./hstore IMAGE"),
     (Some(Subcommand::Format), "./hstore IMAGE format"),
+    (Some(Subcommand::Format2), "./hstore IMAGE format2"),
     (Some(Subcommand::Run), "./hstore IMAGE run"),
     (Some(Subcommand::Check), "./hstore IMAGE check"),
     (Some(Subcommand::Scrub), "./hstore IMAGE scrub"),
     (Some(Subcommand::Wipe), "./hstore IMAGE wipe"),
+    (Some(Subcommand::Upgrade), "./hstore IMAGE upgrade"),
     (Some(Subcommand::Big), "./hstore IMAGE big"),
 ];
 
@@ -83,17 +85,20 @@ what it held before or of how it came to be.
 Usage: ./hstore IMAGE <SUBCOMMAND>
 
 Subcommands:
-  format  Makes an image with nothing in it.
-  run     Answers the script on standard input, with a reply for each line.
-  check   Tells what the file is, and changes nothing.
-  scrub   Makes zeros of whatever the free slots of an image hold.
-  wipe    Makes every byte of the file zero, whatever the file is.
-  big     Carries out generated commands, and prints what came of them.
+  format   Makes an image of version 1 with nothing in it.
+  format2  Makes an image of version 2 with nothing in it.
+  run      Answers the script on standard input, with a reply for each line.
+  check    Tells what the file is, and changes nothing.
+  scrub    Makes zeros of whatever the free slots of an image hold.
+  wipe     Makes every byte of the file zero, whatever the file is.
+  upgrade  Makes an image of version 1 one of version 2.
+  big      Carries out generated commands, and prints what came of them.
 
-IMAGE is the path of the image's file. `format` makes the file; every other subcommand wants it there.
+IMAGE is the path of the image's file. `format` and `format2` make the file; every other subcommand
+wants it there.
 Numbers are decimal digits, with no sign and no leading zero.
 == format
-Makes an image with nothing in it.
+Makes an image of version 1 with nothing in it.
 
 Usage: ./hstore IMAGE format <SLOTS> <HEIGHT> <DRAW> <SEED>
 
@@ -104,7 +109,24 @@ Arguments:
   <SEED>    What they are drawn from, 64 hexadecimal digits
 
 The file is made where there is none. One that is there must have just the length that SLOTS asks
-for, and must not begin as an image does: `wipe` readies it for a second `format`.
+for, and must not begin as an image does: `wipe` readies it for a second one.
+Version 2 keeps files of at most 200 bytes in less room, and an image of version 1 is made one by
+`upgrade`.
+== format2
+Makes an image of version 2 with nothing in it.
+
+Usage: ./hstore IMAGE format2 <SLOTS> <HEIGHT> <DRAW> <SEED>
+
+Arguments:
+  <SLOTS>   How many pages of 4096 bytes it has room for, 1 to 65536
+  <HEIGHT>  How many levels the lists in it have, 1 to 8
+  <DRAW>    How levels and places are drawn [possible values: ruler, sha256]
+  <SEED>    What they are drawn from, 64 hexadecimal digits
+
+The file is made where there is none. One that is there must have just the length that SLOTS asks
+for, and must not begin as an image does: `wipe` readies it for a second one.
+Version 2 keeps files of at most 200 bytes in less room, and an image of version 1 is made one by
+`upgrade`.
 == run
 Answers the script on standard input, with a reply for each line.
 
@@ -130,7 +152,14 @@ Makes every byte of the file zero, whatever the file is.
 
 Usage: ./hstore IMAGE wipe
 
-The file keeps its length, and `format` can make an image of it again.
+The file keeps its length, and `format` or `format2` can make an image of it again.
+== upgrade
+Makes an image of version 1 one of version 2.
+
+Usage: ./hstore IMAGE upgrade
+
+The image holds what it held, and none of its bytes tells that it was of version 1. It cannot be taken
+back. On an image of version 2 nothing is done.
 == big
 Carries out generated commands, and prints what came of them.
 

@@ -21,8 +21,6 @@ static IMAGES: &str = "\
     the header's height|format 1 1 ruler zeros|make /a\n||12:9|not-image\n|-#\
     the header's draw|format 1 1 ruler zeros|make /a\n||13:2|not-image\n|-#\
     the header's version|format 1 1 ruler zeros|make /a\n||14:9|not-image\n|-#\
-    version 2, which no subcommand serves yet|format 1 1 ruler zeros|make /a\n||14:2|not-image\n|-#\
-    the mark of version 2, behind its flag|format 1 1 ruler zeros|make /a\n||4096:1 8193:127|not-image\n|-#\
     the header's byte behind the version|format 1 1 ruler zeros|make /a\n||15:1|not-image\n|-#\
     the header's filling|format 1 1 ruler zeros|make /a\n||4095:1|not-image\n|-#\
     another height, for which a page is missing|format 4 1 ruler zeros|make /U\n||12:2|damaged\n|-#\

@@ -2,33 +2,40 @@ use Rattle.std.proofs.Common.{◌≡◌, ◌∙◌, ◌+◌, ◌<◌, ℕ, List,
 use Rattle.std.proofs.lemmas.List.{drop_all}
 use Rattle.clap.specs.Simple.{App, app_of, with_subcommand}
 use Rattle.clap.specs.declared.builder.command.Command.{Command}
+use Rattle.clap.specs.declared.builder.value_parser.ValueParser.{ValueParser}
+use Rattle.store_model.specs.declared.version.Version.{Version}
+use Rattle.store_model.specs.declared.version.Version.TheVariants.{One, Two}
 use Rattle.command_line.proofs.Subcommands.{AddsSubcommands}
-use Rattle.command_line.specs.Line.{IsSubcommandOf}
+use Rattle.command_line.specs.Line.{IsSubcommandOf, TakesDraws}
 use Rattle.command_line.specs.declared.line.Subcommand.{Subcommand}
 use Rattle.command_line.specs.declared.line.Subcommand.TheVariants as subcommands
 use Rattle.command_line.proofs.line.command.Goals as goal
 
 abbrev all : List Subcommand
-all = subcommands.Format ∷ subcommands.Run ∷ subcommands.Check ∷ subcommands.Scrub ∷ subcommands.Wipe ∷ subcommands.Big ∷ []
+all = subcommands.Format ∷ subcommands.Format2 ∷ subcommands.Run ∷ subcommands.Check ∷ subcommands.Scrub ∷ subcommands.Wipe ∷ subcommands.Upgrade ∷ subcommands.Big ∷ []
 
 pub loop-subcommand-init : goal.loop-subcommand-init
 loop-subcommand-init c = λ whole added.
     let format = added.1 in
-    let run = added.2 in
+    let format_two = added.2 in
+    let run = format_two.2 in
     let check = run.2 in
     let scrub = check.2 in
     let wipe = scrub.2 in
-    let big = wipe.2 in
+    let upgrade = wipe.2 in
+    let big = upgrade.2 in
     let top = λ (a : App). a.top in
     let one = ap₂ with_subcommand c.without_subcommands-line.ensures.line (ap top format.subcommand.subcommand_is) in
-    let two = ap₂ with_subcommand one (ap top run.1.subcommand_is) in
-    let three = ap₂ with_subcommand two (ap top check.1.subcommand_is) in
-    let four = ap₂ with_subcommand three (ap top scrub.1.subcommand_is) in
-    let five = ap₂ with_subcommand four (ap top wipe.1.subcommand_is) in
+    let two = ap₂ with_subcommand one (ap top format_two.1.subcommand.subcommand_is) in
+    let three = ap₂ with_subcommand two (ap top run.1.subcommand_is) in
+    let four = ap₂ with_subcommand three (ap top check.1.subcommand_is) in
+    let five = ap₂ with_subcommand four (ap top scrub.1.subcommand_is) in
+    let six = ap₂ with_subcommand five (ap top wipe.1.subcommand_is) in
+    let seven = ap₂ with_subcommand six (ap top upgrade.1.subcommand_is) in
     record {
-      draws = format.draws;
-      takes_draws = format.takes_draws;
-      line_is = big.2 ∙ ap₂ with_subcommand five (ap top big.1.subcommand_is);
+      draws = λ (version : Version). elim version as (λ _. ValueParser) [ One ↦ format.draws | Two ↦ format_two.1.draws ];
+      takes_draws = λ (version : Version). elim version as (λ version. TakesDraws (elim version as (λ _. ValueParser) [ One ↦ format.draws | Two ↦ format_two.1.draws ])) [ One ↦ format.takes_draws | Two ↦ format_two.1.takes_draws ];
+      line_is = big.2 ∙ ap₂ with_subcommand seven (ap top big.1.subcommand_is);
     }
 
 -- the next subcommand goes behind those that are there

@@ -13,6 +13,14 @@ returns-in-Format c = subst (λ (subcommand : Subcommand). IfOk c.subcommand_wit
       subcommand = record { subcommand_is = built.subcommand_is; local = built.local };
     }) c.subcommand_with.ensures)
 
+pub returns-in-Format2 : goal.returns-in-Format2
+returns-in-Format2 c = subst (λ (subcommand : Subcommand). IfOk c.subcommand_with-in-Format2.result (IsSubcommandOf subcommand)) (sym c.in-Format2.is)
+    (IfOk-weaker c.subcommand_with-in-Format2.result _ _ (λ command built. record {
+      draws = _;
+      takes_draws = record { names = _; parser_is = refl; names_are = refl };
+      subcommand = record { subcommand_is = built.subcommand_is; local = built.local };
+    }) c.subcommand_with-in-Format2.ensures)
+
 pub returns-in-Run : goal.returns-in-Run
 returns-in-Run c = subst (λ (subcommand : Subcommand). IfOk c.subcommand_with-in-Run.result (IsSubcommandOf subcommand)) (sym c.in-Run.is)
     (IfOk-weaker c.subcommand_with-in-Run.result _ _ (λ command built. record { subcommand_is = built.subcommand_is; local = built.local }) c.subcommand_with-in-Run.ensures)
@@ -28,6 +36,10 @@ returns-in-Scrub c = subst (λ (subcommand : Subcommand). IfOk c.subcommand_with
 pub returns-in-Wipe : goal.returns-in-Wipe
 returns-in-Wipe c = subst (λ (subcommand : Subcommand). IfOk c.subcommand_with-in-Wipe.result (IsSubcommandOf subcommand)) (sym c.in-Wipe.is)
     (IfOk-weaker c.subcommand_with-in-Wipe.result _ _ (λ command built. record { subcommand_is = built.subcommand_is; local = built.local }) c.subcommand_with-in-Wipe.ensures)
+
+pub returns-in-Upgrade : goal.returns-in-Upgrade
+returns-in-Upgrade c = subst (λ (subcommand : Subcommand). IfOk c.subcommand_with-in-Upgrade.result (IsSubcommandOf subcommand)) (sym c.in-Upgrade.is)
+    (IfOk-weaker c.subcommand_with-in-Upgrade.result _ _ (λ command built. record { subcommand_is = built.subcommand_is; local = built.local }) c.subcommand_with-in-Upgrade.ensures)
 
 pub returns-in-Big : goal.returns-in-Big
 returns-in-Big c = subst (λ (subcommand : Subcommand). IfOk c.subcommand_with-in-Big.result (IsSubcommandOf subcommand)) (sym c.in-Big.is)

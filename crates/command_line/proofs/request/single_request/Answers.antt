@@ -19,5 +19,9 @@ pub returns-in-wipe-clause-value : goal.returns-in-wipe-clause-value
 unfolding request_of
 returns-in-wipe-clause-value c = rw c.in-wipe.is refl
 
+pub returns-in-upgrade-clause-value : goal.returns-in-upgrade-clause-value
+unfolding request_of
+returns-in-upgrade-clause-value c = rw c.in-upgrade.is refl
+
 pub returns-in_default-clause-value : goal.returns-in_default-clause-value
-returns-in_default-clause-value c = sym (other_single c.args.name.now c.in_default.not-run c.in_default.not-check c.in_default.not-scrub c.in_default.not-wipe)
+returns-in_default-clause-value c = sym (other_single c.args.name.now c.in_default.not-run c.in_default.not-check c.in_default.not-scrub c.in_default.not-wipe c.in_default.not-upgrade)

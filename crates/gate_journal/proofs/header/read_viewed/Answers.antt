@@ -39,8 +39,8 @@ returns-then-slots-eq0 g c =
             let read : block ≡ take 4096 old.bytes = (c.in_ok-read_at.ensures.observed observable).read ∙ ap (λ n. take n old.bytes) c.read_at.auto.into in
             let same : c.named_slots-slots.result ≡ p.slots = c.named_slots-slots.ensures ∙ named_by_header old.bytes block read p has in
             elim c.then-slots-eq0.branch [
-              | then-slots-eq0-via-then-slots-eq0 w ↦ absurd (omega (arith, w.if-slots-eq0.true, same, has.in_range.some_slot))
-              | then-slots-eq0-via-else-slots-eq0+then-slots-gt-MAX_SLOTS w ↦ absurd (omega (arith, w.if-slots-gt-MAX_SLOTS.true, same, has.in_range.slots_in_range))
+              | then-slots-eq0-via-then-slots-eq0 w ↦ absurd (omega (arith, w.if-slots-eq0.true, same, has.names.in_range.some_slot))
+              | then-slots-eq0-via-else-slots-eq0+then-slots-gt-MAX_SLOTS w ↦ absurd (omega (arith, w.if-slots-gt-MAX_SLOTS.true, same, has.names.in_range.slots_in_range))
               | then-slots-eq0-via-else-slots-eq0+else-slots-gt-MAX_SLOTS+then-len-image_len w ↦
                   absurd (w.if-len-image_len.true (c.len-len.ensures ∙ sym (g.met.D.Disk.sound c.args.disk.now observable).size ∙ has.length_is ∙ ap model.image_len (sym same) ∙ sym w.image_len.ensures))
             ];
@@ -69,11 +69,11 @@ returns g c =
             record {
               in_range = is.0;
               size_is = size;
-              headed = λ observable.
+              named = λ observable.
                   header_found old.bytes block (read observable) p slots c.in_ok-marked.marked same (marked_is observable) is.0 is.1 ((g.met.D.Disk.sound c.args.disk.now observable).size ∙ size);
             });
         only = λ observable p has.
             let same : slots ≡ p.slots = c.named_slots-slots.ensures ∙ named_by_header old.bytes block (read observable) p has in
-            c.params_as_read.ensures.only p has.in_range (header_read old.bytes block (read observable) p slots c.in_ok-marked.marked same (marked_is observable) has);
+            c.params_as_read.ensures.only p has.names.in_range (header_read old.bytes block (read observable) p slots c.in_ok-marked.marked same (marked_is observable) has);
       };
     }

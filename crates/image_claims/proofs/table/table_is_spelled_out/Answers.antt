@@ -1,4 +1,4 @@
-use Rattle.image_claims.proofs.EndingLemmas.{numbers, format_ends, run_ends, check_ends, scrub_ends, wipe_ends, big_ends, may_end_format, may_end_run, may_end_check, may_end_scrub, may_end_wipe, may_end_big}
+use Rattle.image_claims.proofs.EndingLemmas.{numbers, format_ends, run_ends, check_ends, scrub_ends, wipe_ends, upgrade_ends, big_ends, may_end_format, may_end_run, may_end_check, may_end_scrub, may_end_wipe, may_end_upgrade, may_end_big}
 use Rattle.image_claims.proofs.table.table_is_spelled_out.Goals as goal
 
 pub returns-clause-numbers : goal.returns-clause-numbers
@@ -18,6 +18,9 @@ returns-clause-scrub c status = (scrub_ends status, may_end_scrub status)
 
 pub returns-clause-wipe : goal.returns-clause-wipe
 returns-clause-wipe c status = (wipe_ends status, may_end_wipe status)
+
+pub returns-clause-upgrade : goal.returns-clause-upgrade
+returns-clause-upgrade c status = (upgrade_ends status, may_end_upgrade status)
 
 pub returns-clause-big : goal.returns-clause-big
 returns-clause-big c number count status = (big_ends status, may_end_big status)

@@ -11,5 +11,6 @@ returns g c = record {
   check = c.top.ensures.check;
   scrub = c.top.ensures.scrub;
   wipe = c.top.ensures.wipe;
+  upgrade = c.top.ensures.upgrade;
   big = c.top.ensures.big;
 }

@@ -93,7 +93,7 @@ returns-in-Ok-Err-clause-list g c =
 pub give_up-requires : goal.give_up-requires
 give_up-requires g c =
     let some = c.requires.list in
-    table_behind g.D.Disk.state some.0 c.args.params.now c.args.pairs.now some.1 c.requires.runs (command_of c.args.command.now) c.change.new.pairs c.in-Err.ensures.follows
+    table_behind g.D.Disk.state some.0 c.args.params.now c.args.pairs.now some.1 c.requires.runs c.change.new.pairs c.in-Err.ensures.follows
 
 pub returns-in-Err-clause-call : goal.returns-in-Err-clause-call
 returns-in-Err-clause-call g c t list =

@@ -32,7 +32,7 @@ invariant_of-pairs g c =
 pub give_up-requires : goal.give_up-requires
 give_up-requires g c =
     let some = c.requires.list in
-    table_behind g.D.Disk.state some.0 some.1.0 c.args.pairs.now some.1.1 c.requires.runs (command_of c.args.command.now) c.answer.new.pairs c.in-Err.ensures.follows
+    table_behind g.D.Disk.state some.0 some.1.0 c.args.pairs.now some.1.1 c.requires.runs c.answer.new.pairs c.in-Err.ensures.follows
 
 pub returns-in-Ok-clause-call : goal.returns-in-Ok-clause-call
 returns-in-Ok-clause-call g c t p list =

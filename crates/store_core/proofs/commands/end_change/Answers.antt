@@ -36,7 +36,7 @@ give_up-requires g c =
     let some = c.requires.staged in
     let runs = ap (λ (v : TreeList g.row.D.Denot). v.pages.is_spent) c.pairs.view_is ∙ c.requires.runs in
     let staged = subst (λ (v : TreeList g.row.D.Denot). IsStagedFor state some.0 some.1.0 some.1.1.0 v.pages × (any_draw v.draw ≡ draw_of some.1.1.0)) (sym c.pairs.view_is) some.1.1.1 in
-    table_behind_settle state s.pages c.settle.new.self runs some.0 some.1.0 some.1.1.0 s.draw staged.0 staged.1 c.in-Err.ensures.call
+    table_behind_settle state s.pages c.settle.new.self runs some.0 some.1.1.0 s.draw staged.0.fitting staged.0.table_is staged.1 c.in-Err.ensures.call
 
 pub returns-in-Ok-clause-call : goal.returns-in-Ok-clause-call
 returns-in-Ok-clause-call g c t next p staged =

@@ -6,8 +6,9 @@ use Rattle.image_subcommands.specs.ScrubCall.{IsScrub}
 use Rattle.image_subcommands.specs.WipeCall.{IsWipe}
 use Rattle.store_top.specs.BigCall.{IsBig}
 use Rattle.store_top.specs.RunCall.{IsRun}
+use Rattle.store_top.specs.UpgradeCall.{IsUpgrade}
 use Rattle.image_subcommands.proofs.UncalledLemmas.{format_uncalled, check_uncalled, scrub_uncalled, wipe_uncalled}
-use Rattle.store_top.proofs.UncalledLemmas.{run_uncalled, big_uncalled}
+use Rattle.store_top.proofs.UncalledLemmas.{run_uncalled, upgrade_uncalled, big_uncalled}
 use Rattle.store_top.proofs.uncalled.no_memory.Goals as goal
 
 pub returns-clause-format : goal.returns-clause-format
@@ -34,6 +35,11 @@ pub returns-clause-wipe : goal.returns-clause-wipe
 returns-clause-wipe g c =
     let before = outside_of c.args.disk c.args.source c.args.sink in
     subst (λ after. IsWipe g.D.Disk.state before after) (sym c.idle.ensures) (wipe_uncalled g.D.Disk.state g.W.Sink.state g.met.D.Disk.sound before)
+
+pub returns-clause-upgrade : goal.returns-clause-upgrade
+returns-clause-upgrade g c =
+    let before = outside_of c.args.disk c.args.source c.args.sink in
+    subst (λ after. IsUpgrade g.D.Disk.state before after) (sym c.idle.ensures) (upgrade_uncalled g.D.Disk.state g.R.Source.state g.W.Sink.state g.met.D.Disk.sound before)
 
 pub returns-clause-big : goal.returns-clause-big
 returns-clause-big g c number count =

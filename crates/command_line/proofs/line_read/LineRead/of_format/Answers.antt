@@ -1,4 +1,5 @@
-use Rattle.std.proofs.Common.{◌∷◌, [], ◌∙◌, ap, codes, Some}
+use Rattle.std.proofs.Common.{◌∷◌, [], ◌∙◌, ap, Some}
+use Rattle.command_line.specs.Line.{format_word}
 use Rattle.command_line.proofs.LineLemmas.{four_there, none_there, same_values}
 use Rattle.command_line.proofs.line_read.LineRead.of_format.Goals as goal
 
@@ -18,4 +19,4 @@ pub returns : goal.returns
 returns c values held =
     let read = same_values (c.in_ok-slots.slots.now ∷ c.in_ok-height.height.now ∷ c.in_ok-draw.draw.now ∷ c.in_ok-seed.seed.now ∷ []) values
     ((λ i. c.in_ok-slots.ensures i ∷ c.in_ok-height.ensures i ∷ c.in_ok-draw.ensures i ∷ c.in_ok-seed.ensures i ∷ []) ∙ held) in
-    ap (λ rest. Some (codes "format" ∷ rest)) read
+    ap (λ rest. Some (format_word c.args.version ∷ rest)) read

@@ -1,0 +1,159 @@
+-- An image that was upgraded is the one that is made with version 2: from what an upgrade and makings promise.
+use Rattle.std.proofs.Common.{◌≡◌, ◌⊎◌, inl, inr, ℕ, Bool, true, false, ◌&&◌, nat_lt, cond, List, [], ◌∷◌, ◌++◌, length, map, Option, Some, None, Result, Ok, Err, codes, refl, sym, ap, ◌∙◌, subst}
+use Rattle.std.specs.List.{flat_map, AllByRecursion}
+use Rattle.std.specs.Option.{option_map}
+use Rattle.std.proofs.lemmas.Bool.{false≢true}
+use Rattle.store_model.specs.declared.draw_kind.DrawKind.{DrawKind}
+use Rattle.store_model.specs.declared.refusal.Refusal.{Refusal}
+use Rattle.store_model.specs.declared.refusal.Refusal.TheVariants as refusals
+use Rattle.store_model.specs.declared.version.Version.{Version}
+use Rattle.store_model.specs.declared.version.Version.TheVariants.{One, Two}
+use Rattle.store_model.specs.Parameters.{Parameters, with_version, slots_limit, height_limit}
+use Rattle.store_model.specs.Trees.{Tree, empty_tree}
+use Rattle.store_model.specs.Pages.{page_count}
+use Rattle.store_model.specs.Images.{layout}
+use Rattle.store_model.specs.Commands.{Command}
+use Rattle.store_model.specs.Commands.Reply.{Refused}
+use Rattle.store_model.specs.Steps.{Step, step, step_by, step_to, refusal_of, next_tree, may_fill, reply_of}
+use Rattle.store_model.specs.Grammar.{parse, ◌>>=◌}
+use Rattle.store_model.specs.Scripts.{lines, line_limit, answer, answer_by, answers_by, state_by, replies_by, tree_by, replies, tree_after}
+use Rattle.store_model.specs.Words.{Request, request_of, number_in, kind_of_word, seed_of_word, version_of_word}
+use Rattle.store_model.specs.Words.Request.{Format, Run, Check, Scrub, Wipe, Upgrade, Big}
+use Rattle.image_check.specs.Standing.{IsFitting}
+use Rattle.script_lines.specs.Memory.{SourceMemory, SinkMemory, source_state, sink_state}
+use Rattle.image_subcommands.specs.declared.status.Status.{Status}
+use Rattle.image_subcommands.specs.declared.status.Status.TheVariants as statuses
+use Rattle.image_subcommands.specs.Outside.{outside_of, KeepsOutside}
+use Rattle.image_subcommands.specs.Statuses.{IsUpgradeStatus, disk_faults_by}
+use Rattle.store_top.specs.UpgradeCall.{IsUpgrade}
+use Rattle.script_claims.specs.Machines.{Disk, Ended, HasImage, bytes_of, meaning}
+use Rattle.script_claims.specs.Makings.{made_tree}
+use Rattle.script_claims.specs.Upgrades.{HaveSameArguments, AreSameScripts, IsNotFull, AreNeverFull, IsUpgradedAsMade, StopsUpgrade}
+use Rattle.script_claims.proofs.MakingLemmas.{represented}
+use Rattle.script_claims.proofs.RunWays.{image_of}
+
+-- ---- words
+
+-- what words ask for that made version 1, under version 2
+abbrev upgraded_request : Request → Request
+upgraded_request (Format p) = Format (with_version p Two)
+upgraded_request Run = Run
+upgraded_request Check = Check
+upgraded_request Scrub = Scrub
+upgraded_request Wipe = Wipe
+upgraded_request Upgrade = Upgrade
+upgraded_request (Big number count) = Big number count
+
+abbrev format_by : Version → Option ℕ → Option ℕ → Option DrawKind → Option (List ℕ) → Option Request
+format_by version slots height kind seed = slots >>= λ n. height >>= λ h. kind >>= λ k. seed >>= λ s. Some (Format (record { slots = n; height = h; kind = k; seed = s; version = version }))
+
+asks_two : (slots height : Option ℕ) (kind : Option DrawKind) (seed : Option (List ℕ)) → format_by Two slots height kind seed ≡ option_map upgraded_request (format_by One slots height kind seed)
+asks_two None height kind seed = refl
+asks_two (Some n) None kind seed = refl
+asks_two (Some n) (Some h) None seed = refl
+asks_two (Some n) (Some h) (Some k) None = refl
+asks_two (Some n) (Some h) (Some k) (Some s) = refl
+
+-- with the same arguments `format2` asks for what `format` does, with version 2
+format2_asks : (arguments : List (List ℕ)) → request_of (codes "format2" ∷ arguments) ≡ option_map upgraded_request (request_of (codes "format" ∷ arguments))
+unfolding request_of version_of_word
+format2_asks [] = refl
+format2_asks (a ∷ []) = refl
+format2_asks (a ∷ b ∷ []) = refl
+format2_asks (a ∷ b ∷ c ∷ []) = refl
+format2_asks (a ∷ b ∷ c ∷ d ∷ []) = asks_two (number_in 1 slots_limit a) (number_in 1 height_limit b) (kind_of_word c) (seed_of_word d)
+format2_asks (a ∷ b ∷ c ∷ d ∷ e ∷ rest) = refl
+
+pub asks_for_two : (format format2 : List (List ℕ)) (p : Parameters) → HaveSameArguments format format2 → request_of format ≡ Some (Format p) → request_of format2 ≡ Some (Format (with_version p Two))
+asks_for_two format format2 p same asked =
+    ap request_of same.format2_is ∙ format2_asks same.arguments ∙ ap (option_map upgraded_request) (ap request_of (sym same.format_is) ∙ asked)
+
+-- ---- trees
+
+-- a step that is not `full` leads to the next tree, whatever the parameters
+goes_on : (b : Bool) (need slots : ℕ) (t : Tree) (to : Step) → IsNotFull (cond b (record { reply = Refused (refusals.Full need slots); tree = t }) to).reply → (cond b (record { reply = Refused (refusals.Full need slots); tree = t }) to).tree ≡ to.tree
+goes_on true need slots t to never = absurd (never need slots refl)
+goes_on false need slots t to never = refl
+
+same_step : (t : Tree) (c : Command) (p q : Parameters) → IsNotFull (step t c p).reply → IsNotFull (step t c q).reply → (step t c p).tree ≡ (step t c q).tree
+unfolding step
+same_step t c p q = by (refusal_of t c)
+  where
+    to : (r : Parameters) → IsNotFull (step_to t c r (next_tree t c)).reply → (step_to t c r (next_tree t c)).tree ≡ next_tree t c
+    to r = goes_on (may_fill c && nat_lt r.slots (page_count (next_tree t c) r)) (page_count (next_tree t c) r) r.slots t (record { reply = reply_of t c r; tree = next_tree t c })
+
+    by : (refusal : Option Refusal) → IsNotFull (step_by t c p refusal).reply → IsNotFull (step_by t c q refusal).reply → (step_by t c p refusal).tree ≡ (step_by t c q refusal).tree
+    by (Some refusal) one other = refl
+    by None one other = to p one ∙ sym (to q other)
+
+same_answer : (t : Tree) (text : List ℕ) (p q : Parameters) → IsNotFull (answer t text p).reply → IsNotFull (answer t text q).reply → (answer t text p).tree ≡ (answer t text q).tree
+unfolding answer
+same_answer t text p q = by (nat_lt line_limit (length text)) (parse text)
+  where
+    by : (b : Bool) (parsed : Result Command Refusal) → IsNotFull (cond b (record { reply = Refused refusals.Long; tree = t }) (answer_by t parsed p)).reply → IsNotFull (cond b (record { reply = Refused refusals.Long; tree = t }) (answer_by t parsed q)).reply
+        → (cond b (record { reply = Refused refusals.Long; tree = t }) (answer_by t parsed p)).tree ≡ (cond b (record { reply = Refused refusals.Long; tree = t }) (answer_by t parsed q)).tree
+    by true parsed one other = refl
+    by false (Err refusal) one other = refl
+    by false (Ok c) one other = same_step t c p q one other
+
+-- lines of which none is answered `full` leave the same tree, whatever the parameters
+same_trees : (t : Tree) (texts : List (List ℕ)) (p q : Parameters) → AllByRecursion IsNotFull (replies t texts p) → AllByRecursion IsNotFull (replies t texts q) → tree_after t texts p ≡ tree_after t texts q
+unfolding replies replies_by answers_by tree_after tree_by state_by
+same_trees t [] p q one other = refl
+same_trees t (text ∷ texts) p q one other =
+    let same : (answer t text p).tree ≡ (answer t text q).tree = same_answer t text p q one.0 other.0 in
+    same_trees (answer t text p).tree texts p q one.1 (subst (λ (u : Tree). AllByRecursion IsNotFull (replies u texts q)) (sym same) other.1) ∙ ap (λ (u : Tree). tree_after u texts q) same
+
+-- ---- images
+
+-- an upgrade that ended with 0 leaves the image of the tree, of version 2
+pub upgraded : (t : Tree) (p : Parameters) (disk : Disk) (source : SourceMemory) (sink : SinkMemory) (after : Ended) → IsUpgrade meaning (outside_of disk source sink) after
+    → IsFitting t p → HasImage disk t p → after.status ≡ statuses.Done → HasImage after.disk t (with_version p Two)
+upgraded t p disk source sink after upgrade is image e = image_of after.disk t (with_version p Two) (((upgrade.observed refl).upgrades t p (represented disk t p is image)).upgraded e)
+
+-- one that did not was stopped by its disk, or by want of memory
+upgrade_cut : (status : Status) → IsUpgradeStatus status → (status ≡ statuses.NotImage → ⊥) → (status ≡ statuses.Damaged → ⊥) → (status ≡ statuses.Done → ⊥) → (status ≡ statuses.DiskFault) ⊎ (status ≡ statuses.NoMemory)
+upgrade_cut statuses.Done ends image whole other = absurd (other refl)
+upgrade_cut statuses.Usage ends image whole other = absurd (false≢true ends)
+upgrade_cut statuses.SourceFault ends image whole other = absurd (false≢true ends)
+upgrade_cut statuses.SinkFault ends image whole other = absurd (false≢true ends)
+upgrade_cut statuses.DiskFault ends image whole other = inl refl
+upgrade_cut statuses.TooLong ends image whole other = absurd (false≢true ends)
+upgrade_cut statuses.NotImage ends image whole other = absurd (image refl)
+upgrade_cut statuses.Damaged ends image whole other = absurd (whole refl)
+upgrade_cut statuses.NoMemory ends image whole other = inr refl
+upgrade_cut statuses.AlreadyImage ends image whole other = absurd (false≢true ends)
+upgrade_cut statuses.WrongLength ends image whole other = absurd (false≢true ends)
+
+pub upgrade_stops : (t : Tree) (p : Parameters) (disk : Disk) (source : SourceMemory) (sink : SinkMemory) (after : Ended) → IsUpgrade meaning (outside_of disk source sink) after
+    → KeepsOutside after.status (meaning disk) (meaning after.disk) (source_state source) (source_state after.source) (sink_state sink) (sink_state after.sink)
+    → IsFitting t p → HasImage disk t p → (after.status ≡ statuses.Done → ⊥) → StopsUpgrade disk after
+upgrade_stops t p disk source sink after upgrade outside is image other =
+    let on_disk = upgrade.observed refl in
+    let represents = represented disk t p is image in
+    record {
+      ends = upgrade_cut after.status upgrade.ends (λ e. on_disk.not_image.only e refl p (record { names = represents.names; length_is = represents.length_is })) (λ e. (on_disk.damaged.only e).no_tree refl t p represents) other;
+      disk_fault = λ e. subst (λ (s : Status). (meaning after.disk).faults ≡ disk_faults_by s (meaning disk).faults) e outside.disk_faults;
+    }
+
+-- there was no memory for the word `upgrade`
+pub unupgraded_stops : (disk : Disk) (ended : Ended) → ended.status ≡ statuses.NoMemory → StopsUpgrade disk ended
+unupgraded_stops disk ended is = record { ends = inr is; disk_fault = λ e. absurd (cc) }
+
+-- the lines of scripts are those of their bytes
+lines_of : (scripts : List SourceMemory) → flat_map (λ (script : SourceMemory). lines script.left) scripts ≡ flat_map lines (map (λ (script : SourceMemory). script.left) scripts)
+lines_of [] = refl
+lines_of (script ∷ scripts) = ap (λ (rest : List (List ℕ)). lines script.left ++ rest) (lines_of scripts)
+
+pub upgraded_as_made : (scripts others : List SourceMemory) (p : Parameters) (one two : Disk) → AreSameScripts scripts others → HasImage one (made_tree scripts p) (with_version p Two) → HasImage two (made_tree others (with_version p Two)) (with_version p Two)
+    → IsUpgradedAsMade scripts p one two
+upgraded_as_made scripts others p one two same image_one image_two =
+    let q = with_version p Two in
+    let texts = flat_map (λ (script : SourceMemory). lines script.left) scripts in
+    let lines_are : flat_map (λ (script : SourceMemory). lines script.left) others ≡ texts = lines_of others ∙ ap (flat_map lines) same ∙ sym (lines_of scripts) in
+    let made : HasImage two (made_tree scripts q) q = subst (λ (ts : List (List ℕ)). HasImage two (tree_after empty_tree ts q) q) lines_are image_two in
+    record {
+      upgraded_image = image_one;
+      made_image = made;
+      same = λ never_one never_two. image_one.bytes ∙ ap (λ (t : Tree). layout t q) (same_trees empty_tree texts p q never_one never_two) ∙ sym made.bytes;
+    }

@@ -1,0 +1,67 @@
+//! Images of version 2: an image that was upgraded is the one that is made so, and an upgrade takes just its writes and
+//! syncs.
+
+use super::support::{Machine, NOT_IMAGE, expect};
+use std::process::Abort;
+
+/// The words that make four slots of each version.
+const ONE: &str = "format 4 1 ruler zeros";
+const TWO: &str = "format2 4 1 ruler zeros";
+
+/// Six files of a byte.
+static FILES: &str = "write /a 0 41\nwrite /b 0 41\nwrite /c 0 41\nwrite /d 0 41\nwrite /e 0 41\nwrite /f 0 41\n";
+
+/// Scripts, one a row, each with how many slots differ between the images of its tree under the two versions.
+static TREES: [(&str, u64); 5] = [
+    ("", 0),
+    ("make /a\nmake /a/b\n", 0),
+    ("write /a 0 -\n", 1),
+    ("write /a 0 41\n", 1),
+    (FILES, 2),
+];
+
+/// Looks whether an upgrade of the image ends with 0, prints nothing and makes so many writes, and the syncs of opening
+/// the image besides 5 where it writes.
+fn expect_upgraded(rt: &impl Abort, machine: &mut Machine, writes: u64, row: &str) {
+    machine.call(rt, "upgrade", "make /z\n");
+    let syncs = if writes == 0 { 2 } else { 7 };
+    let holds = machine.is_ended(0, 1, "") & (machine.ended.calls == [writes, syncs]);
+    expect(rt, holds, "upgrade", row);
+}
+
+#[test]
+fn an_upgraded_image_is_the_one_that_is_made_so(rt: HostRuntime) {
+    let mut machine = Machine::new(rt.alloc());
+    for (script, slots) in &TREES {
+        machine.make(&rt, TWO, *script);
+        let made = machine.copy(&rt);
+        machine.make(&rt, ONE, *script);
+        expect_upgraded(&rt, &mut machine, 5 * *slots + 5, *script);
+        expect(
+            &rt,
+            machine.image() == made.as_slice(),
+            "bytes",
+            *script,
+        );
+        expect_upgraded(&rt, &mut machine, 0, *script);
+        expect(
+            &rt,
+            machine.image() == made.as_slice(),
+            "bytes of a second one",
+            *script,
+        );
+    }
+}
+
+#[test]
+fn an_upgrade_refuses_what_is_no_image(rt: HostRuntime) {
+    let mut machine = Machine::new(rt.alloc());
+    machine.clear(&rt, 20_480);
+    machine.call(&rt, "upgrade", "");
+    assert!(rt; machine.is_ended(7, 0, "") & (machine.ended.calls == [0, 1]));
+    assert!(rt; machine.is_reported(&rt, NOT_IMAGE));
+    machine.make(&rt, ONE, "make /a\n");
+    machine.put(45_055, 1);
+    machine.call(&rt, "upgrade", "");
+    assert!(rt; machine.is_ended(8, 0, "") & (machine.ended.calls == [0, 1]));
+}

@@ -1,0 +1,84 @@
+-- What `upgrade` promises.
+use Rattle.std.specs.Prelude.{◌≡◌, ◌⊎◌, ℕ, ◌+◌, List}
+use Rattle.store_model.specs.declared.version.Version.{Version}
+use Rattle.store_model.specs.declared.version.Version.TheVariants.{One, Two}
+use Rattle.store_model.specs.Parameters.{Parameters, with_version}
+use Rattle.store_model.specs.Trees.{Tree}
+use Rattle.store_model.specs.Images.{Represents}
+use Rattle.store_base.specs.Counts.{Rose}
+use Rattle.disk_model.specs.DiskState.{DiskState, IsObservable}
+use Rattle.disk_model.specs.DiskCalls.{LeavesOnly}
+use Rattle.gate_journal.specs.Costs.{opening_writes, opening_syncs, upgrade_writes, upgrade_syncs, MadeAtMost}
+use Rattle.gate_journal.specs.Disks.{IsOnlySynced, IsUnwritten}
+use Rattle.gate_journal.specs.Headers.{HasParameters}
+use Rattle.gate_journal.specs.Phases.{HasEmptyJournal}
+use Rattle.gate_journal.specs.Places.{Made}
+use Rattle.image_check.specs.Standing.{Stands, RepresentsSome}
+use Rattle.image_check.specs.Verdicts.{IsNoImage, IsDamaged}
+use Rattle.store_core.specs.StoreCalls.{LeavesImage}
+use Rattle.store_core.specs.TableChanges.{slots_upgraded}
+use Rattle.image_subcommands.specs.declared.outcome.Outcome.{Outcome}
+use Rattle.image_subcommands.specs.declared.status.Status.{Status}
+use Rattle.image_subcommands.specs.declared.status.Status.TheVariants as statuses
+use Rattle.image_subcommands.specs.Outside.{Outside}
+use Rattle.image_subcommands.specs.Statuses.{IsUpgradeStatus, IsPastHeader, MayComeFirst, ComesExactly, done_of_work}
+
+-- the writes behind the opening of an image that was of this version, where so many slots differ between the two versions
+abbrev pub writes_behind : Version → ℕ → ℕ
+writes_behind One slots = upgrade_writes slots
+writes_behind Two slots = 0
+
+-- and the syncs
+abbrev pub syncs_behind : Version → ℕ
+syncs_behind One = upgrade_syncs
+syncs_behind Two = 0
+
+-- an image of the tree under the parameters, or under the same with version 2
+abbrev pub RepresentsEither : Tree → Parameters → List ℕ → Type 0
+RepresentsEither t p image = Represents image t p ⊎ Represents image t (with_version p Two)
+
+-- Where it is done just the writes and syncs of opening the image were made, and of one of version 1 those of the commit of the
+-- slots that differ and of the version; and with a fault no more. For want of memory those of opening it were made, or a sync at
+-- most.
+pub record CountsUpgraded (t : Tree) (p : Parameters) (status : Status) (old new : DiskState) : Type 0 where
+  pub done : status ≡ statuses.Done → Made (opening_writes p.slots old.bytes + writes_behind p.version (slots_upgraded p t)) (opening_syncs p.slots old.bytes + syncs_behind p.version) old new
+  pub no_memory : status ≡ statuses.NoMemory → Made (opening_writes p.slots old.bytes) (opening_syncs p.slots old.bytes) old new ⊎ IsOnlySynced old new
+  pub limit : MadeAtMost (opening_writes p.slots old.bytes + writes_behind p.version (slots_upgraded p t)) (opening_syncs p.slots old.bytes + syncs_behind p.version) old new
+
+-- An upgrade of an image that represents the tree.
+pub record UpgradesTree (t : Tree) (p : Parameters) (status : Status) (old new : DiskState) : Type 0 where
+  -- where it is done the disk reads the layout of the tree under version 2, and nothing is pending
+  pub upgraded : status ≡ statuses.Done → Stands new t (with_version p Two)
+  -- An image that a crash at any moment of the call may leave is one that a crash before it might have left, or represents the
+  -- tree under the one version or the other; and the disk reads such an image, after a fault too.
+  pub crash : LeavesOnly old new (λ image. old.crash_images image ⊎ RepresentsEither t p image)
+  pub reads : RepresentsEither t p new.bytes
+  -- where memory ran out it represents the tree under the version that it had
+  pub no_memory : status ≡ statuses.NoMemory → Represents new.bytes t p
+  pub counts : CountsUpgraded t p status old new
+  -- an image of version 2 with an empty journal is not written
+  pub quiet : p.version ≡ Two → HasEmptyJournal p.slots old.bytes → (status ≡ statuses.DiskFault → ⊥) → IsUnwritten old new
+  -- it is done where no call failed and memory was there
+  pub complete : (Rose old.faults new.faults → ⊥) → (status ≡ statuses.Done) ⊎ (status ≡ statuses.NoMemory)
+
+-- An upgrade of a disk that tells its bytes.
+pub record UpgradesDisk (status : Status) (old new : DiskState) : Type 0 where
+  -- how it ends
+  pub not_image : ComesExactly statuses.NotImage (IsNoImage old) MayComeFirst status
+  pub damaged : ComesExactly statuses.Damaged (IsDamaged old) MayComeFirst status
+  pub represented : status ≡ statuses.Done → RepresentsSome old
+  -- what stands then, where the image is none or damaged
+  pub nothing : ((t : Tree) (p : Parameters) → Represents old.bytes t p → ⊥) → LeavesImage old new
+  -- and where it represents a tree
+  pub upgrades : (t : Tree) (p : Parameters) → Represents old.bytes t p → UpgradesTree t p status old new
+
+module _ {D R W : Type 0} (disk_of : D → DiskState) where
+  pub record IsUpgrade (before : Outside D R W) (after : Outcome D R W) : Type 0 where
+    -- how it ends
+    pub ends : IsUpgradeStatus after.status
+    pub done : after.done ≡ done_of_work after.status
+    pub named : IsPastHeader after.status → (p : Parameters) × HasParameters (disk_of before.disk) p
+    -- what stands then
+    pub source : after.source ≡ before.source
+    pub sink : after.sink ≡ before.sink
+    pub observed : IsObservable (disk_of before.disk) → UpgradesDisk after.status (disk_of before.disk) (disk_of after.disk)
