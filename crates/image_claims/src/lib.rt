@@ -17,9 +17,7 @@ mod words;
 
 pub use checks::{Judged, check, check_then_run};
 pub use costs::{check_at_cost, format_at_cost, scrub_at_cost, upgrade_at_cost, wipe_at_cost};
-pub use crashes::{
-    Scrubs, format_cut_short, scrub_cut_short, upgrade_cut_short, wipe_cut_short,
-};
+pub use crashes::{Scrubs, format_cut_short, scrub_cut_short, upgrade_cut_short, wipe_cut_short};
 pub use faults::call_anything;
 pub use images::{Remade, format, scrub, upgrade, wipe, wipe_then_format};
 pub use runs::check_behind_runs;

@@ -7,10 +7,10 @@
 use crate::{
     Crash, Disk, Ended, Machine, Making, Removal, Shortened, a_crash_loses_nothing,
     a_run_costs_its_changes, a_run_on_no_tree_does_nothing, a_script_is_answered,
-    an_upgraded_image_is_the_one_made_so,
-    big_costs_its_changes, big_is_a_run, big_on_no_tree_does_nothing, commands_of_big_stay,
-    equal_contents_have_equal_bytes, full_is_exact, refused_lines_change_nothing,
-    refused_lines_may_be_left_out, serve, what_was_acknowledged_stays, what_was_removed_is_gone,
+    an_upgraded_image_is_the_one_made_so, big_costs_its_changes, big_is_a_run,
+    big_on_no_tree_does_nothing, commands_of_big_stay, equal_contents_have_equal_bytes,
+    full_is_exact, refused_lines_change_nothing, refused_lines_may_be_left_out, serve,
+    what_was_acknowledged_stays, what_was_removed_is_gone,
 };
 use disk_model::{FailingDisk, MemDisk};
 use script_lines::{MemSink, MemSource};
@@ -320,7 +320,8 @@ fn an_upgrade_leads_to_the_image_of_version_2(rt: HostRuntime) {
     let first = making_of(&rt, alloc, "write /a 0 41\n");
     let second = making_of(&rt, alloc, "write /a 0 41\n");
     let sink = sink_of(&rt, alloc);
-    let Ok(made) = an_upgraded_image_is_the_one_made_so(alloc, &one, &two, first, second, sink) else {
+    let Ok(made) = an_upgraded_image_is_the_one_made_so(alloc, &one, &two, first, second, sink)
+    else {
         assert!(rt; false, "two images");
         return;
     };

@@ -50,7 +50,7 @@ pub fn an_upgraded_image_is_the_one_made_so(
     ensures ended { IfErr result (λ ended. ended.status ≢ Status.Done) }
     ensures stops { (p : Parameters) → request_of format.now ≡ Some (Format p) → HaveSameArguments format.now format2.now
         → IfErr result (λ ended. StopsMaking p first.disk first.scripts.items first.sink ended
-            ⊎ (StopsUpgrading first.scripts.items p ended ⊎ StopsMaking (with_version p Two) second.disk second.scripts.items second.sink ended)) }
+        ⊎ (StopsUpgrading first.scripts.items p ended ⊎ StopsMaking (with_version p Two) second.disk second.scripts.items second.sink ended)) }
 {
     let formatted = make_image(alloc, format, first)?;
     let upgraded = upgrade_image(alloc, formatted, sink)?;

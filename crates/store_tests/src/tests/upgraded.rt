@@ -6,10 +6,12 @@ use std::process::Abort;
 
 /// The words that make four slots of each version.
 const ONE: &str = "format 4 1 ruler zeros";
+
 const TWO: &str = "format2 4 1 ruler zeros";
 
 /// Six files of a byte.
-static FILES: &str = "write /a 0 41\nwrite /b 0 41\nwrite /c 0 41\nwrite /d 0 41\nwrite /e 0 41\nwrite /f 0 41\n";
+static FILES: &str =
+    "write /a 0 41\nwrite /b 0 41\nwrite /c 0 41\nwrite /d 0 41\nwrite /e 0 41\nwrite /f 0 41\n";
 
 /// Scripts, one a row, each with how many slots differ between the images of its tree under the two versions.
 static TREES: [(&str, u64); 5] = [
@@ -37,12 +39,7 @@ fn an_upgraded_image_is_the_one_that_is_made_so(rt: HostRuntime) {
         let made = machine.copy(&rt);
         machine.make(&rt, ONE, *script);
         expect_upgraded(&rt, &mut machine, 5 * *slots + 5, *script);
-        expect(
-            &rt,
-            machine.image() == made.as_slice(),
-            "bytes",
-            *script,
-        );
+        expect(&rt, machine.image() == made.as_slice(), "bytes", *script);
         expect_upgraded(&rt, &mut machine, 0, *script);
         expect(
             &rt,
