@@ -79,12 +79,12 @@ same_step : (t : Tree) (c : Command) (p q : Parameters) → IsNotFull (step t c 
 unfolding step
 same_step t c p q = by (refusal_of t c)
   where
-    to : (r : Parameters) → IsNotFull (step_to t c r (next_tree t c)).reply → (step_to t c r (next_tree t c)).tree ≡ next_tree t c
-    to r = goes_on (may_fill c && nat_lt r.slots (page_count (next_tree t c) r)) (page_count (next_tree t c) r) r.slots t (record { reply = reply_of t c r; tree = next_tree t c })
+    leads : (r : Parameters) → IsNotFull (step_to t c r (next_tree t c)).reply → (step_to t c r (next_tree t c)).tree ≡ next_tree t c
+    leads r = goes_on (may_fill c && nat_lt r.slots (page_count (next_tree t c) r)) (page_count (next_tree t c) r) r.slots t (record { reply = reply_of t c r; tree = next_tree t c })
 
     by : (refusal : Option Refusal) → IsNotFull (step_by t c p refusal).reply → IsNotFull (step_by t c q refusal).reply → (step_by t c p refusal).tree ≡ (step_by t c q refusal).tree
     by (Some refusal) one other = refl
-    by None one other = to p one ∙ sym (to q other)
+    by None one other = leads p one ∙ sym (leads q other)
 
 same_answer : (t : Tree) (text : List ℕ) (p q : Parameters) → IsNotFull (answer t text p).reply → IsNotFull (answer t text q).reply → (answer t text p).tree ≡ (answer t text q).tree
 unfolding answer

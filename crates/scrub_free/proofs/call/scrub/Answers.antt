@@ -8,7 +8,7 @@ use Rattle.scrub_free.proofs.call.scrub.Goals as goal
 
 pub returns-in_default : goal.returns-in_default
 returns-in_default g c =
-    let views = c.in-Ok-Some.ensures in
+    let views = c.in-Ok-Some.ensures.views in
     let read = views.calls in
     let reads : ReadsDisk {T = Parameters} (g.D.Disk.state c.args.disk) (g.D.Disk.state c.view_header.new.disk) (Ok c.in-Ok-Some.params) =
     record { size = read.size; observable = read.observable; faults = read.faults; rise = read.rise; writes = read.writes; syncs = read.syncs; reads = views.reads } in
@@ -17,7 +17,7 @@ returns-in_default g c =
 
 pub returns : goal.returns
 returns g c =
-    let views = c.in-Ok-Some.ensures in
+    let views = c.in-Ok-Some.ensures.views in
     let read = views.calls in
     let reads : ReadsDisk {T = Parameters} (g.D.Disk.state c.args.disk) (g.D.Disk.state c.view_header.new.disk) (Ok c.in-Ok-Some.params) =
     record { size = read.size; observable = read.observable; faults = read.faults; rise = read.rise; writes = read.writes; syncs = read.syncs; reads = views.reads } in
