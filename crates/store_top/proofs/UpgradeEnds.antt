@@ -146,7 +146,7 @@ record UpgradesStanding (t : Tree) (p : Parameters) (mid new : DiskState) (resul
   pub no_memory : IsErrOf result apply.NoMemory → ReadsOnly mid new
   pub made : OnOk result (Made (writes_behind p.version (slots_upgraded p t)) (syncs_behind p.version) mid new)
   pub limit : MadeAtMost (writes_behind p.version (slots_upgraded p t)) (syncs_behind p.version) mid new
-  pub idle : p.version ≡ Two → new ≡ mid
+  pub idle : p.version ≡ Two → IsUnwritten mid new
 
 versions_differ : One ≡ Two → ⊥
 versions_differ e = cc
@@ -174,7 +174,7 @@ standing_two t p disk sound fitting stands two =
       no_memory = λ e. absurd (cc);
       made = subst (λ (v : Version). Made (writes_behind v (slots_upgraded p t)) (syncs_behind v) disk disk) (sym two) (made_none disk);
       limit = subst (λ (v : Version). MadeAtMost (writes_behind v (slots_upgraded p t)) (syncs_behind v) disk disk) (sym two) (at_most disk disk 0 0 0 0 (made_none disk) (omega arith) (omega arith));
-      idle = λ e. refl;
+      idle = λ e. record { bytes = refl; writes = refl };
     }
 
 -- what stands behind the opening of the image and the upgrade
@@ -197,7 +197,10 @@ tree_upgraded t p old mid new result fitting opened upgraded ran count =
             (made_then old mid new (opening_writes p.slots old.bytes) (opening_syncs p.slots old.bytes) 0 0 opened.counts (made_reading mid new (upgraded.no_memory (when_no_memory result e)))));
         limit = at_most_then old mid new (opening_writes p.slots old.bytes) (opening_syncs p.slots old.bytes) writes syncs opened.counts upgraded.limit;
       };
-      quiet = λ two empty whole. subst (IsUnwritten old) (sym (upgraded.idle two)) (opened.unwritten empty);
+      quiet = λ two empty whole.
+          let opening = opened.unwritten empty in
+          let behind = upgraded.idle two in
+          record { bytes = behind.bytes ∙ opening.bytes; writes = behind.writes ∙ opening.writes };
       complete = done_or_lacks result old.faults new.faults ran count;
     }
 
