@@ -9,17 +9,16 @@ const ONE: &str = "format 4 1 ruler zeros";
 
 const TWO: &str = "format2 4 1 ruler zeros";
 
-/// Six files of a byte.
-static FILES: &str =
-    "write /a 0 41\nwrite /b 0 41\nwrite /c 0 41\nwrite /d 0 41\nwrite /e 0 41\nwrite /f 0 41\n";
-
 /// Scripts, one a row, each with how many slots differ between the images of its tree under the two versions.
 static TREES: [(&str, u64); 5] = [
     ("", 0),
     ("make /a\nmake /a/b\n", 0),
     ("write /a 0 -\n", 1),
     ("write /a 0 41\n", 1),
-    (FILES, 2),
+    (
+        "write /a 0 41\nwrite /b 0 41\nwrite /c 0 41\nwrite /d 0 41\nwrite /e 0 41\nwrite /f 0 41\n",
+        2,
+    ),
 ];
 
 /// Looks whether an upgrade of the image ends with 0, prints nothing and makes so many writes, and the syncs of opening
