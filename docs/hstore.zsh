@@ -1,5 +1,6 @@
 #compdef hstore
 # What a shell completes behind `hstore`, as docs/hstore.bash does. `hstore --install` puts it where zsh looks for it.
+# .ci/brought tries it where there is a zsh.
 local -a its=(format format2 run check scrub wipe upgrade big)
 case $CURRENT in
     2)
