@@ -1,7 +1,7 @@
 //! Calls of `top` whose disk fails at each of its calls in turn, and what the next call makes of what is left.
 
 use super::images::spoil;
-use super::support::{CHOICES, LEAST, Machine, NOT_IMAGE, expect, failing, fields, status_of};
+use super::support::{CHOICES, Machine, NOT_IMAGE, expect, failing, fields, status_of};
 use disk_model::StopChoice;
 use std::process::Abort;
 
@@ -10,13 +10,17 @@ const MOST_CALLS: u64 = 200;
 
 /// What a row shows; the image, as in the tables of images that no script leaves, of which the first block is zeros
 /// where one is to be made; the words and the script of the call that is cut short; what it prints where nothing fails;
-/// and a script for the tree whose layout it leaves then. A wipe leaves zeros. Behind the first two of them the next call
-/// is cut short in turn.
+/// and a script for the tree whose layout it leaves then, of version 2 where it is an upgrade. A wipe leaves zeros.
+/// Behind the first three of them the next call is cut short in turn.
 static CALLS: &str = "\
     a page displaces another one round the end|format 4 2 ruler zeros|make /Ua\n|||run|make /UU\n|ok\n|\
         make /UU\nmake /Ua\n#\
     a file moves within its slot|format 1 1 ruler zeros|make /d\nwrite /d/f 0 00\n|||run|rename /d /e\n|ok\n|\
         make /e\nwrite /e/f 0 00\n#\
+    two slots become those of version 2, one of them free|format 4 1 ruler zeros|\
+        write /a 0 41\nwrite /b 0 41\nwrite /c 0 41\nwrite /d 0 41\nwrite /e 0 41\nwrite /f 0 41\n|||upgrade|||\
+        write /a 0 41\nwrite /b 0 41\nwrite /c 0 41\nwrite /d 0 41\nwrite /e 0 41\nwrite /f 0 41\n#\
+    no slot changes, and the version does|format 1 1 ruler zeros|make /a\n|||upgrade|||make /a\n#\
     a removal shifts a page|format 8 2 ruler zeros|make /UD\nmake /UE\nmake /Ud\n|||run|remove /UD\n|ok\n|\
         make /Ud\nmake /UE\n#\
     a removal by which a page goes|format 4 1 ruler zeros|\
@@ -26,6 +30,7 @@ static CALLS: &str = "\
     the journal behind a flag is carried out|format 1 1 ruler zeros|make /a\n|4:3 1:4|4096:127 8192:1|\
         run|list /\n|d a\nend\n|make /a\n#\
     an image is made|format 1 1 ruler zeros||1:0||format 1 1 ruler zeros|||#\
+    one of version 2 is made|format2 1 1 ruler zeros||1:0||format2 1 1 ruler zeros|||#\
     a byte in a free slot is scrubbed|format 4 2 ruler zeros|make /Ua\n||36873:127|scrub||clean 2 1 0 0\n|make /Ua\n#\
     an image is wiped|format 1 1 ruler zeros|make /a\n|||wipe|||";
 
@@ -44,7 +49,7 @@ struct Images<'a> {
 
 /// The status of a call with the words of the row where nothing fails: no image is made where one begins.
 fn next_status(machine: &Machine, row: [&str; 9]) -> u8 {
-    if row[5] == LEAST && machine.image().starts_with(b"H") {
+    if row[5].starts_with("format") && machine.image().starts_with(b"H") {
         10
     } else {
         status_of(row[7])
@@ -105,25 +110,34 @@ fn expect_whole_or_none(rt: &impl Abort, machine: &mut Machine, whole: &[u8], ro
     expect(rt, is_none, "the report", row);
 }
 
-/// Looks whether a run of no line opens what is left of a scrub as the scrubbed image, or refuses it and leaves it.
-fn expect_opened_or_refused(rt: &impl Abort, machine: &mut Machine, scrubbed: &[u8], row: &str) {
+/// Looks whether a run of no line opens what is left of a scrub as the scrubbed image, or refuses it and leaves it. What
+/// is left of an upgrade it opens as the image that was found or, where something was written, as the one of version 2.
+fn expect_opened_or_refused(
+    rt: &impl Abort,
+    machine: &mut Machine,
+    row: [&str; 9],
+    images: &Images<'_>,
+) {
+    let is_written = machine.ended.calls[0] != 0;
     let left = machine.copy(rt);
     machine.call(rt, "run", "");
-    let holds = match machine.ended.status {
-        0 => machine.image() == scrubbed,
-        7 | 8 => machine.image() == left.as_slice(),
+    let image = machine.image();
+    let holds = match (row[5], machine.ended.status) {
+        ("upgrade", 0) => (image == images.found) | (is_written & (image == images.new)),
+        ("scrub", 0) => image == images.new,
+        ("scrub", 7 | 8) => image == left.as_slice(),
         _ => false,
     };
-    expect(rt, holds, "a run", row);
+    expect(rt, holds, "a run", row[0]);
     machine.load(rt, &left);
 }
 
 /// Looks whether what is left of an image that is made or wiped is the whole of it, or none; and whether what is left of
-/// one that is scrubbed is opened or refused.
+/// one that is scrubbed or upgraded is opened, or refused.
 fn expect_no_part(rt: &impl Abort, machine: &mut Machine, row: [&str; 9], images: &Images<'_>) {
     match row[5] {
         "run" => {}
-        "scrub" => expect_opened_or_refused(rt, machine, images.new, row[0]),
+        "scrub" | "upgrade" => expect_opened_or_refused(rt, machine, row, images),
         "wipe" => expect_whole_or_none(rt, machine, images.found, row[0]),
         _ => expect_whole_or_none(rt, machine, images.new, row[0]),
     }
@@ -222,11 +236,14 @@ fn expect_each_way(rt: &impl Abort, machine: &mut Machine, row: [&str; 9], image
 
 /// Has what the call of the row leaves of the image of the row where nothing fails.
 fn leave(rt: &impl Abort, machine: &mut Machine, row: [&str; 9]) {
-    if row[5] == "wipe" {
-        let len = machine.image().len();
-        machine.clear(rt, len);
-    } else if row[8] != "-" {
-        machine.make(rt, row[1], row[8]);
+    match (row[5], row[8]) {
+        ("wipe", _) => {
+            let len = machine.image().len();
+            machine.clear(rt, len);
+        }
+        ("upgrade", tree) => machine.make_by(rt, "format2", row[1], tree),
+        (_, "-") => {}
+        (_, tree) => machine.make(rt, row[1], tree),
     }
 }
 
@@ -255,6 +272,6 @@ pub fn expect_failures(rt: &impl Abort, machine: &mut Machine, row: [&str; 9], a
 fn the_next_call_ends_what_a_failure_left(rt: HostRuntime) {
     let mut machine = Machine::new(rt.alloc());
     for (at, row) in CALLS.split('#').enumerate() {
-        expect_failures(&rt, &mut machine, fields(row), at < 2);
+        expect_failures(&rt, &mut machine, fields(row), at < 3);
     }
 }

@@ -1,14 +1,17 @@
-//! Images that no script leaves: what `check` finds of them, and what a run and a scrub make of them.
+//! Images that no script leaves: what `check` finds of them, and what a run, a scrub and an upgrade make of them.
 
 use super::support::{LEAST, Machine, expect, fields, number, status_of};
 use std::process::Abort;
 
 /// What a row shows; the format and the script of an image; what is written over: blocks that are copied to another
-/// place, where from and where to, both counted in blocks, and bytes at their places, or one byte in so many places from
-/// one on; what `check` prints; a script for the tree that the image represents, or `-` where it represents none; and
-/// `-` where a free slot is not zero, so that a scrub comes to something else. It prints the same as `check` elsewhere.
+/// place, where from and where to, both counted in blocks, and bytes at their places, or one byte in so many places
+/// from one on; what `check` prints; a script for the tree that the image represents, or `-` where it represents none;
+/// `-` where a free slot is not zero, so that a scrub comes to something else; and the word that makes such an image,
+/// where it is of another version than the format says. Elsewhere a scrub prints the same as `check`.
 static IMAGES: &str = "\
     nothing is written over|format 1 1 ruler zeros|make /a\n|||clean 1 1 0 0\n|make /a\n#\
+    nor over a short file|format 1 1 ruler zeros|write /f 0 41\n|||clean 1 0 1 1\n|write /f 0 41\n#\
+    nor over one of version 2|format2 1 1 ruler zeros|write /f 0 41\n|||clean 1 0 1 1\n|write /f 0 41\n#\
     a byte in a free slot|format 4 2 ruler zeros|make /Ua\n||36873:127|damaged\n|-|-#\
     slots in each other's places|format 4 2 ruler zeros|make /Ua\nmake /UU\n|7:10 10:7||damaged\n|-#\
     one slot twice|format 4 2 ruler zeros|make /Ua\nmake /UU\n|10:9||damaged\n|-#\
@@ -20,7 +23,34 @@ static IMAGES: &str = "\
     more slots than an image has, 65,537|format 1 1 ruler zeros|make /a\n||9:1|not-image\n|-#\
     the header's height|format 1 1 ruler zeros|make /a\n||12:9|not-image\n|-#\
     the header's draw|format 1 1 ruler zeros|make /a\n||13:2|not-image\n|-#\
-    the header's version|format 1 1 ruler zeros|make /a\n||14:9|not-image\n|-#\
+    version 9|format 1 1 ruler zeros|make /a\n||14:9|not-image\n|-#\
+    version 0|format 1 1 ruler zeros|make /a\n||14:0|not-image\n|-#\
+    version 3|format 1 1 ruler zeros|||14:3|not-image\n|-#\
+    version 255|format2 1 1 ruler zeros|make /a\n||14:255|not-image\n|-#\
+    version 2 of a tree without a file|format 1 1 ruler zeros|make /a\n||14:2|clean 1 1 0 0\n|make /a\n||format2#\
+    version 1 of a tree without a file|format2 1 1 ruler zeros|make /a\n||14:1|clean 1 1 0 0\n|make /a\n||format#\
+    version 2 of no tree but the root|format 1 1 ruler zeros|||14:2|clean 0 0 0 0\n|||format2#\
+    the mark of version 2, behind its flag|format 1 1 ruler zeros|make /a\n||4096:1 8193:127|clean 1 1 0 0\n|\
+        make /a\n||format2#\
+    another value of the mark|format 1 1 ruler zeros|||4096:1 8193:1|clean 0 0 0 0\n|||format2#\
+    others over version 0|format 1 1 ruler zeros|||14:0 4096:128 8193:255|clean 0 0 0 0\n|||format2#\
+    over version 2|format2 1 1 ruler zeros|||4096:1 8193:1|clean 0 0 0 0\n|#\
+    over version 3|format 1 1 ruler zeros|make /a\n||14:3 4096:255 8193:2|clean 1 1 0 0\n|make /a\n||format2#\
+    over version 127|format 1 1 ruler zeros|||14:127 4096:1 8193:1|clean 0 0 0 0\n|||format2#\
+    over version 255|format 1 1 ruler zeros|make /a\n||14:255 4096:1 8193:128|clean 1 1 0 0\n|make /a\n||format2#\
+    with four slots|format 4 2 ruler zeros|make /Ua\n||4096:1 8196:1|clean 2 1 0 0\n|make /Ua\n||format2#\
+    over version 127, without the flag|format 1 1 ruler zeros|||14:127 8193:1|not-image\n|-#\
+    over version 0, without the flag|format 1 1 ruler zeros|make /a\n||14:0 8193:255|not-image\n|-#\
+    the mark of version 2, without the flag|format 1 1 ruler zeros|||8193:1|clean 0 0 0 0\n|#\
+    another value of the mark, without the flag|format 1 1 ruler zeros|make /a\n||8193:127|clean 1 1 0 0\n|make /a\n#\
+    the largest, without the flag|format 1 1 ruler zeros|make /a\n||8193:255|clean 1 1 0 0\n|make /a\n#\
+    the mark, where the header has version 2|format2 1 1 ruler zeros|make /a\n||8193:1|clean 1 1 0 0\n|make /a\n#\
+    the flag without a mark|format 1 1 ruler zeros|make /a\n||4096:255|clean 1 1 0 0\n|make /a\n#\
+    the flag without a mark, over version 0|format 1 1 ruler zeros|make /a\n||14:0 4096:1|not-image\n|-#\
+    the flag without a mark, over version 2|format2 1 1 ruler zeros|make /a\n||4096:1|clean 1 1 0 0\n|make /a\n#\
+    a mark behind that of the version|format 1 1 ruler zeros|||4096:1 8194:1|clean 0 0 0 0\n|#\
+    flag and mark, and the header's byte behind the version|format 1 1 ruler zeros|||15:1 4096:1 8193:1|not-image\n|-#\
+    flag and mark of two slots, on the length of one|format 1 1 ruler zeros|||11:2 14:0 4096:1 8194:1|not-image\n|-#\
     the header's byte behind the version|format 1 1 ruler zeros|make /a\n||15:1|not-image\n|-#\
     the header's filling|format 1 1 ruler zeros|make /a\n||4095:1|not-image\n|-#\
     another height, for which a page is missing|format 4 1 ruler zeros|make /U\n||12:2|damaged\n|-#\
@@ -49,10 +79,47 @@ static IMAGES: &str = "\
     a file that is shorter than its block|format 1 1 ruler zeros|write /f 0 00\n||16646:0|damaged\n|-#\
     a block with another number|format 1 1 ruler zeros|write /f 0 00\n||17021:2|damaged\n|-#\
     a file's byte, which is not noticed|format 1 1 ruler zeros|write /f 0 00\n||17024:1|clean 1 0 1 1\n|write /f 0 01\n#\
+    a directory that becomes a short file of no byte|format 1 1 ruler zeros|make /a\n||14:2 16642:3|\
+        clean 1 0 1 0\n|write /a 0 -\n||format2#\
+    a short file as version 2 has it, under version 1|format2 1 1 ruler zeros|write /f 0 41\n||14:1|damaged\n|-#\
+    a short file of no byte under version 1|format2 1 1 ruler zeros|write /f 0 -\n||14:1|damaged\n|-#\
+    a short file as version 1 has it, under version 2|format 1 1 ruler zeros|write /f 0 41\n||14:2|damaged\n|-#\
+    a file of no byte as version 1 has it, under version 2|format 1 1 ruler zeros|write /f 0 -\n||14:2|damaged\n|-#\
+    a short file with a block behind it|format 1 1 ruler zeros|write /f 0 41\n||\
+        14:2 16641:2 16642:3 16643:65 16646:0|damaged\n|-#\
+    a value of no kind under version 2|format2 1 1 ruler zeros|make /a\n||16642:4|damaged\n|-#\
+    a short file of 201 bytes|format2 1 1 ruler zeros|write /f 0 41\n||16641:202 16643+201:65|damaged\n|-#\
+    a short file of 255 bytes|format2 1 1 ruler zeros|write /f 0 41\n||16640:1 16641:0 16643+255:65|damaged\n|-#\
+    a short file of 200 bytes|format2 1 1 ruler zeros|write /f 0 41\n||\
+        16641:201 16643+200:65|clean 1 0 1 200\n|write /f 0 \
+        4141414141414141414141414141414141414141414141414141414141414141414141414141414141414141414141414141414141\
+        4141414141414141414141414141414141414141414141414141414141414141414141414141414141414141414141414141414141\
+        4141414141414141414141414141414141414141414141414141414141414141414141414141414141414141414141414141414141\
+        4141414141414141414141414141414141414141414141414141414141414141414141414141414141\n#\
+    a file of 200 bytes with a block, under version 2|format 1 1 ruler zeros|write /f 0 41\n||\
+        14:2 16646:200 17023:200 17024+200:65|damaged\n|-#\
+    a file of 201 bytes with a block, under version 2|format 1 1 ruler zeros|write /f 0 41\n||\
+        14:2 16646:201 17023:201 17024+201:65|clean 1 0 1 201\n|write /f 0 \
+        4141414141414141414141414141414141414141414141414141414141414141414141414141414141414141414141414141414141\
+        4141414141414141414141414141414141414141414141414141414141414141414141414141414141414141414141414141414141\
+        4141414141414141414141414141414141414141414141414141414141414141414141414141414141414141414141414141414141\
+        414141414141414141414141414141414141414141414141414141414141414141414141414141414141\n||format2#\
+    a journal with the slot of version 2, and without its mark|format 1 1 ruler zeros|write /f 0 41\n||\
+        4096:1 8192:1 12288:1 12419:1 12420:102 12545:2 12546:3 12547:65|damaged\n|-#\
+    the same journal with the mark|format 1 1 ruler zeros|write /f 0 41\n||\
+        4096:1 8192+2:1 12288:1 12419:1 12420:102 12545:2 12546:3 12547:65|clean 1 0 1 1\n|write /f 0 41\n||format2#\
+    without the flag|format 1 1 ruler zeros|write /f 0 41\n||\
+        8192+2:1 12288:1 12419:1 12420:102 12545:2 12546:3 12547:65|clean 1 0 1 1\n|write /f 0 41\n#\
+    where header and table have version 2|format2 1 1 ruler zeros|write /f 0 41\n||\
+        4096:1 8192+2:1 12288:1 12419:1 12420:102 12545:2 12546:3 12547:65|clean 1 0 1 1\n|write /f 0 41\n#\
+    where the slot alone has version 2|format2 1 1 ruler zeros|write /f 0 41\n||\
+        14:1 4096:1 8192+2:1 12288:1 12419:1 12420:102 12545:2 12546:3 12547:65|clean 1 0 1 1\n|write /f 0 41\n#\
+    where the header alone has version 2|format 1 1 ruler zeros|write /f 0 41\n||\
+        14:2 4096:1 8192+2:1 12288:1 12419:1 12420:102 12545:2 12546:3 12547:65|clean 1 0 1 1\n|\
+        write /f 0 41\n||format2#\
     a journal behind its flag|format 1 1 ruler zeros|make /a\n|4:3 1:4|4096:127 8192:1|clean 1 1 0 0\n|make /a\n#\
     a journal without its flag|format 1 1 ruler zeros|make /a\n|4:3 1:4|8192:1|clean 0 0 0 0\n|#\
     a block that was marked and is zero|format 1 1 ruler zeros|make /a\n||4096:1 8192:1|clean 0 0 0 0\n|#\
-    a mark that no slot has|format 1 1 ruler zeros|make /a\n||8193:127|clean 1 1 0 0\n|make /a\n#\
     a marked block of no page, without the flag|format 1 1 ruler zeros|make /a\n||8192:1 12288+4096:255|\
         clean 1 1 0 0\n|make /a\n#\
     a marked block of no page, behind its flag|format 1 1 ruler zeros|make /a\n||\
@@ -124,84 +191,108 @@ struct Call<'a> {
     left: &'a [u8],
 }
 
-/// Looks whether the call on this image, of which the row says what it is, comes to what it is to come to. Where it
-/// leaves the image as it is, it writes nothing.
+/// The images of a row: the one that is found, the one that a run makes of it, and the one that an upgrade does.
+#[derive(Clone, Copy)]
+struct Images<'a> {
+    found: &'a [u8],
+    left: &'a [u8],
+    upgraded: &'a [u8],
+}
+
+/// Looks whether the call on the image that is found, of which the row says what it is, comes to what it is to come
+/// to. Where it leaves the image as it is, it writes nothing.
 fn expect_call(
     rt: &impl Abort,
     machine: &mut Machine,
     row: [&str; 9],
-    image: &[u8],
+    found: &[u8],
     call: &Call<'_>,
 ) {
-    machine.load(rt, image);
+    machine.load(rt, found);
     machine.call(rt, call.word, call.script);
     let is_ended = machine.is_ended(status_of(row[5]), call.done, call.written);
     let is_left = machine.image() == call.left;
-    let is_quiet = (call.left != image) | (machine.ended.calls[0] == 0);
+    let is_quiet = (call.left != found) | (machine.ended.calls[0] == 0);
     expect(rt, is_ended & is_left & is_quiet, call.word, row[0]);
 }
 
-/// Looks whether a check, runs and a scrub of this image, of which the row says what it is, come to what they are to
-/// come to. What represents a tree becomes its layout, and what represents none stays as it is.
-fn expect_calls(rt: &impl Abort, machine: &mut Machine, row: [&str; 9], image: &[u8], left: &[u8]) {
-    let line = row[5];
-    let (done, missing) = if row[6] == "-" {
-        (0, "")
-    } else {
-        (1, "no missing\n")
-    };
+/// Looks whether a check and a scrub print what the row says. The check leaves the image as it is.
+fn expect_reports(rt: &impl Abort, machine: &mut Machine, row: [&str; 9], images: &Images<'_>) {
     let check = Call {
         word: "check",
         script: "make /b\n",
         done: 1,
-        written: line,
-        left: image,
+        written: row[5],
+        left: images.found,
+    };
+    expect_call(rt, machine, row, images.found, &check);
+    if row[7] != "-" {
+        let scrub = Call {
+            word: "scrub",
+            left: images.left,
+            ..check
+        };
+        expect_call(rt, machine, row, images.found, &scrub);
+    }
+}
+
+/// Looks whether runs and an upgrade open what represents a tree, and refuse what represents none. A run makes the
+/// layout of the tree, and an upgrade that of version 2.
+fn expect_opened(rt: &impl Abort, machine: &mut Machine, row: [&str; 9], images: &Images<'_>) {
+    let (done, missing) = if row[6] == "-" {
+        (0, "")
+    } else {
+        (1, "no missing\n")
     };
     let run = Call {
         word: "run",
         script: "",
         done: 0,
         written: "",
-        left,
+        left: images.left,
     };
-    expect_call(rt, machine, row, image, &check);
-    expect_call(rt, machine, row, image, &run);
-    expect_call(
-        rt,
-        machine,
-        row,
-        image,
-        &Call {
-            script: "list /q\n",
-            done,
-            written: missing,
-            ..run
-        },
-    );
-    if row[7] != "-" {
-        expect_call(
-            rt,
-            machine,
-            row,
-            image,
-            &Call {
-                word: "scrub",
-                left,
-                ..check
-            },
-        );
+    expect_call(rt, machine, row, images.found, &run);
+    let list = Call {
+        script: "list /q\n",
+        done,
+        written: missing,
+        ..run
+    };
+    expect_call(rt, machine, row, images.found, &list);
+    let upgrade = Call {
+        word: "upgrade",
+        done,
+        left: images.upgraded,
+        ..run
+    };
+    expect_call(rt, machine, row, images.found, &upgrade);
+}
+
+/// Has the image of the tree of the row, made by this word where there is one, or else as the row's format says. Where
+/// the row represents no tree, the image stays.
+fn make_tree(rt: &impl Abort, machine: &mut Machine, row: [&str; 9], word: &str) {
+    match (row[6], word) {
+        ("-", _) => {}
+        (tree, "") => machine.make(rt, row[1], tree),
+        (tree, _) => machine.make_by(rt, word, row[1], tree),
     }
 }
 
 /// Looks whether the image of the row is what it says.
 fn expect_row(rt: &impl Abort, machine: &mut Machine, row: [&str; 9]) {
     spoil(rt, machine, row);
-    let image = machine.copy(rt);
-    if row[6] != "-" {
-        machine.make(rt, row[1], row[6]);
-    }
+    let found = machine.copy(rt);
+    make_tree(rt, machine, row, row[8]);
     let left = machine.copy(rt);
-    expect_calls(rt, machine, row, &image, &left);
+    make_tree(rt, machine, row, "format2");
+    let upgraded = machine.copy(rt);
+    let images = Images {
+        found: &found,
+        left: &left,
+        upgraded: &upgraded,
+    };
+    expect_reports(rt, machine, row, &images);
+    expect_opened(rt, machine, row, &images);
 }
 
 #[test]
@@ -221,8 +312,10 @@ static REFUSED: &str = "\
     check|7|1|not-image\n#\
     scrub|7|1|not-image\n#\
     run|7|0|#\
+    upgrade|7|0|#\
     big 0 1|7|0|#\
     format 1 1 ruler zeros|11|0|#\
+    format2 1 1 ruler zeros|11|0|#\
     format 65537 1 ruler zeros|2|0|";
 
 /// Looks whether the call of the row is refused on this image as the row says, and writes nothing.

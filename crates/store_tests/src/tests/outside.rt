@@ -34,7 +34,7 @@ const NOTHING: Failing = Failing {
 
 /// Each take and each put in turn, one behind the last of each, which no call makes; and calls of the disk.
 #[rattlefmt::skip]
-static FAILURES: [Failing; 18] = [
+static FAILURES: [Failing; 19] = [
     NOTHING,
     Failing { outside: Outside { take: 0, ..CALM }, status: 3, done: 0, written: "", tree: "", ..NOTHING },
     // The first line and the beginning of the second one have come.
@@ -54,6 +54,7 @@ static FAILURES: [Failing; 18] = [
     Failing { word: "check", outside: Outside { put: 0, ..CALM }, status: 4, done: 1, written: "", tree: "", ..NOTHING },
     Failing { word: "check", outside: Outside { from: 3, ..CALM }, status: 5, done: 0, written: "", tree: "", ..NOTHING },
     Failing { word: "scrub", outside: Outside { put: 0, ..CALM }, status: 4, done: 1, written: "", tree: "", ..NOTHING },
+    Failing { word: "upgrade", outside: Outside { from: 0, ..CALM }, status: 5, done: 0, written: "", tree: "", ..NOTHING },
     Failing { word: "wipe", outside: Outside { from: 0, ..CALM }, status: 5, done: 0, written: "", tree: "", ..NOTHING },
 ];
 

@@ -81,6 +81,25 @@ static ROWS: &str = "\
         write /f 0 41\n|\
         ok\n|\
         1 7 7|clean 1 0 1 1\n|-#\
+    six files of one byte under version 1: five of them fill a page|format 1 1 ruler zeros|\
+        write /a 0 41\nwrite /b 0 41\nwrite /c 0 41\nwrite /d 0 41\nwrite /e 0 41\nwrite /f 0 41\n|\
+        ok\nok\nok\nok\nok\nno full 2 1\n|\
+        6 35 27|clean 1 0 5 5\n|-#\
+    eleven files of one byte under version 2: ten of them fill a page|format2 1 1 ruler zeros|\
+        write /a 0 41\nwrite /b 0 41\nwrite /c 0 41\nwrite /d 0 41\nwrite /e 0 41\nwrite /f 0 41\nwrite /g 0 41\n\
+        write /h 0 41\nwrite /i 0 41\nwrite /j 0 41\nwrite /k 0 41\n|\
+        ok\nok\nok\nok\nok\nok\nok\nok\nok\nok\nno full 2 1\n|\
+        11 70 52|clean 1 0 10 10\n|-#\
+    the least image of version 2|format2 1 1 ruler zeros|\
+        digest\nwrite /f 0 41\ndigest\n|\
+        digest efbbb7369c4e41399dfee002e9f297b43993d7371eb5ddc9475a789573732c71\nok\n\
+        digest c821e612321ef0f20216c7a5d0772b8e11db05c9c5f31ccecb915f8c1b676eda\n|\
+        3 7 7|clean 1 0 1 1\n|-#\
+    the same file under version 1|format 1 1 ruler zeros|\
+        digest\nwrite /f 0 41\ndigest\n|\
+        digest c5f79e5e0daaa71b3e8435c05e875f639453faaadde46980a1d0d07116539273\nok\n\
+        digest 054c2953710bf9bfacd3ba3fe6973e4523a4b8709198058b29c874be8443f32f\n|\
+        3 7 7|clean 1 0 1 1\n|-#\
     what leaves that file as it is writes nothing|format 4 1 ruler zeros|\
         write /f 0 41\nwrite /f 0 41\nwrite /f 1 -\ncut /f 1\nlist /f\nread /g 0 0\n|\
         ok\nok\nok\nok\nno kind\nno missing\n|\
@@ -179,13 +198,32 @@ fn scripts_are_answered(rt: HostRuntime) {
     }
 }
 
-/// A script of texts, each so many times, on the image of the empty tree with four slots, its replies, and how many
-/// lines are carried out: lines at the limit and past it, and files of many bytes. In the second row a line has 8,192
-/// bytes, and one has one byte more; the last line has no LF.
+/// The format; a script of texts, each so many times, on the image of the empty tree; its replies; and how many lines
+/// are carried out: lines at the limit and past it, and files of many bytes. In the second row a line has 8,192 bytes,
+/// and one has one byte more; the last line has no LF. In the last row a file passes 200 bytes, up and down.
 static LONG_ROWS: &str = "\
-    1 write /f 0 ;256 5a;1 \nwrite /f 256 00\nspace\ncut /f 256\ncut /f 257\n|1 ok\nok\nspace 1 4\nok\nno gap\n|5#\
-    1 write /ff 0 ;4090 c3;1 \n;8193 x;1 \n\nread /ff 0 4096\nspace|1 ok\nno long\nok ;4090 c3;1 \nspace 2 4\n|4#\
-    8192 x;1 \nlist /;8186 x;1 \nlist /;8187 x;1 \n|1 no syntax\nno path\nno long\n|3";
+    format 4 1 ruler zeros|1 write /f 0 ;256 5a;1 \nwrite /f 256 00\nspace\ncut /f 256\ncut /f 257\n|\
+        1 ok\nok\nspace 1 4\nok\nno gap\n|5#\
+    format 4 1 ruler zeros|1 write /ff 0 ;4090 c3;1 \n;8193 x;1 \n\nread /ff 0 4096\nspace|\
+        1 ok\nno long\nok ;4090 c3;1 \nspace 2 4\n|4#\
+    format 4 1 ruler zeros|8192 x;1 \nlist /;8186 x;1 \nlist /;8187 x;1 \n|1 no syntax\nno path\nno long\n|3#\
+    format2 4 1 ruler zeros|1 write /f 0 ;199 41;1 \ndigest\nwrite /f 199 41\ndigest\nwrite /f 200 00\ndigest\n\
+        cut /f 200\ndigest\nwrite /f 200 -\ndigest\nwrite /f 100 ;101 42;1 \ndigest\ncut /f 0\ndigest\n\
+        write /g 0 ;256 43;1 \ndigest\nwrite /g 256 44\ndigest\ncut /g 256\ndigest\ncut /g 200\ndigest\n\
+        cut /g 201\ndigest\nremove /f\ndigest\n|1 \
+        ok\ndigest 2bac0421e53b90796afa6959001bb57b22b87880e8004b9e96d960518b93d53e\n\
+        ok\ndigest a066f58cf35d88214d73f717ead74c5b19c18642fb0f957b89299e70a292f76a\n\
+        ok\ndigest 3202f185bb961ebd2811918c7f8ed0845a9fc4af51680d11e40a7ea65b3e8e59\n\
+        ok\ndigest a066f58cf35d88214d73f717ead74c5b19c18642fb0f957b89299e70a292f76a\n\
+        ok\ndigest a066f58cf35d88214d73f717ead74c5b19c18642fb0f957b89299e70a292f76a\n\
+        ok\ndigest 1c37b90be90849a69ccf00dd70c70ba068cf4ee92e323d827490628272470a86\n\
+        ok\ndigest 5d13d264cf90a5214d062120c1c2a6fb6bb8404bb608168c77390636c71a31ff\n\
+        ok\ndigest 76f151f581e0937b9ce36eac4c9926cde013ed065b1423fa46d61bbd93749188\n\
+        ok\ndigest 22387b353d5669b75786a8b09ad334eec47a7f905f50764646c54b04997e232d\n\
+        ok\ndigest 76f151f581e0937b9ce36eac4c9926cde013ed065b1423fa46d61bbd93749188\n\
+        ok\ndigest 73d40bb48d8d57ee81891761bdba554edc6867e8b4d612b8791d94c51ca34e6c\n\
+        no gap\ndigest 73d40bb48d8d57ee81891761bdba554edc6867e8b4d612b8791d94c51ca34e6c\n\
+        ok\ndigest b854a552b5823175c162aaa684fa7fab5b0c886b6f3432c29d049f103416bd33\n|26";
 
 /// The texts, each so many times, one behind the other.
 fn text_of(rt: &impl Abort, alloc: Global, parts: &str) -> Vec<u8> {
@@ -199,17 +237,17 @@ fn text_of(rt: &impl Abort, alloc: Global, parts: &str) -> Vec<u8> {
     text
 }
 
-/// Looks whether the script, on the image of the empty tree, is answered so.
+/// Looks whether the script, on the image of the machine, is answered so.
 fn expect_long(rt: &impl Abort, machine: &mut Machine, script: &[u8], replies: &[u8], done: u64) {
-    machine.format(rt, "format 4 1 ruler zeros");
     machine.call_in(rt, "run", script, &CALM);
     assert!(rt; (machine.written() == replies) & (machine.ended.done == done));
 }
 
 /// Looks whether the script of the row, on the image of the empty tree, is answered as the row says.
 fn expect_long_row(rt: &impl Abort, alloc: Global, machine: &mut Machine, row: &str) {
-    let [script, replies, done, ..] = fields(row);
+    let [format, script, replies, done, ..] = fields(row);
     let (script, replies) = (text_of(rt, alloc, script), text_of(rt, alloc, replies));
+    machine.format(rt, format);
     expect_long(rt, machine, &script, &replies, number(rt, done));
 }
 

@@ -283,6 +283,13 @@ impl Machine {
         self.call(rt, "run", script);
     }
 
+    /// Makes that image where this word stands in the place of the first of these.
+    pub fn make_by(&mut self, rt: &impl Abort, word: &str, format: &str, script: &str) {
+        let (_, arguments) = format.split_once(' ').expect(rt, "arguments");
+        let words = format!(in self.alloc; "{word} {arguments}").expect(rt, "memory");
+        self.make(rt, &words, script);
+    }
+
     /// Whether the last call ended with this status behind so many lines, and wrote this.
     pub fn is_ended(&self, status: u8, done: u64, written: &str) -> bool {
         let Ended {

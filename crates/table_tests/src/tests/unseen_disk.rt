@@ -2,6 +2,7 @@
 
 ghost use Rattle.std.specs.Prelude.{◌≡◌, IsTrue};
 ghost use Rattle.store_model.specs.Parameters as model;
+ghost use Rattle.store_model.specs.declared.version.Version.TheVariants.{One};
 
 use disk_model::{Disk, FailingDisk, MemDisk};
 use page_store::{SlotCache, Staged};
@@ -71,7 +72,9 @@ pub(crate) fn stage(
     params: &Params,
     image: &[u8],
     used: u32,
-) -> TestedPages {
+) -> TestedPages
+    ensures { result.params ≡ params.now }
+{
     let disk = UnseenDisk::new(alloc, image).expect(rt, "memory");
     assert!(rt; is_long(&disk, params));
     let cache = SlotCache::new(alloc).expect(rt, "memory");
@@ -102,4 +105,12 @@ pub(crate) fn stage_failing(
 pub(crate) fn settle(rt: &impl Abort, pages: &mut TestedPages) {
     assert!(rt; !pages.is_spent());
     pages.settle().expect(rt, "the pages");
+}
+
+/// Settles the pages, and makes the image one of version 2 with them.
+pub(crate) fn settle_upgrade(rt: &impl Abort, pages: &mut TestedPages)
+    requires { pages.old.params.version ≡ One }
+{
+    assert!(rt; !pages.is_spent());
+    pages.settle_upgrade().expect(rt, "the pages");
 }
