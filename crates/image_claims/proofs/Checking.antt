@@ -109,10 +109,10 @@ module _ (disk : DiskState) (told : IsObservable disk) (sound : IsSound disk) wh
   from_some : IsSome (Represents disk.bytes) → RepresentsSome disk
   from_some some = record { tree = some.0; params = some.1; represents = some.2 }
 
-  to_broken : IsDamaged disk → IsBroken (Represents disk.bytes) disk.bytes
+  pub to_broken : IsDamaged disk → IsBroken (Represents disk.bytes) disk.bytes
   to_broken is = record { image = (is.params, is.has_parameters.named told); none = is.no_tree told }
 
-  from_broken : IsBroken (Represents disk.bytes) disk.bytes → IsDamaged disk
+  pub from_broken : IsBroken (Represents disk.bytes) disk.bytes → IsDamaged disk
   from_broken is = record {
     params = is.image.0;
     has_parameters = record { in_range = is.image.1.names.in_range; size_is = sym sound.size ∙ is.image.1.length_is; named = λ observable. is.image.1 };

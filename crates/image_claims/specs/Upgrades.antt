@@ -7,12 +7,12 @@ use Rattle.store_model.specs.Images.{Represents}
 use Rattle.disk_model.specs.DiskState.{DiskState, MayLeaveOnly}
 use Rattle.gate_journal.specs.Costs.{opening_writes, opening_syncs}
 use Rattle.gate_journal.specs.Disks.{IsOnlySynced, IsUnwritten}
-use Rattle.gate_journal.specs.Headers.{IsImageWith}
 use Rattle.gate_journal.specs.Phases.{HasEmptyJournal}
 use Rattle.image_check.specs.Standing.{Stands}
 use Rattle.store_core.specs.TableChanges.{slots_upgraded}
 use Rattle.image_subcommands.specs.declared.status.Status.{Status}
-use Rattle.image_subcommands.specs.declared.status.Status.TheVariants.{Done, DiskFault, NotImage, NoMemory}
+use Rattle.image_subcommands.specs.declared.status.Status.TheVariants.{Done, DiskFault, NotImage, Damaged, NoMemory}
+use Rattle.image_claims.specs.Checks.{IsNone, IsBroken}
 use Rattle.image_claims.specs.Costs.{Costs, MakesJust}
 use Rattle.image_claims.specs.Crashes.{MightLeave}
 use Rattle.image_claims.specs.Endings.{EndsExactly}
@@ -21,17 +21,30 @@ use Rattle.image_claims.specs.Endings.{EndsExactly}
 abbrev pub IsOfEither : Tree → Parameters → List ℕ → Type 0
 IsOfEither t p image = Represents image t p ⊎ Represents image t (with_version p Two)
 
+-- Nothing was written, and each image that a crash meanwhile might have left is one that a crash before might have.
+pub record StaysAsItWas (old new : DiskState) : Type 0 where
+  pub synced : IsOnlySynced old new
+  pub crash : (image : List ℕ) → MightLeave old new image → old.crash_images image
+
+-- The tree is there under the version that it had: durably, or all is as it was. Each image that a crash meanwhile
+-- might have left represents it so, or is one that a crash before might have left.
+pub record KeepsTree (t : Tree) (p : Parameters) (old new : DiskState) : Type 0 where
+  pub reads : Represents new.bytes t p
+  pub stands : Stands new t p ⊎ StaysAsItWas old new
+  pub crash : (image : List ℕ) → MightLeave old new image → old.crash_images image ⊎ Represents image t p
+
 -- An image is upgraded.
 pub record UpgradesImage (status : Status) (old new : DiskState) : Type 0 where
-  -- exactly what is no image is refused as such
-  pub not_image : EndsExactly NotImage ((p : Parameters) → IsImageWith old.bytes p → ⊥) (DiskFault ∷ NoMemory ∷ []) status
+  -- exactly what is no image is refused as such, and exactly an image of no tree as a damaged one
+  pub not_image : EndsExactly NotImage (IsNone old.bytes) (DiskFault ∷ NoMemory ∷ []) status
+  pub damaged : EndsExactly Damaged (IsBroken (Represents old.bytes) old.bytes) (DiskFault ∷ NoMemory ∷ []) status
   -- it is done for an image of a tree alone, and leaves that of the same tree, of version 2, durably
   pub represents : status ≡ Done → (t : Tree) × (p : Parameters) × Represents old.bytes t p
   pub upgraded : status ≡ Done → (t : Tree) (p : Parameters) → Represents old.bytes t p → Stands new t (with_version p Two)
-  -- where memory ran out the tree is there under the version that it had
-  pub kept : status ≡ NoMemory → (t : Tree) (p : Parameters) → Represents old.bytes t p → Represents new.bytes t p
-  -- what represents no tree is not written
-  pub untouched : ((t : Tree) (p : Parameters) → Represents old.bytes t p → ⊥) → IsOnlySynced old new
+  -- where memory ran out the tree is there under the version that it had, behind a crash too
+  pub kept : status ≡ NoMemory → (t : Tree) (p : Parameters) → Represents old.bytes t p → KeepsTree t p old new
+  -- what represents no tree is not written, and a crash leaves what one before might have
+  pub untouched : ((t : Tree) (p : Parameters) → Represents old.bytes t p → ⊥) → StaysAsItWas old new
 
 -- An image of a tree is upgraded: what is read at the end, whatever failed, is of the tree, under the one version or the other. So
 -- is, where this was so of each image that a crash before might have left, each image that a crash might have left.
@@ -44,6 +57,6 @@ pub record UpgradesAllOrNone (t : Tree) (p : Parameters) (old new : DiskState) :
 pub record CostsOfUpgrade (status : Status) (old new : DiskState) : Type 0 where
   pub one : (t : Tree) (p : Parameters) → Represents old.bytes t p → p.version ≡ One
       → Costs (opening_writes p.slots old.bytes + (5 * slots_upgraded p t + 5)) (opening_syncs p.slots old.bytes + 5) (Done ∷ []) status old new
-  pub two : (t : Tree) (p : Parameters) → Represents old.bytes t p → p.version ≡ Two → Costs (opening_writes p.slots old.bytes + 0) (opening_syncs p.slots old.bytes + 0) (Done ∷ []) status old new
+  pub two : (t : Tree) (p : Parameters) → Represents old.bytes t p → p.version ≡ Two → Costs (opening_writes p.slots old.bytes) (opening_syncs p.slots old.bytes) (Done ∷ []) status old new
   pub no_memory : (t : Tree) (p : Parameters) → Represents old.bytes t p → status ≡ NoMemory → MakesJust (opening_writes p.slots old.bytes) (opening_syncs p.slots old.bytes) old new ⊎ IsOnlySynced old new
   pub unwritten : (t : Tree) (p : Parameters) → Represents old.bytes t p → p.version ≡ Two → HasEmptyJournal p.slots old.bytes → (status ≡ DiskFault → ⊥) → IsUnwritten old new

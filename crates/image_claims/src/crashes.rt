@@ -35,8 +35,9 @@ pub fn wipe_cut_short(alloc: Global, wipe: &Words, machine: Machine) -> Ended
     call(alloc, wipe, machine)
 }
 
-/// The image of a tree is upgraded. Whatever call of the disk fails first, and wherever a crash comes, what is left is an
-/// image of that tree, of the version that it had or of version 2.
+/// The image of a tree is upgraded. Whatever call of the disk fails first, what is read at the end is an image of that
+/// tree, of the version that it had or of version 2. So is what a crash leaves, wherever it comes, where each image
+/// that a crash before the call might have left was one of that tree, of the version that it had.
 pub fn upgrade_cut_short(alloc: Global, upgrade: &Words, machine: Machine) -> Ended
     ensures { (t : Tree) (p : Parameters) → request_of upgrade.now ≡ Some Upgrade → Represents (meaning machine.disk).bytes t p → UpgradesAllOrNone t p (meaning machine.disk) (meaning result.disk) }
 {

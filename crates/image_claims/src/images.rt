@@ -43,8 +43,9 @@ pub fn wipe(alloc: Global, wipe: &Words, machine: Machine) -> Ended
     call(alloc, wipe, machine)
 }
 
-/// Upgrades an image: that of the same tree is left, of version 2, durably. What is no image of a tree is refused, and not
-/// written. Nothing is taken, and nothing is printed.
+/// Upgrades an image: that of the same tree is left, of version 2, durably. What is no image is refused, exactly, and
+/// so is what is one of no tree; neither is written, and a crash leaves of it what one before might have. Where memory
+/// ran out the tree is there under the version that it had, behind a crash too. Nothing is taken or printed.
 pub fn upgrade(alloc: Global, upgrade: &Words, machine: Machine) -> Ended
     ensures upgrades { request_of upgrade.now ≡ Some Upgrade → UpgradesImage result.status (meaning machine.disk) (meaning result.disk) }
     ensures takes_nothing { request_of upgrade.now ≡ Some Upgrade → result.source ≡ machine.source }

@@ -28,14 +28,14 @@ use Rattle.store_core.specs.StoreState.{StoreState}
 use Rattle.store_core.specs.TableChanges.{slots_upgraded}
 use Rattle.store_core.proofs.CostLemmas.{made_none, made_reading, made_then, made_as, at_most_then, at_most}
 use Rattle.store_core.proofs.DiskLemmas.{keeps_then}
-use Rattle.store_core.proofs.Unchanged.{standing_represents}
+use Rattle.store_core.proofs.Unchanged.{standing_represents, stands_reading}
 use Rattle.image_subcommands.specs.declared.status.Status.{Status}
 use Rattle.image_subcommands.specs.declared.status.Status.TheVariants as statuses
 use Rattle.image_subcommands.specs.Endings.{attach_status, apply_status, status_of}
 use Rattle.image_subcommands.specs.Outside.{Outside, outside_of, KeepsOutside}
 use Rattle.image_subcommands.specs.Statuses.{IsUpgradeStatus, IsRefusedImage, done_of_work}
 use Rattle.image_subcommands.proofs.ReportLemmas.{rose}
-use Rattle.store_top.specs.UpgradeCall.{writes_behind, syncs_behind, RepresentsEither, UpgradesTree, IsUpgrade}
+use Rattle.store_top.specs.UpgradeCall.{writes_behind, syncs_behind, RepresentsEither, KeepsVersion, UpgradesTree, IsUpgrade}
 use Rattle.store_top.proofs.RunEnds.{no_image_by, damaged_by, says_no_image, says_damaged, named_by, memory_left, memory_only, quiet_unopened}
 
 -- ---- no store was had
@@ -65,7 +65,7 @@ tree_unopened fault old new t p o refused keeps = record {
   crash = LeavesOnly-weaken old new (λ image. old.crash_images image ⊎ Represents image t p) (λ image. old.crash_images image ⊎ RepresentsEither t p image)
       (λ image either. ⊎_elim (λ left. inl left) (λ represents. inr (inl represents)) either) keeps.crash;
   reads = inl keeps.represents;
-  no_memory = λ e. keeps.represents;
+  no_memory = λ e. record { stands = inr (refused.unwritten o (memory_only fault e)); crash = keeps.crash };
   counts = record {
     done = λ e. absurd (not_done fault e);
     no_memory = λ e. inr (refused.unwritten o (memory_only fault e)).synced;
@@ -177,6 +177,16 @@ standing_two t p disk sound fitting stands two =
       idle = λ e. record { bytes = refl; writes = refl };
     }
 
+-- the image that was opened, and for whose upgrade memory ran out
+version_kept : (t : Tree) (p : Parameters) (old mid new : DiskState) → IsFitting t p → IsOpened t p old mid → ReadsOnly mid new → KeepsVersion t p old new
+version_kept t p old mid new fitting opened reads =
+    let one = λ (image : List ℕ). old.crash_images image ⊎ Represents image t p in
+    record {
+      stands = inl (stands_reading mid new t p reads opened.stands);
+      crash = LeavesOnly-trans old mid new one opened.crash
+          (LeavesOnly-weaken mid new mid.crash_images one (λ image left. inr (standing_represents t p image fitting (opened.stands.durable image left ∙ opened.stands.layout_is))) reads.leaves);
+    }
+
 -- what stands behind the opening of the image and the upgrade
 tree_upgraded : (t : Tree) (p : Parameters) (old mid new : DiskState) (result : Result (Unit {0}) ApplyFault) → IsFitting t p → IsOpened t p old mid → UpgradesStanding t p mid new result
     → (result ≡ Err apply.Stopped → ⊥) → new.faults ≡ apply_faults_after old.faults result → UpgradesTree t p (status_of apply_status result) old new
@@ -190,7 +200,7 @@ tree_upgraded t p old mid new result fitting opened upgraded ran count =
           (LeavesOnly-weaken old mid (λ image. old.crash_images image ⊎ Represents image t p) either (λ image one. ⊎_elim (λ left. inl left) (λ represents. inr (inl represents)) one) opened.crash)
           (LeavesOnly-weaken mid new (RepresentsEither t p) either (λ image represents. inr represents) upgraded.crash);
       reads = upgraded.reads;
-      no_memory = λ e. subst (λ (bytes : List ℕ). Represents bytes t p) (sym (upgraded.no_memory (when_no_memory result e)).bytes) (standing_represents t p mid.bytes fitting opened.stands.layout_is);
+      no_memory = λ e. version_kept t p old mid new fitting opened (upgraded.no_memory (when_no_memory result e));
       counts = record {
         done = λ e. made_then old mid new (opening_writes p.slots old.bytes) (opening_syncs p.slots old.bytes) writes syncs opened.counts (when_done result e upgraded.made);
         no_memory = λ e. inl (made_as old new (opening_writes p.slots old.bytes + 0) (opening_writes p.slots old.bytes) (opening_syncs p.slots old.bytes + 0) (opening_syncs p.slots old.bytes) (omega arith) (omega arith)

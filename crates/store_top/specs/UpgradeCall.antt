@@ -45,6 +45,12 @@ pub record CountsUpgraded (t : Tree) (p : Parameters) (status : Status) (old new
   pub no_memory : status ≡ statuses.NoMemory → Made (opening_writes p.slots old.bytes) (opening_syncs p.slots old.bytes) old new ⊎ IsOnlySynced old new
   pub limit : MadeAtMost (opening_writes p.slots old.bytes + writes_behind p.version (slots_upgraded p t)) (opening_syncs p.slots old.bytes + syncs_behind p.version) old new
 
+-- The image of the tree has the version that it had: the disk stands at it, or is as it was. An image that a crash at any
+-- moment of the call may leave is one that a crash before it might have left, or represents the tree under that version.
+pub record KeepsVersion (t : Tree) (p : Parameters) (old new : DiskState) : Type 0 where
+  pub stands : Stands new t p ⊎ LeavesImage old new
+  pub crash : LeavesOnly old new (λ image. old.crash_images image ⊎ Represents image t p)
+
 -- An upgrade of an image that represents the tree.
 pub record UpgradesTree (t : Tree) (p : Parameters) (status : Status) (old new : DiskState) : Type 0 where
   -- where it is done the disk reads the layout of the tree under version 2, and nothing is pending
@@ -53,8 +59,8 @@ pub record UpgradesTree (t : Tree) (p : Parameters) (status : Status) (old new :
   -- tree under the one version or the other; and the disk reads such an image, after a fault too.
   pub crash : LeavesOnly old new (λ image. old.crash_images image ⊎ RepresentsEither t p image)
   pub reads : RepresentsEither t p new.bytes
-  -- where memory ran out it represents the tree under the version that it had
-  pub no_memory : status ≡ statuses.NoMemory → Represents new.bytes t p
+  -- where memory ran out all is of the version that it had, what a crash leaves too
+  pub no_memory : status ≡ statuses.NoMemory → KeepsVersion t p old new
   pub counts : CountsUpgraded t p status old new
   -- an image of version 2 with an empty journal is not written
   pub quiet : p.version ≡ Two → HasEmptyJournal p.slots old.bytes → (status ≡ statuses.DiskFault → ⊥) → IsUnwritten old new
