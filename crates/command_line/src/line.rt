@@ -155,7 +155,8 @@ const RUN_ABOUT: &str = "Answers the script on standard input, with a reply for 
 
 /// What is to be known of `run` besides.
 const RUN_NOTES: &str =
-    "A script's commands are make, write, cut, rename, remove, prune, list, read, space and digest.\n\
+    "A script's commands are make, write, cut, rename, remove, prune, list, read, set, unset, get, attrs,\n\
+    space and digest.\n\
     What a line changes is safe in the file before its reply is printed.";
 
 /// What `check` does.

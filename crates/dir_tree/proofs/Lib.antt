@@ -1,5 +1,8 @@
+pub mod FilterLemmas
 pub mod OrderLemmas
 pub mod NextLemmas
+pub mod OwnerLemmas
+pub mod AttributeLemmas
 pub mod TakingLemmas
 pub mod RefusalLemmas
 pub mod TreeLemmas

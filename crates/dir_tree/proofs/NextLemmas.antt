@@ -1,108 +1,127 @@
--- Lemmas on the first pair from a key on.
-use Rattle.std.proofs.Common.{◌≡◌, ℕ, ◌<◌, List, [], ◌∷◌, Bool, true, false, cond, IsTrue, Option, Some, None, refl, sym, ap, subst, ◌∙◌, arith, Ordering, Less, Equal, Greater, nat_cmp}
+-- Lemmas on the first key from a key on: which block stands under it, and which do not stand before it.
+use Rattle.std.proofs.Common.{◌≡◌, ℕ, ◌<◌, List, [], ◌∷◌, Bool, true, false, cond, IsTrue, Option, Some, None, refl, sym, ap, subst, ◌∙◌, Less}
 use Rattle.std.specs.List.{AllByRecursion}
-use Rattle.std.specs.Ordering.{is_le, ordering_then}
-use Rattle.std.specs.Prelude.{IsSome, IfSome, IfNone, MatchOption}
-use Rattle.std.specs.FinMap.{find}
-use Rattle.std.proofs.lemmas.Bool.{both_ways}
-use Rattle.store_model.specs.Paths.{Path, is_root, is_path, path_cmp, is_at_or_inside, key, key_cmp}
+use Rattle.std.specs.Ordering.{is_le, eq_by_cmp}
+use Rattle.std.specs.Prelude.{IsSome, IfSome, MatchOption}
+use Rattle.std.specs.FinMap.{find, is_sorted}
+use Rattle.store_model.specs.Paths.{Path, is_root, is_path, is_place, is_at_or_inside, key, key_cmp}
 use Rattle.store_model.specs.Pairs.{Pair}
-use Rattle.store_model.proofs.PathsLemmas.{order_of_keys}
-use Rattle.store_model.proofs.TreesLemmasPaths.{same_from_tie}
 use Rattle.store_model.proofs.ListsLemmas.{rising_from_is_sorted}
 use Rattle.ordered_pairs.specs.PairsState.{next_pair}
-use Rattle.tree_pairs.specs.Blocks.{BlockMap, IsBlockPair}
+use Rattle.tree_pairs.specs.Blocks.{BlockMap, IsBlockPair, HasBlocks}
 use Rattle.tree_pairs.proofs.NextLemmas.{IsNextFrom, next_some, next_none}
-use Rattle.dir_tree.specs.declared.subtree.Block.{Block}
-use Rattle.dir_tree.specs.SubtreeCalls.{HasPathBlocks, IsFrom, LacksFrom, IsFirstFrom, IsWithin, IsOutside}
-use Rattle.dir_tree.proofs.OrderLemmas.{le_le, subtree_before, at_itself}
+use Rattle.dir_tree.specs.SubtreeCalls.{HasPathBlocks, IsBeforeEnd, LacksFrom, IsFirstFrom}
+use Rattle.dir_tree.proofs.OrderLemmas.{same_key_from_test, le_le, behind_end, before_end, within_stretch}
 
--- it is one of the list
-pub next_of : (P : Pair → Type 0) (k : List ℕ) (s : List Pair) (e : Pair) → next_pair k s ≡ Some e → AllByRecursion P s → P e
-next_of P k [] e is h = cc
-next_of P k (f ∷ s) e is h =
-    (elim (is_le (key_cmp k f.0)) as (λ b. cond b (Some f) (next_pair k s) ≡ Some e → P e) [
-      | true ↦ λ is. let same : f ≡ e = cc in subst P same h.0
-      | false ↦ λ is. next_of P k s e is h.1
-    ]) is
+-- ---- the next pair of a list
 
--- ---- the next pair of a list that has blocks
+pub some_is : {X : Type 0} (o : Option X) (x : X) → o ≡ Some x → IsSome o
+some_is None x e = cc
+some_is (Some y) x e = refl
 
-lacks_none : (from : List ℕ) (top : Path) (blocks : BlockMap) (s : List Pair) → HasPathBlocks blocks s → next_pair from s ≡ None → LacksFrom from top blocks
-lacks_none from top blocks s h e x j path l inside behind = sym (h.has.each x j path l) ∙ next_none from s e (key x j) behind
+-- what holds of a value that was found
+pub of_found : {X : Type 0} (P : X → Type 0) (found : Option X) (x : X) → found ≡ Some x → IfSome found P → P x
+of_found P None x is h = cc
+of_found P (Some y) x is h = let same : y ≡ x = cc in subst P same h
 
--- a key behind that of a block outside the subtree is none of the subtree
-lacks_behind : (from : List ℕ) (top x y : Path) (i j : ℕ) → IsTrue (is_path top) → IsTrue (is_path y) → i < 4294967296 → is_at_or_inside y top ≡ false → is_le (key_cmp (key top 0) from) ≡ true → is_le (key_cmp from (key y i)) ≡ true → is_at_or_inside x top ≡ true
-    → key_cmp (key x j) (key y i) ≡ Less
-lacks_behind from top x y i j path valid l outside low behind inside = by_order (path_cmp top y) refl
+-- there is none
+pub found_none : (from : List ℕ) (top : Path) (s : List Pair) (found : Option Pair) → found ≡ next_pair from s → found ≡ None → LacksFrom from top s
+found_none from top s found is none k behind before = next_none from s (sym is ∙ none) k behind
+
+module _ (from : List ℕ) (top : Path) (s : List Pair) (found : Option Pair) (e : Pair) (sorted : IsTrue (is_sorted key_cmp s)) (is : found ≡ next_pair from s) (some : found ≡ Some e) where
+  next : IsNextFrom from s e
+  next = next_some from s e (rising_from_is_sorted key_cmp s sorted) (sym is ∙ some)
+
+  -- it is one of the subtree
+  pub found_within : IsBeforeEnd top e.0 → IsFirstFrom from top s e.0
+  found_within before = record { there = some_is (find key_cmp e.0 s) e.1 next.found; behind = next.not_below; before = before; first = next.none_between }
+
+  -- it stands behind the subtree
+  pub found_behind : (IsBeforeEnd top e.0 → ⊥) → LacksFrom from top s
+  found_behind outside k behind before = next.none_between k behind (behind_end top e.0 k outside before)
+
+-- ---- the blocks of a list
+
+-- the key is that of a block that is there
+pub record IsBlockAt (blocks : BlockMap) (k : List ℕ) : Type 0 where
+  pub place : Path
+  pub block : ℕ
+  pub valid : IsTrue (is_place place)
+  pub in_range : block < 4294967296
+  pub key_is : k ≡ key place block
+  pub there : IsSome (blocks place block)
+
+-- what holds of each pair holds of one that has the key
+pair_of_key : (P : Pair → Type 0) (k : List ℕ) (s : List Pair) → AllByRecursion P s → IsSome (find key_cmp k s) → (pair : Pair) × P pair × (k ≡ pair.0)
+pair_of_key P k [] h there = cc
+pair_of_key P k (e ∷ s) h there =
+    (elim (eq_by_cmp key_cmp k e.0) as (λ b. eq_by_cmp key_cmp k e.0 ≡ b → IsSome (cond b (Some e.1) (find key_cmp k s)) → (pair : Pair) × P pair × (k ≡ pair.0)) [
+      | true ↦ λ same there. (e, h.0, same_key_from_test k e.0 same)
+      | false ↦ λ other there. pair_of_key P k s h.1 there
+    ]) refl there
+
+-- each key of a list that has blocks is a block's
+pub block_at : (blocks : BlockMap) (s : List Pair) (k : List ℕ) → HasBlocks blocks s → IsSome (find key_cmp k s) → IsBlockAt blocks k
+block_at blocks s k h there =
+    let pair = pair_of_key IsBlockPair k s h.only there in
+    let of = pair.1 in
+    let key_is : k ≡ key of.path of.block = pair.2 ∙ of.key_is in
+    record {
+      place = of.path;
+      block = of.block;
+      valid = of.valid;
+      in_range = of.in_range;
+      key_is = key_is;
+      there = subst IsSome (ap (λ q. find key_cmp q s) key_is ∙ h.each of.path of.block of.valid of.in_range) there;
+    }
+
+-- the key is that of a block of a subtree; the root has none
+pub record IsBlockWithin (top : Path) (blocks : BlockMap) (k : List ℕ) : Type 0 where
+  pub at : IsBlockAt blocks k
+  pub within : is_at_or_inside at.place top ≡ true
+  pub below_root : is_root at.place ≡ false
+
+-- a key of the stretch is a block's of the subtree
+pub block_within : (top : Path) (blocks : BlockMap) (s : List Pair) (k : List ℕ) → HasPathBlocks blocks s → IsTrue (is_path top) → is_le (key_cmp (key top 0) k) ≡ true → IsBeforeEnd top k → IsSome (find key_cmp k s) → IsBlockWithin top blocks k
+block_within top blocks s k h path low before there =
+    let at = block_at blocks s k h.has there in
+    record {
+      at = at;
+      within = within_stretch top at.place at.block path at.valid at.in_range (ap (λ q. is_le (key_cmp (key top 0) q)) (sym at.key_is) ∙ low) (subst (IsBeforeEnd top) at.key_is before);
+      below_root = by_root at.place at.block at.there (is_root at.place) refl;
+    }
   where
-    by_order : (o : Ordering) → path_cmp top y ≡ o → key_cmp (key x j) (key y i) ≡ Less
-    by_order Less e = subtree_before top x y j i valid inside outside e
-    by_order Equal e = absurd (both_ways _ outside (ap (λ z. is_at_or_inside z top) (sym (same_from_tie top y e)) ∙ at_itself top))
-    by_order Greater e = absurd (both_ways _ (ap is_le (order_of_keys top y 0 i path valid (omega arith) l ∙ ap (λ o. ordering_then o (nat_cmp 0 i)) e)) (le_le (key top 0) from (key y i) low behind))
+    by_root : (y : Path) (i : ℕ) → IsSome (blocks y i) → (b : Bool) → is_root y ≡ b → is_root y ≡ false
+    by_root y i some false e = e
+    by_root [] i some true e = let none = h.bare i in cc
+    by_root (n ∷ y) i some true e = refl
 
-module _ (from : List ℕ) (top : Path) (blocks : BlockMap) (s : List Pair) (e : Pair) (h : HasPathBlocks blocks s) (next : IsNextFrom from s e) where
-  -- what stands before the next pair is not found
-  none_before : (x : Path) (j : ℕ) → IsTrue (is_path x) → j < 4294967296 → IsFrom from x j → key_cmp (key x j) e.0 ≡ Less → blocks x j ≡ None
-  none_before x j path l behind less = sym (h.has.each x j path l) ∙ next.none_between (key x j) behind less
+-- the first key found is one, where it is sought from the first of the subtree on
+pub first_within : (from : List ℕ) (top : Path) (blocks : BlockMap) (s : List Pair) (k : List ℕ) → HasPathBlocks blocks s → IsTrue (is_path top) → is_le (key_cmp (key top 0) from) ≡ true → IsFirstFrom from top s k → IsBlockWithin top blocks k
+first_within from top blocks s k h path low first = block_within top blocks s k h path (le_le (key top 0) from k low first.behind) first.before first.there
 
-  -- the next pair is a block of no subtree
-  lacks_outside : IsTrue (is_path top) → is_le (key_cmp (key top 0) from) ≡ true → IsBlockPair e → IsOutside top e.0 → LacksFrom from top blocks
-  lacks_outside path low of outside x j valid l inside behind = by_root (is_root x) refl
-    where
-      bare_root : (z : Path) → is_root z ≡ true → blocks z j ≡ None
-      bare_root [] t = h.bare j
-      bare_root (n ∷ z) t = cc
+-- where no key is found, there is no block of the subtree from there on
+pub lacks_block : (from : List ℕ) (top : Path) (blocks : BlockMap) (s : List Pair) (x : Path) (j : ℕ) → HasBlocks blocks s → LacksFrom from top s → IsTrue (is_place x) → j < 4294967296 → is_at_or_inside x top ≡ true → is_le (key_cmp from (key x j)) ≡ true
+    → blocks x j ≡ None
+lacks_block from top blocks s x j h lacks valid l inside behind = sym (h.each x j valid l) ∙ lacks (key x j) behind (before_end top x j inside)
 
-      root_is_bare : (z : Path) → is_root z ≡ true → of.path ≡ z → ⊥
-      root_is_bare [] t is =
-          let none : find key_cmp e.0 s ≡ None = ap (λ k. find key_cmp k s) (of.key_is ∙ ap (λ z. key z of.block) is) ∙ h.has.each [] of.block (subst (λ (z : Path). IsTrue (is_path z)) is of.valid) of.in_range ∙ h.bare of.block in
-          let some = next.found in
-          cc
-      root_is_bare (n ∷ z) t is = cc
+-- and none stands before the first that is found
+pub none_before : (from : List ℕ) (top : Path) (blocks : BlockMap) (s : List Pair) (k : List ℕ) (x : Path) (j : ℕ) → HasBlocks blocks s → IsFirstFrom from top s k → IsTrue (is_place x) → j < 4294967296 → is_le (key_cmp from (key x j)) ≡ true → key_cmp (key x j) k ≡ Less
+    → blocks x j ≡ None
+none_before from top blocks s k x j h first valid l behind less = sym (h.each x j valid l) ∙ first.first (key x j) behind less
 
-      not_inside : (b : Bool) → is_at_or_inside of.path top ≡ b → is_at_or_inside of.path top ≡ false
-      not_inside false t = t
-      not_inside true t = by_its_root (is_root of.path) refl
-        where
-          by_its_root : (b : Bool) → is_root of.path ≡ b → is_at_or_inside of.path top ≡ false
-          by_its_root true r = absurd (root_is_bare of.path r refl)
-          by_its_root false r = absurd (outside of.path of.block of.valid r of.in_range t of.key_is)
+-- ---- what a search answered
 
-      before : key_cmp (key x j) e.0 ≡ Less
-      before = ap (key_cmp (key x j)) of.key_is ∙ lacks_behind from top x of.path of.block j path of.valid of.in_range (not_inside (is_at_or_inside of.path top) refl) low (ap (λ k. is_le (key_cmp from k)) (sym of.key_is) ∙ next.not_below) inside
+-- the answer of a search from a key on
+abbrev pub Searched : List ℕ → Path → List Pair → Option (List ℕ) → Type 0
+Searched from top s found = MatchOption found (LacksFrom from top s) (IsFirstFrom from top s)
 
-      by_root : (b : Bool) → is_root x ≡ b → blocks x j ≡ None
-      by_root true t = bare_root x t
-      by_root false t = none_before x j valid l behind before
+-- the key that it found
+pub found_first : (from : List ℕ) (top : Path) (s : List Pair) (found : Option (List ℕ)) (k : List ℕ) → found ≡ Some k → Searched from top s found → IsFirstFrom from top s k
+found_first from top s None k is h = cc
+found_first from top s (Some q) k is h = let same : q ≡ k = cc in subst (IsFirstFrom from top s) same h
 
-  -- the next pair is a block
-  first_block : (y : Path) (i : ℕ) → IsTrue (is_path y) → i < 4294967296 → key y i ≡ e.0 → IsFirstFrom from blocks y i
-  first_block y i valid l is = record {
-    there = some_is (blocks y i) e.1 (sym (h.has.each y i valid l) ∙ ap (λ k. find key_cmp k s) is ∙ next.found);
-    behind = ap (λ k. is_le (key_cmp from k)) is ∙ next.not_below;
-    first = λ x j path m behind less. none_before x j path m behind (ap (key_cmp (key x j)) (sym is) ∙ less);
-  }
-    where
-      some_is : (o : Option (List ℕ)) (v : List ℕ) → o ≡ Some v → IsSome o
-      some_is None v e = cc
-      some_is (Some w) v e = refl
-
--- the same for what a search answered
-pub found_none : (from : List ℕ) (top : Path) (blocks : BlockMap) (s : List Pair) (found : Option Pair) → HasPathBlocks blocks s → found ≡ next_pair from s → found ≡ None → LacksFrom from top blocks
-found_none from top blocks s found h is none = lacks_none from top blocks s h (sym is ∙ none)
-
-found_outside : (from : List ℕ) (top : Path) (blocks : BlockMap) (s : List Pair) (found : Option Pair) (e : Pair) → HasPathBlocks blocks s → IsTrue (is_path top) → is_le (key_cmp (key top 0) from) ≡ true → found ≡ next_pair from s → found ≡ Some e → IsOutside top e.0 → LacksFrom from top blocks
-found_outside from top blocks s found e h path low is some outside =
-    let at : next_pair from s ≡ Some e = sym is ∙ some in
-    lacks_outside from top blocks s e h (next_some from s e (rising_from_is_sorted key_cmp s h.has.sorted) at) path low (next_of IsBlockPair from s e at h.has.only) outside
-
-found_block : (from : List ℕ) (top : Path) (blocks : BlockMap) (s : List Pair) (found : Option Pair) (e : Pair) (y : Path) (i : ℕ) → HasPathBlocks blocks s → found ≡ next_pair from s → found ≡ Some e → IsWithin top y i → key y i ≡ e.0 → IsFirstFrom from blocks y i
-found_block from top blocks s found e y i h is some within at =
-    first_block from top blocks s e h (next_some from s e (rising_from_is_sorted key_cmp s h.has.sorted) (sym is ∙ some)) y i within.valid within.in_range at
-
-pub found_answer : (from : List ℕ) (top : Path) (blocks : BlockMap) (s : List Pair) (found : Option Pair) (e : Pair) (answer : Option Block) → HasPathBlocks blocks s → IsTrue (is_path top) → is_le (key_cmp (key top 0) from) ≡ true → found ≡ next_pair from s → found ≡ Some e
-    → IfSome answer (λ at. key at.path at.number ≡ e.0) → IfSome answer (λ at. IsWithin top at.path at.number) → IfNone answer (IsOutside top e.0)
-    → MatchOption answer (LacksFrom from top blocks) (λ at. IsFirstFrom from blocks at.path at.number)
-found_answer from top blocks s found e None h path low is some at within outside = found_outside from top blocks s found e h path low is some outside
-found_answer from top blocks s found e (Some block) h path low is some at within outside = found_block from top blocks s found e block.path block.number h is some within at
+-- and where it found none
+pub found_nothing : (from : List ℕ) (top : Path) (s : List Pair) (found : Option (List ℕ)) → ((k : List ℕ) → found ≡ Some k → ⊥) → Searched from top s found → LacksFrom from top s
+found_nothing from top s None none h = h
+found_nothing from top s (Some q) none h = absurd (none q refl)

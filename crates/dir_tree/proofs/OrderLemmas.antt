@@ -1,15 +1,16 @@
--- Lemmas on the order of keys: of any two, and of those of a subtree and of the paths behind it.
-use Rattle.std.proofs.Common.{◌≡◌, ℕ, zero, suc, ◌<◌, arith, ◌||◌, List, [], ◌∷◌, ◌++◌, length, drop, Bool, true, false, IsTrue, refl, sym, ap, ◌∙◌, Ordering, Less, Equal, Greater, nat_cmp}
+-- Lemmas on the order of keys: of any two, of those of a subtree and of the places behind it.
+use Rattle.std.proofs.Common.{◌≡◌, ℕ, zero, suc, ◌<◌, arith, List, [], ◌∷◌, ◌++◌, length, drop, Bool, true, false, IsTrue, refl, sym, ap, ◌∙◌, Ordering, Less, Equal, Greater, nat_cmp}
 use Rattle.std.specs.Ordering.{is_le, eq_by_cmp, ordering_reverse, ordering_then}
 use Rattle.std.specs.Cmp.{tied_itself}
 use Rattle.std.specs.Cmp.Lexicographic.{nat_list_cmp_total}
 use Rattle.std.specs.FinMap.{slice_cmp-IsAntisymmetric, nat_cmp-IsAntisymmetric}
-use Rattle.std.proofs.lemmas.Bool.{both_ways, or_left, false_from_ne_true}
-use Rattle.store_model.specs.Paths.{Path, is_root, is_path, path_cmp, same_path, is_inside, is_at_or_inside, key, key_cmp}
+use Rattle.std.proofs.lemmas.Bool.{both_ways, or_left}
+use Rattle.store_model.specs.Paths.{Path, is_root, is_path, is_place, path_cmp, same_path, is_inside, is_at_or_inside, key, key_cmp}
 use Rattle.store_model.proofs.ListsLemmas.{nat_cmp-lt}
-use Rattle.store_model.proofs.PathsLemmas.{order_of_keys}
-use Rattle.store_model.proofs.TreesLemmasPaths.{same_path-itself, at_or_inside-append, at_or_inside-split, same_from_test, same_path-from_equal, tie_from_test}
-use Rattle.path_keys.proofs.PastBytes.{past_bytes, subtree_before_past, past_before_later}
+use Rattle.store_model.proofs.PathsLemmas.{place_of_path, order_of_keys}
+use Rattle.store_model.proofs.TreesLemmasPaths.{same_path-itself, at_or_inside-append, at_or_inside-split, same_from_tie, tie_from_test}
+use Rattle.path_keys.proofs.PastBytes.{past_bytes, past_written, subtree_before_past, past_before_later, past_not_above}
+use Rattle.dir_tree.specs.SubtreeCalls.{end_of, IsBeforeEnd}
 
 -- ---- any two keys
 
@@ -86,21 +87,13 @@ pub at_itself : (x : Path) → is_at_or_inside x x ≡ true
 at_itself x = or_left (same_path x x) (is_inside x x) (same_path-itself x)
 
 -- the keys of a subtree stand before those of each path behind it
-pub subtree_before : (top x y : Path) (i j : ℕ) → IsTrue (is_path y) → is_at_or_inside x top ≡ true → is_at_or_inside y top ≡ false → path_cmp top y ≡ Less
+pub subtree_before : (top x y : Path) (i j : ℕ) → IsTrue (is_path top) → IsTrue (is_path y) → is_at_or_inside x top ≡ true → is_at_or_inside y top ≡ false → path_cmp top y ≡ Less
     → key_cmp (key x i) (key y j) ≡ Less
-subtree_before top x y i j path inside outside behind = by_root (is_root top) refl
+subtree_before top x y i j valid path inside outside behind = by_root (is_root top) refl
   where
     by_root : (b : Bool) → is_root top ≡ b → key_cmp (key x i) (key y j) ≡ Less
     by_root true e = absurd (both_ways _ outside (at_or_inside_root top y e))
-    by_root false e = nat_list_cmp_total.trans (key x i) (past_bytes top 0) (key y j) (subtree_before_past top x 0 i e inside) (past_before_later top y 0 j e path outside behind)
-
--- what two tests say
-pub at_or_inside_from_same : (x top : Path) (same : Bool) → same ≡ true → (same ≡ true → x ≡ top) → same ≡ is_at_or_inside x top
-at_or_inside_from_same x top same e is = e ∙ sym (or_left (same_path x top) (is_inside x top) (same_path-from_equal x top (is e)))
-
-pub at_or_inside_from_inside : (x top : Path) (same inside : Bool) → same ≡ false → (x ≡ top → same ≡ true) → inside ≡ is_inside x top → inside ≡ is_at_or_inside x top
-at_or_inside_from_inside x top same inside e is h =
-    h ∙ sym (ap (λ b. b || is_inside x top) (false_from_ne_true (same_path x top) (λ t. both_ways _ e (is (same_from_test x top t)))))
+    by_root false e = nat_list_cmp_total.trans (key x i) (past_bytes top) (key y j) (subtree_before_past top x i e inside) (past_before_later top y j e valid path outside behind)
 
 -- the first key of a subtree is not above its others
 front_is_lowest : (top s : Path) → is_le (path_cmp top (top ++ s)) ≡ true
@@ -112,7 +105,7 @@ zero_is_lowest : (n : ℕ) → is_le (nat_cmp 0 n) ≡ true
 zero_is_lowest zero = refl
 zero_is_lowest (suc n) = ap is_le (nat_cmp-lt 0 (suc n) (omega arith))
 
-pub top_is_lowest : (top x : Path) (i : ℕ) → IsTrue (is_path top) → IsTrue (is_path x) → i < 4294967296 → is_at_or_inside x top ≡ true → is_le (key_cmp (key top 0) (key x i)) ≡ true
+pub top_is_lowest : (top x : Path) (i : ℕ) → IsTrue (is_place top) → IsTrue (is_place x) → i < 4294967296 → is_at_or_inside x top ≡ true → is_le (key_cmp (key top 0) (key x i)) ≡ true
 top_is_lowest top x i path valid l inside =
     ap is_le (order_of_keys top x 0 i path valid (omega arith) l)
     ∙ both (path_cmp top x) (nat_cmp 0 i) (ap (λ y. is_le (path_cmp top y)) (at_or_inside-split x top inside) ∙ front_is_lowest top (drop (length top) x)) (zero_is_lowest i)
@@ -126,6 +119,57 @@ top_is_lowest top x i path valid l inside =
 pub le_at_first : (top : Path) (k : List ℕ) → k ≡ key top 0 → is_le (key_cmp (key top 0) k) ≡ true
 le_at_first top k e = ap (λ q. is_le (key_cmp (key top 0) q)) e ∙ ap is_le (key_itself (key top 0))
 
--- the keys of a path stand before those of a later one
-pub less_keys : (a b : Path) (i j : ℕ) → IsTrue (is_path a) → IsTrue (is_path b) → i < 4294967296 → j < 4294967296 → path_cmp a b ≡ Less → key_cmp (key a i) (key b j) ≡ Less
+-- the keys of a place stand before those of a later one
+pub less_keys : (a b : Path) (i j : ℕ) → IsTrue (is_place a) → IsTrue (is_place b) → i < 4294967296 → j < 4294967296 → path_cmp a b ≡ Less → key_cmp (key a i) (key b j) ≡ Less
 less_keys a b i j ha hb hi hj l = order_of_keys a b i j ha hb hi hj ∙ ap (λ o. ordering_then o (nat_cmp i j)) l
+
+-- and keys that tie are those of one place and number
+pub same_place : (a b : Path) (i j : ℕ) → IsTrue (is_place a) → IsTrue (is_place b) → i < 4294967296 → j < 4294967296 → key a i ≡ key b j → (a ≡ b) × (i ≡ j)
+same_place a b i j ha hb hi hj e = by_parts (path_cmp a b) (nat_cmp i j) refl refl (sym (order_of_keys a b i j ha hb hi hj) ∙ ap (key_cmp (key a i)) (sym e) ∙ key_itself (key a i))
+  where
+    by_parts : (o r : Ordering) → path_cmp a b ≡ o → nat_cmp i j ≡ r → ordering_then o r ≡ Equal → (a ≡ b) × (i ≡ j)
+    by_parts Less r f g h = cc
+    by_parts Greater r f g h = cc
+    by_parts Equal Less f g h = cc
+    by_parts Equal Greater f g h = cc
+    by_parts Equal Equal f g h = (same_from_tie a b f, nat_cmp-IsAntisymmetric i j g)
+
+-- ---- the stretch of a subtree
+
+-- the key past a subtree, byte by byte
+end_written : (top : Path) → is_root top ≡ false → end_of top ≡ past_bytes top
+end_written top below = past_written top below
+
+-- the keys of places at a path or below it stand before its end
+pub before_end : (top x : Path) (i : ℕ) → is_at_or_inside x top ≡ true → IsBeforeEnd top (key x i)
+before_end top x i inside below = ap (key_cmp (key x i)) (end_written top below) ∙ subtree_before_past top x i below inside
+
+-- and those are all keys of places from the path's first key on and before its end
+pub within_stretch : (top x : Path) (i : ℕ) → IsTrue (is_path top) → IsTrue (is_place x) → i < 4294967296 → is_le (key_cmp (key top 0) (key x i)) ≡ true → IsBeforeEnd top (key x i) → is_at_or_inside x top ≡ true
+within_stretch top x i path place l low before = by_root (is_root top) refl
+  where
+    not_outside : is_root top ≡ false → is_at_or_inside x top ≡ false → (o : Ordering) → path_cmp top x ≡ o → ⊥
+    not_outside below outside Less e = below_and_le (key x i) (end_of top) (before below) (ap (λ k. is_le (key_cmp k (key x i))) (end_written top below) ∙ past_not_above top x i below path place outside e)
+    not_outside below outside Equal e = both_ways _ outside (ap (λ z. is_at_or_inside z top) (sym (same_from_tie top x e)) ∙ at_itself top)
+    not_outside below outside Greater e = both_ways _ (ap is_le (order_of_keys top x 0 i (place_of_path top path) place (omega arith) l ∙ ap (λ o. ordering_then o (nat_cmp 0 i)) e)) low
+
+    by_test : is_root top ≡ false → (b : Bool) → is_at_or_inside x top ≡ b → is_at_or_inside x top ≡ true
+    by_test below true e = e
+    by_test below false e = absurd (not_outside below e (path_cmp top x) refl)
+
+    by_root : (b : Bool) → is_root top ≡ b → is_at_or_inside x top ≡ true
+    by_root true r = at_or_inside_root top x r
+    by_root false r = by_test r (is_at_or_inside x top) refl
+
+-- a key that does not stand before the end stands behind those that do
+pub behind_end : (top : Path) (k q : List ℕ) → (IsBeforeEnd top k → ⊥) → IsBeforeEnd top q → key_cmp q k ≡ Less
+behind_end top k q behind before = by_root (is_root top) refl
+  where
+    by_order : is_root top ≡ false → (o : Ordering) → key_cmp k (end_of top) ≡ o → key_cmp q k ≡ Less
+    by_order below Less e = absurd (behind (λ r. e))
+    by_order below Equal e = less_le q (end_of top) k (before below) (ap is_le (reversed k (end_of top) Equal e))
+    by_order below Greater e = less_le q (end_of top) k (before below) (ap is_le (reversed k (end_of top) Greater e))
+
+    by_root : (b : Bool) → is_root top ≡ b → key_cmp q k ≡ Less
+    by_root true r = absurd (behind (λ below. absurd (both_ways _ below r)))
+    by_root false r = by_order r (key_cmp k (end_of top)) refl

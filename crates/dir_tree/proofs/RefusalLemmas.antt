@@ -11,7 +11,7 @@ use Rattle.store_model.specs.Pairs.{pairs}
 use Rattle.store_model.specs.Trees.{Tree, Node, is_directory, is_directory_node, is_file, is_file_node, node_at}
 use Rattle.store_model.specs.Trees.Node.{Directory, File}
 use Rattle.store_model.specs.Commands.{Command, Reply}
-use Rattle.store_model.specs.Commands.Command.{Make, Remove, Prune, ListChildren}
+use Rattle.store_model.specs.Commands.Command.{Make, Remove, Prune, ListChildren, ListAttributes}
 use Rattle.store_model.specs.Steps.{Condition, first_refusal, conditions, refusal_of, next_tree, reply_of, has_child, root_refused, parent_refused, exists_refused, missing_refused}
 use Rattle.store_model.proofs.TreesLemmas.{exists_from_directory}
 use Rattle.ordered_pairs.specs.PairsState.{PairsState, IsObservable}
@@ -116,6 +116,22 @@ module _ (t : Tree) (x : Path) where
 
   pub prune_of_one : is_root x ≡ false → (n : Node) → node_at t x ≡ Some n → None ≡ refusal_of t (Prune x)
   prune_of_one root n at = sym (prune_conditions ∙ first_fails _ _ _ root ∙ first_fails _ _ _ (ap (λ o. not (is_some o)) at) ∙ none_holds)
+
+  -- ---- looking for attributes
+
+  -- it is refused as pruning is
+  find_is_prune : refusal_of t (Prune x) ≡ refusal_of t (ListAttributes x)
+  unfolding conditions
+  find_is_prune = refl
+
+  pub find_at_root : is_root x ≡ true → Some refusals.Root ≡ refusal_of t (ListAttributes x)
+  find_at_root root = prune_of_root root ∙ find_is_prune
+
+  pub find_of_none : is_root x ≡ false → node_at t x ≡ None → Some refusals.Missing ≡ refusal_of t (ListAttributes x)
+  find_of_none root at = prune_of_none root at ∙ find_is_prune
+
+  pub find_of_one : is_root x ≡ false → (n : Node) → node_at t x ≡ Some n → None ≡ refusal_of t (ListAttributes x)
+  find_of_one root n at = prune_of_one root n at ∙ find_is_prune
 
   -- ---- listing
 

@@ -1,19 +1,20 @@
 -- Lemmas on the pairs of a subtree that are taken away one after another.
 use Rattle.std.proofs.Common.{◌≡◌, ℕ, suc, ◌+◌, ◌<◌, ◌≤◌, List, [], ◌∷◌, length, Bool, true, false, not, cond, IsTrue, Option, Some, None, refl, sym, ap, subst, ◌∙◌, arith, nat_cmp}
-use Rattle.std.specs.Prelude.{IsSome, IfSome, MatchOption}
+use Rattle.std.specs.Prelude.{IsSome}
 use Rattle.std.specs.Ordering.{eq_by_cmp}
 use Rattle.std.specs.FinMap.{find}
 use Rattle.std.proofs.lemmas.Bool.{both_ways}
-use Rattle.store_model.specs.Paths.{Path, is_root, is_path, same_path, is_at_or_inside, key, key_cmp}
+use Rattle.store_model.specs.Paths.{Path, is_root, is_path, is_place, same_path, is_at_or_inside, key, key_cmp}
 use Rattle.store_model.specs.Pairs.{Pair}
+use Rattle.store_model.proofs.PathsLemmas.{place_of_path}
 use Rattle.store_model.proofs.TreesLemmasPaths.{same_from_test}
 use Rattle.ordered_pairs.specs.PairsState.{without, most_pairs}
 use Rattle.tree_pairs.specs.Blocks.{BlockMap, with_blocks}
 use Rattle.tree_pairs.proofs.BlocksLemmas.{blocks_alike, tied_number, other_numbers}
 use Rattle.tree_pairs.proofs.ChangesLemmas.{take_block}
-use Rattle.dir_tree.specs.declared.subtree.Block.{Block}
-use Rattle.dir_tree.specs.SubtreeCalls.{HasPathBlocks, LacksFrom, IsFirstFrom, IsWithin, blocks_outside}
-use Rattle.dir_tree.proofs.OrderLemmas.{top_is_lowest}
+use Rattle.dir_tree.specs.SubtreeCalls.{HasPathBlocks, LacksFrom, blocks_outside}
+use Rattle.dir_tree.proofs.OrderLemmas.{top_is_lowest, le_itself}
+use Rattle.dir_tree.proofs.NextLemmas.{IsBlockWithin, first_within, lacks_block, Searched, found_first, found_nothing}
 
 -- ---- the number of pairs
 
@@ -63,7 +64,7 @@ pub root_apart : (y : Path) → is_root y ≡ false → [] ≡ y → ⊥
 root_apart [] e is = cc
 root_apart (n ∷ y) e is = cc
 
-pub take_one : (blocks : BlockMap) (s : List Pair) (y : Path) (i : ℕ) → IsTrue (is_path y) → is_root y ≡ false → i < 4294967296 → HasPathBlocks blocks s → HasPathBlocks (without_block y i blocks) (without (key y i) s)
+pub take_one : (blocks : BlockMap) (s : List Pair) (y : Path) (i : ℕ) → IsTrue (is_place y) → is_root y ≡ false → i < 4294967296 → HasPathBlocks blocks s → HasPathBlocks (without_block y i blocks) (without (key y i) s)
 take_one blocks s y i path below l h = record {
   has = take_block y (blocks y) (λ j. cond (eq_by_cmp nat_cmp j i) None (blocks y j)) blocks i s path l
       (ap (λ b. cond b None (blocks y i)) (tied_number i))
@@ -88,28 +89,29 @@ none_taken top blocks s h few = record { rest = blocks; holds = h; outside = λ 
 pub apart_from_outside : (top x y : Path) → is_at_or_inside y top ≡ true → is_at_or_inside x top ≡ false → x ≡ y → ⊥
 apart_from_outside top x y inside outside is = both_ways _ outside (ap (λ z. is_at_or_inside z top) is ∙ inside)
 
-pub one_more_taken : (top : Path) (blocks : BlockMap) (turns : ℕ) (s after : List Pair) (from k : List ℕ) (y : Path) (i : ℕ) (h : IsPartTaken top blocks turns s)
-    → IsWithin top y i → IsFirstFrom from h.rest y i → k ≡ key y i → after ≡ without k s → IsPartTaken top blocks (turns + 1) after
-one_more_taken top blocks turns s after from k y i h within first key_is is =
-    let less = length-without (key y i) s (subst IsSome (sym (h.holds.has.each y i within.valid within.in_range)) first.there) in
-    let list : after ≡ without (key y i) s = is ∙ ap (λ q. without q s) key_is in
+one_more_taken : (top : Path) (blocks : BlockMap) (turns : ℕ) (s after : List Pair) (k : List ℕ) (h : IsPartTaken top blocks turns s) → IsSome (find key_cmp k s) → IsBlockWithin top h.rest k → after ≡ without k s → IsPartTaken top blocks (turns + 1) after
+one_more_taken top blocks turns s after k h there within is =
+    let less = length-without k s there in
+    let y = within.at.place in
+    let i = within.at.block in
+    let list : after ≡ without (key y i) s = is ∙ ap (λ q. without q s) within.at.key_is in
     let few = h.counted in
     record {
       rest = without_block y i h.rest;
-      holds = subst (HasPathBlocks (without_block y i h.rest)) (sym list) (take_one h.rest s y i within.valid within.below_root within.in_range h.holds);
+      holds = subst (HasPathBlocks (without_block y i h.rest)) (sym list) (take_one h.rest s y i within.at.valid within.below_root within.at.in_range h.holds);
       outside = λ x j e. other_blocks y x (λ n. cond (eq_by_cmp nat_cmp n i) None (h.rest y n)) h.rest j (apart_from_outside top x y within.within e) ∙ h.outside x j e;
-      counted = omega (arith, ap length list);
+      counted = omega (arith, ap length is);
     }
 
 -- no block of the subtree is left
-pub all_taken : (top : Path) (blocks : BlockMap) (turns : ℕ) (s : List Pair) (h : IsPartTaken top blocks turns s) → IsTrue (is_path top) → LacksFrom (key top 0) top h.rest → HasPathBlocks (blocks_outside top blocks) s
+all_taken : (top : Path) (blocks : BlockMap) (turns : ℕ) (s : List Pair) (h : IsPartTaken top blocks turns s) → IsTrue (is_path top) → LacksFrom (key top 0) top s → HasPathBlocks (blocks_outside top blocks) s
 all_taken top blocks turns s h path lacks = record {
   has = record { sorted = h.holds.has.sorted; each = λ x j valid l. h.holds.has.each x j valid l ∙ by_test x j valid l (is_at_or_inside x top) refl; only = h.holds.has.only };
   bare = λ j. bare_outside j (is_at_or_inside [] top) refl;
 }
   where
-    by_test : (x : Path) (j : ℕ) → IsTrue (is_path x) → j < 4294967296 → (b : Bool) → is_at_or_inside x top ≡ b → h.rest x j ≡ cond b None (blocks x j)
-    by_test x j valid l true e = lacks x j valid l e (top_is_lowest top x j path valid l e)
+    by_test : (x : Path) (j : ℕ) → IsTrue (is_place x) → j < 4294967296 → (b : Bool) → is_at_or_inside x top ≡ b → h.rest x j ≡ cond b None (blocks x j)
+    by_test x j valid l true e = lacks_block (key top 0) top h.rest s x j h.holds.has lacks valid l e (top_is_lowest top x j (place_of_path top path) valid l e)
     by_test x j valid l false e = h.outside x j e
 
     bare_outside : (j : ℕ) (b : Bool) → is_at_or_inside [] top ≡ b → cond b None (blocks [] j) ≡ None
@@ -118,18 +120,16 @@ all_taken top blocks turns s h path lacks = record {
 
 -- ---- the same, by what a search answered
 
--- the answer of a search on a list, for whatever blocks it has
-abbrev pub Searched : List ℕ → Path → List Pair → Option Block → Type 0
-Searched from top s found = (blocks : BlockMap) → HasPathBlocks blocks s → MatchOption found (LacksFrom from top blocks) (λ at. IsFirstFrom from blocks at.path at.number)
+-- a search from the first key of a subtree on, said of that key
+pub searched_first : (from : List ℕ) (top : Path) (s : List Pair) (found : Option (List ℕ)) → from ≡ key top 0 → Searched from top s found → Searched (key top 0) top s found
+searched_first from top s found is h = subst (λ (k : List ℕ). Searched k top s found) is h
 
-pub next_taken : (top : Path) (blocks : BlockMap) (turns : ℕ) (s between after : List Pair) (from k : List ℕ) (found : Option Block) (b : Block) → IsPartTaken top blocks turns s
-    → found ≡ Some b → IfSome found (λ at. IsWithin top at.path at.number) → Searched from top s found → between ≡ s → k ≡ key b.path b.number → after ≡ without k between → IsPartTaken top blocks (turns + 1) after
-next_taken top blocks turns s between after from k None b h is within searched kept key_is taken = cc
-next_taken top blocks turns s between after from k (Some at) b h is within searched kept key_is taken =
-    let same : at ≡ b = cc in
-    one_more_taken top blocks turns s after from k at.path at.number h within (searched h.rest h.holds) (key_is ∙ sym (ap (λ (z : Block). key z.path z.number) same)) (taken ∙ ap (without k) kept)
+pub next_taken : (top : Path) (blocks : BlockMap) (turns : ℕ) (s between after : List Pair) (found : Option (List ℕ)) (k : List ℕ) → IsTrue (is_path top) → IsPartTaken top blocks turns s
+    → found ≡ Some k → Searched (key top 0) top s found → between ≡ s → after ≡ without k between → IsPartTaken top blocks (turns + 1) after
+next_taken top blocks turns s between after found k path h is searched kept taken =
+    let first = found_first (key top 0) top s found k is searched in
+    one_more_taken top blocks turns s after k h first.there (first_within (key top 0) top h.rest s k h.holds path (le_itself (key top 0)) first) (taken ∙ ap (without k) kept)
 
-pub none_left : (top : Path) (blocks : BlockMap) (turns : ℕ) (s between : List Pair) (found : Option Block) → IsTrue (is_path top) → IsPartTaken top blocks turns s
-    → ((b : Block) → found ≡ Some b → ⊥) → Searched (key top 0) top s found → between ≡ s → HasPathBlocks (blocks_outside top blocks) between
-none_left top blocks turns s between None path h none searched kept = subst (HasPathBlocks (blocks_outside top blocks)) (sym kept) (all_taken top blocks turns s h path (searched h.rest h.holds))
-none_left top blocks turns s between (Some at) path h none searched kept = absurd (none at refl)
+pub none_left : (top : Path) (blocks : BlockMap) (turns : ℕ) (s between : List Pair) (found : Option (List ℕ)) → IsTrue (is_path top) → IsPartTaken top blocks turns s
+    → ((k : List ℕ) → found ≡ Some k → ⊥) → Searched (key top 0) top s found → between ≡ s → HasPathBlocks (blocks_outside top blocks) between
+none_left top blocks turns s between found path h none searched kept = subst (HasPathBlocks (blocks_outside top blocks)) (sym kept) (all_taken top blocks turns s h path (found_nothing (key top 0) top s found none searched))

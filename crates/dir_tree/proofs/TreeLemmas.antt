@@ -1,56 +1,50 @@
 -- Lemmas on trees and their blocks: what stands below a path, and what is left without a path or a subtree.
-use Rattle.std.proofs.Common.{◌≡◌, ℕ, zero, suc, ◌<◌, List, [], ◌∷◌, ◌++◌, length, drop, Bool, true, false, cond, ◌&&◌, ◌||◌, IsTrue, Option, Some, None, is_some, refl, sym, ap, ap₂, subst, ◌∙◌, arith, nat_lt, ltb-false, nat_cmp, Less}
+use Rattle.std.proofs.Common.{◌≡◌, ℕ, zero, suc, ◌<◌, List, [], ◌∷◌, ◌++◌, length, drop, Bool, true, false, cond, ◌&&◌, ◌||◌, ◌⊎◌, inl, inr, IsTrue, Option, Some, None, is_some, refl, sym, ap, ap₂, subst, ◌∙◌, arith, nat_lt, ltb-false}
 use Rattle.std.specs.List.{AllByRecursion}
-use Rattle.std.specs.Prelude.{IsSome, IfSome, MatchOption}
-use Rattle.std.specs.Ordering.{is_le, ordering_then}
-use Rattle.std.specs.Cmp.{tied_itself}
+use Rattle.std.specs.Prelude.{IsSome, MatchOption}
+use Rattle.std.specs.Ordering.{is_le}
 use Rattle.std.specs.FinMap.{find, put}
 use Rattle.std.proofs.lemmas.Bool.{both_ways, and_from, or_right, false_from_ne_true}
 use Rattle.std.proofs.lemmas.List.{append_assoc, append-nil}
-use Rattle.store_model.specs.declared.version.Version.{Version}
 use Rattle.store_model.specs.Parameters.{Parameters}
-use Rattle.store_model.specs.Paths.{Path, Name, is_root, is_path, path_cmp, same_path, is_inside, is_at_or_inside, parent, key, key_cmp}
+use Rattle.store_model.specs.Paths.{Path, Name, is_root, is_path, name_bytes, fits_attribute, attribute_place, path_cmp, same_path, is_inside, is_at_or_inside, parent, key, key_cmp}
 use Rattle.store_model.specs.Pairs.{Pair, pairs, directory_value}
-use Rattle.store_model.specs.Trees.{Tree, Node, IsTree, IsEntry, exists, is_directory, is_directory_node, node_at, children, without, without_subtree}
+use Rattle.store_model.specs.Trees.{Tree, Node, Entry, IsTree, IsEntry, exists, is_directory, is_directory_node, node_of, children, without, without_subtree}
 use Rattle.store_model.specs.Trees.Node.{Directory, File}
 use Rattle.store_model.specs.Commands.Command.{Make, Remove, Prune}
 use Rattle.store_model.specs.Steps.{refusal_of, next_tree, has_child, conditions}
 use Rattle.store_model.proofs.ListsLemmas.{all_with}
-use Rattle.store_model.proofs.PathsLemmas.{order_of_keys}
-use Rattle.store_model.proofs.TreesLemmasPaths.{path_cmp_total, inside_from_parent, same_from_test, same_path-from_equal, at_or_inside-append, at_or_inside-split, parent-push, not_root-push}
-use Rattle.store_model.proofs.TreesLemmas.{find_from_all, node_at-find, entry_at, all_exist}
+use Rattle.store_model.proofs.PathsLemmas.{place_of_path}
+use Rattle.store_model.proofs.TreesLemmasPaths.{inside_from_parent, same_from_test, same_path-from_equal, at_or_inside-append, at_or_inside-split, parent-push, not_root-push}
+use Rattle.store_model.proofs.TreesLemmas.{find_from_all, find-root, exists-find, entry_at, all_exist}
 use Rattle.store_model.proofs.TreesLemmasMoves.{nothing_below}
 use Rattle.store_model.proofs.TreesLemmasSteps.{all_fail, IsTree-next_tree}
 use Rattle.ordered_pairs.specs.PairsState.{PairsState}
 use Rattle.tree_pairs.specs.TreeCalls.{HoldsTree}
 use Rattle.tree_pairs.proofs.TreeBlocks.{block_value, tree_blocks}
+use Rattle.tree_pairs.proofs.PlaceLemmas.{path_blocks}
 use Rattle.tree_pairs.proofs.BlocksLemmas.{pairs_have_blocks, pairs_from_blocks, blocks_alike}
 use Rattle.tree_pairs.proofs.ChangesLemmas.{put_block, blocks_at, pairs-with_node, tree_blocks-without, tree_blocks-without_subtree}
 use Rattle.tree_pairs.proofs.KindLemmas.{first_of_some}
 use Rattle.path_keys.proofs.InsideBytes.{inside_split}
-use Rattle.dir_tree.specs.declared.subtree.Block.{Block}
-use Rattle.dir_tree.specs.SubtreeCalls.{HasPathBlocks, IsFrom, LacksFrom, IsFirstFrom, IsWithin, blocks_outside}
-use Rattle.dir_tree.proofs.OrderLemmas.{key_itself, at_itself, top_is_lowest}
+use Rattle.dir_tree.specs.ListCalls.{IsBehindOwn}
+use Rattle.dir_tree.specs.SubtreeCalls.{HasPathBlocks, LacksFrom, IsFirstFrom, blocks_outside}
+use Rattle.dir_tree.proofs.OrderLemmas.{at_itself, le_from_less, less_le, below_and_le}
+use Rattle.dir_tree.proofs.NextLemmas.{IsBlockAt, block_within, lacks_block}
+use Rattle.dir_tree.proofs.OwnerLemmas.{IsAttributeAt, IsOwned, no_block, owner_of, owner_inside, owner_stands}
 
 -- ---- the blocks of a tree
 
--- nothing is found at the root
-pub root_not_found : (t : Tree) → IsTree t → find path_cmp [] t ≡ None
-root_not_found t h = by_found (find path_cmp [] t) refl
-  where
-    by_found : (o : Option Node) → find path_cmp [] t ≡ o → o ≡ None
-    by_found None e = refl
-    by_found (Some n) e = let below : is_root [] ≡ false = (find_from_all (IsEntry t) [] n t h.entries e).below_root in cc
+-- the root is a path
+root_is_path : IsTrue (is_path [])
+unfolding name_bytes
+root_is_path = refl
 
 pub tree_has_blocks : (t : Tree) (p : Parameters) → IsTree t → HasPathBlocks (tree_blocks t p) (pairs t p)
-tree_has_blocks t p h = record { has = pairs_have_blocks t p h; bare = λ j. ap (λ o. block_value o p.version j) (root_not_found t h) }
+tree_has_blocks t p h = record { has = pairs_have_blocks t p h; bare = λ j. path_blocks t p.version [] j root_is_path ∙ ap (λ o. block_value (node_of o) p.version j) (find-root t h) }
 
 pub held_blocks : (state : PairsState) (t : Tree) (p : Parameters) → HoldsTree state t p → HasPathBlocks (tree_blocks t p) state.pairs
 held_blocks state t p h = subst (HasPathBlocks (tree_blocks t p)) (sym h.pairs_are) (tree_has_blocks t p h.tree)
-
--- a later key of a path is not below its first
-pub low_behind : (x : Path) (k : List ℕ) (i : ℕ) → IsTrue (is_path x) → i < 4294967296 → k ≡ key x i → is_le (key_cmp (key x 0) k) ≡ true
-low_behind x k i path l e = ap (λ q. is_le (key_cmp (key x 0) q)) e ∙ top_is_lowest x x i path path l (at_itself x)
 
 -- ---- what stands below a path
 
@@ -94,9 +88,9 @@ pub childless : (t : Tree) (top : Path) → AllByRecursion (λ e. same_path (par
 childless t top h = ap (λ n. nat_lt 0 n) (no_children t top h)
 
 -- what is found at a path stands there
-pub found_stands : (t : Tree) (x : Path) (n : Node) → find path_cmp x t ≡ Some n → exists t x ≡ true
-found_stands t [] n e = refl
-found_stands t (m ∷ x) n e = ap is_some e
+pub found_stands : (t : Tree) (x : Path) (entry : Entry) → find path_cmp x t ≡ Some entry → exists t x ≡ true
+found_stands t [] entry e = refl
+found_stands t (m ∷ x) entry e = ap (λ o. is_some (node_of o)) e
 
 -- something that stands below a path stands at a child or below it
 pub child_stands : (t : Tree) (x top : Path) → IsTree t → exists t x ≡ true → is_inside x top ≡ true → (is_directory t top ≡ true) × (has_child t top ≡ true)
@@ -104,135 +98,140 @@ child_stands t x top h is inside =
     let below = below_child x top inside in
     let child : Path = top ++ below.0 ∷ [] in
     let entry = entry_at t child h (not_root-push top below.0) (top_stands t x child h is below.1) in
-    let found : find path_cmp child t ≡ Some entry.0 = sym (node_at-find t child (not_root-push top below.0)) ∙ entry.1 in
     let up : parent child ≡ top = parent-push top below.0 in
-    (ap (is_directory t) (sym up) ∙ (entry.2).parent_directory, by_test child entry.0 found up (has_child t top) refl)
+    (ap (is_directory t) (sym up) ∙ (entry.2).parent_directory, by_test child entry.0 entry.3 up (has_child t top) refl)
   where
-    by_test : (child : Path) (n : Node) → find path_cmp child t ≡ Some n → parent child ≡ top → (b : Bool) → has_child t top ≡ b → has_child t top ≡ true
+    by_test : (child : Path) (n : Entry) → find path_cmp child t ≡ Some n → parent child ≡ top → (b : Bool) → has_child t top ≡ b → has_child t top ≡ true
     by_test child n found up true e = e
     by_test child n found up false e =
         let few = ltb-false 0 (length (children t top)) e in
         absurd (both_ways _ (find_from_all (λ e. same_path (parent e.0) top ≡ false) child n t (all_not_children t top (omega arith)) found) (same_path-from_equal (parent child) top up))
 
 -- nothing stands below a path that is no directory with a child
-nothing_inside : (t : Tree) (x top : Path) → IsTree t → (is_directory t top && has_child t top) ≡ false → is_inside x top ≡ true → find path_cmp x t ≡ None
-nothing_inside t x top h empty inside = by_found (find path_cmp x t) refl
-  where
-    by_found : (o : Option Node) → find path_cmp x t ≡ o → o ≡ None
-    by_found None e = refl
-    by_found (Some n) e = let child = child_stands t x top h (found_stands t x n e) inside in absurd (both_ways _ empty (and_from _ _ child.0 child.1))
+nothing_inside : (t : Tree) (top x : Path) → IsTree t → (is_directory t top && has_child t top) ≡ false → is_inside x top ≡ true → exists t x ≡ false
+nothing_inside t top x h empty inside = false_from_ne_true _ (λ is. let child = child_stands t x top h is inside in both_ways _ empty (and_from _ _ child.0 child.1))
 
 -- ---- what is left
 
 -- without a path alone, where nothing stands below it
-removed_blocks : (t : Tree) (p : Parameters) (top y : Path) (j : ℕ) → IsTree t → (is_directory t top && has_child t top) ≡ false → blocks_outside top (tree_blocks t p) y j ≡ tree_blocks (without t top) p y j
-removed_blocks t p top y j h empty = by_tests (same_path y top) (is_inside y top) refl refl ∙ tree_blocks-without t p top y j
-  where
-    by_tests : (a b : Bool) → same_path y top ≡ a → is_inside y top ≡ b → cond (a || b) None (tree_blocks t p y j) ≡ cond a None (tree_blocks t p y j)
-    by_tests true b e f = refl
-    by_tests false true e f = sym (ap (λ o. block_value o p.version j) (nothing_inside t y top h empty f))
-    by_tests false false e f = refl
-
 pub removed : (t : Tree) (p : Parameters) (top : Path) (s : List Pair) → IsTree t → IsTrue (is_path top) → refusal_of t (Remove top) ≡ None → HasPathBlocks (blocks_outside top (tree_blocks t p)) s → s ≡ pairs (next_tree t (Remove top)) p
 unfolding conditions next_tree
 removed t p top s h path none has =
     let fails = all_fail (conditions t (Remove top)) none in
     pairs_from_blocks (without t top) p s (IsTree-next_tree t (Remove top) h path none)
-    (blocks_alike (blocks_outside top (tree_blocks t p)) (tree_blocks (without t top) p) s (λ y j. removed_blocks t p top y j h fails.1.1.0) has.has)
+    (blocks_alike (blocks_outside top (tree_blocks t p)) (tree_blocks (without t top) p) s (λ y j. tree_blocks-without t p top y j path (λ z inside. nothing_inside t top z h fails.1.1.0 inside)) has.has)
 
 -- without a subtree
 pub pruned : (t : Tree) (p : Parameters) (top : Path) (s : List Pair) → IsTree t → IsTrue (is_path top) → refusal_of t (Prune top) ≡ None → HasPathBlocks (blocks_outside top (tree_blocks t p)) s → s ≡ pairs (next_tree t (Prune top)) p
 unfolding next_tree
 pruned t p top s h path none has =
     pairs_from_blocks (without_subtree t top) p s (IsTree-next_tree t (Prune top) h path none)
-    (blocks_alike (blocks_outside top (tree_blocks t p)) (tree_blocks (without_subtree t top) p) s (tree_blocks-without_subtree t p top) has.has)
+    (blocks_alike (blocks_outside top (tree_blocks t p)) (tree_blocks (without_subtree t top) p) s (λ y j. tree_blocks-without_subtree t p top y j path) has.has)
 
 -- ---- a new directory
 
-none_stands : (o : Option Node) → is_some o ≡ false → o ≡ None
+none_stands : (o : Option Entry) → is_some o ≡ false → o ≡ None
 none_stands None h = refl
-none_stands (Some n) h = cc
+none_stands (Some entry) h = cc
 
-new_blocks : (o : Option Node) (version : Version) (j : ℕ) → o ≡ None → (j ≡ 0 → ⊥) → block_value (Some Directory) version j ≡ block_value o version j
-new_blocks o version zero e apart = absurd (apart refl)
-new_blocks o version (suc j) e apart = sym (ap (λ z. block_value z version (suc j)) e)
+new_blocks : (t : Tree) (p : Parameters) (x : Path) (j : ℕ) → IsTrue (is_path x) → find path_cmp x t ≡ None → (j ≡ 0 → ⊥) → block_value (Some Directory) p.version j ≡ tree_blocks t p x j
+new_blocks t p x zero path absent apart = absurd (apart refl)
+new_blocks t p x (suc j) path absent apart = sym (path_blocks t p.version x (suc j) path ∙ ap (λ o. block_value (node_of o) p.version (suc j)) absent)
 
 pub made : (t : Tree) (p : Parameters) (x : Path) (s : List Pair) → IsTree t → IsTrue (is_path x) → refusal_of t (Make x) ≡ None → s ≡ pairs t p → put key_cmp (key x 0) directory_value s ≡ pairs (next_tree t (Make x)) p
 unfolding conditions next_tree
 made t p x s h path none is =
     let fails = all_fail (conditions t (Make x)) none in
-    let absent : find path_cmp x t ≡ None = sym (node_at-find t x fails.0) ∙ none_stands (node_at t x) fails.1.1.0 in
+    let absent : find path_cmp x t ≡ None = none_stands (find path_cmp x t) (sym (exists-find t x fails.0) ∙ fails.1.1.0) in
     ap (put key_cmp (key x 0) directory_value) is
     ∙ pairs-with_node t p x Directory (put key_cmp (key x 0) directory_value (pairs t p)) (IsTree-next_tree t (Make x) h path none)
-    (put_block x (λ j. tree_blocks t p x j) (λ j. block_value (Some Directory) p.version j) (tree_blocks t p) 0 directory_value (pairs t p) path (omega arith) refl
-    (λ j apart. new_blocks (find path_cmp x t) p.version j absent apart) (blocks_at t p x h))
+    (put_block x (λ j. tree_blocks t p x j) (λ j. block_value (Some Directory) p.version j) (tree_blocks t p) 0 directory_value (pairs t p) (place_of_path x path) (omega arith) refl
+    (λ j apart. new_blocks t p x j path absent apart) (blocks_at t p x h))
 
--- ---- what a search behind a directory's own pair finds
+-- ---- what a search behind a directory's own keys finds
 
--- a directory has one pair
-no_more_blocks : (t : Tree) (p : Parameters) (x : Path) (j : ℕ) → IsTree t → is_directory t x ≡ true → tree_blocks t p x (suc j) ≡ None
-no_more_blocks t p [] j h directory = ap (λ o. block_value o p.version (suc j)) (root_not_found t h)
-no_more_blocks t p (n ∷ x) j h directory = of_directory (find path_cmp (n ∷ x) t) directory
+-- a directory has one pair of its own
+no_more_blocks : (t : Tree) (p : Parameters) (x : Path) (j : ℕ) → IsTree t → IsTrue (is_path x) → is_directory t x ≡ true → tree_blocks t p x (suc j) ≡ None
+no_more_blocks t p [] j h path directory = (tree_has_blocks t p h).bare (suc j)
+no_more_blocks t p (n ∷ x) j h path directory = path_blocks t p.version (n ∷ x) (suc j) path ∙ of_directory (node_of (find path_cmp (n ∷ x) t)) directory
   where
     of_directory : (o : Option Node) → is_directory_node o ≡ true → block_value o p.version (suc j) ≡ None
     of_directory None e = refl
     of_directory (Some Directory) e = refl
     of_directory (Some (File bytes)) e = cc
 
-pub no_block : (o : Option (List ℕ)) → IsSome o → o ≡ None → ⊥
-no_block None h e = cc
-no_block (Some v) h e = cc
-
-pub strictly_below : (t : Tree) (p : Parameters) (x y : Path) (i : ℕ) → IsTree t → is_directory t x ≡ true → IsTrue (is_path x) → i < 4294967296 → is_at_or_inside y x ≡ true → IsFrom (key x 1) y i → IsSome (tree_blocks t p y i) → is_inside y x ≡ true
-strictly_below t p x y i h directory path l inside behind there = by_tests (same_path y x) (is_inside y x) refl refl inside
-  where
-    not_itself : (j : ℕ) → i ≡ j → same_path y x ≡ true → ⊥
-    not_itself zero e same =
-        both_ways _ (ap is_le (order_of_keys x x 1 0 path path (omega arith) (omega arith) ∙ ap (λ o. ordering_then o (nat_cmp 1 0)) (tied_itself path_cmp_total x)))
-        (ap₂ (λ z k. is_le (key_cmp (key x 1) (key z k))) (sym (same_from_test y x same)) (sym e) ∙ behind)
-    not_itself (suc j) e same = no_block (tree_blocks t p y i) there (ap₂ (tree_blocks t p) (same_from_test y x same) e ∙ no_more_blocks t p x j h directory)
-
-    by_tests : (a b : Bool) → same_path y x ≡ a → is_inside y x ≡ b → (a || b) ≡ true → is_inside y x ≡ true
-    by_tests true b e f g = absurd (not_itself i refl e)
-    by_tests false true e f g = f
-    by_tests false false e f g = cc
-
--- where a block is, something stands
-pub block_stands : (t : Tree) (p : Parameters) (y : Path) (i : ℕ) → IsSome (tree_blocks t p y i) → exists t y ≡ true
-block_stands t p y i there = by_found (find path_cmp y t) refl
-  where
-    by_found : (o : Option Node) → find path_cmp y t ≡ o → exists t y ≡ true
-    by_found None e = absurd (no_block (tree_blocks t p y i) there (ap (λ o. block_value o p.version i) e))
-    by_found (Some n) e = found_stands t y n e
-
 -- what stands at a path other than the root has a first block
-pub first_block_there : (t : Tree) (p : Parameters) (y : Path) → is_root y ≡ false → exists t y ≡ true → tree_blocks t p y 0 ≡ None → ⊥
-first_block_there t p y below is = first_of_some (find path_cmp y t) p.version (ap is_some (sym (node_at-find t y below)) ∙ is)
-
--- a child stands behind its parent's keys
-pub child_behind : (x c : Path) (i j : ℕ) → IsTrue (is_path x) → IsTrue (is_path c) → i < 4294967296 → j < 4294967296 → is_inside c x ≡ true → key_cmp (key x i) (key c j) ≡ Less
-child_behind x c i j path valid l m inside = order_of_keys x c i j path valid l m ∙ ap (λ o. ordering_then o (nat_cmp i j)) (less_inside (drop (length x) c) (at_or_inside-split c x (or_right (same_path c x) (is_inside c x) inside)))
-  where
-    longer : (z : Path) (n : Name) (rest : Path) → path_cmp z (z ++ n ∷ rest) ≡ Less
-    longer [] n rest = refl
-    longer (m ∷ z) n rest = ap (λ o. ordering_then o (path_cmp z (z ++ n ∷ rest))) (key_itself m) ∙ longer z n rest
-
-    less_inside : (rest : Path) → c ≡ x ++ rest → path_cmp x c ≡ Less
-    less_inside [] e = let more = (inside_split c x inside).1 in absurd (omega (arith, ap length (e ∙ append-nil x)))
-    less_inside (n ∷ rest) e = ap (path_cmp x) e ∙ longer x n rest
+pub first_block_there : (t : Tree) (p : Parameters) (y : Path) → IsTree t → is_root y ≡ false → exists t y ≡ true → tree_blocks t p y 0 ≡ None → ⊥
+first_block_there t p y h below is none =
+    let entry = entry_at t y h below is in
+    first_of_some (node_of (find path_cmp y t)) p.version (ap (λ o. is_some (node_of o)) entry.3) (sym (path_blocks t p.version y 0 (entry.2).path) ∙ none)
 
 pub child_inside : (c x : Path) → is_root c ≡ false → parent c ≡ x → is_inside c x ≡ true
 child_inside c x below up = inside_from_parent c x below (ap (λ z. is_at_or_inside z x) up ∙ at_itself x)
 
-pub child_answer : (t : Tree) (p : Parameters) (x : Path) (k : List ℕ) (found : Option Block) → IsTree t → IsTrue (is_path x) → is_directory t x ≡ true → k ≡ key x 1 → IfSome found (λ at. IsWithin x at.path at.number)
-    → MatchOption found (LacksFrom k x (tree_blocks t p)) (λ at. IsFirstFrom k (tree_blocks t p) at.path at.number) → is_some found ≡ has_child t x
-child_answer t p x k None h path directory key_is within lacks = sym (childless t x (all_with (IsEntry t) (λ e. exists t e.0 ≡ true) _ no_child t h.entries (all_exist t)))
+-- the owner of a block that a directory's stretch has behind the directory's own keys lies strictly below it
+owner_below : (t : Tree) (p : Parameters) (x y : Path) (i : ℕ) (from : List ℕ) → IsTree t → IsTrue (is_path x) → is_directory t x ≡ true → IsBehindOwn x from → i < 4294967296 → is_at_or_inside y x ≡ true → is_le (key_cmp from (key y i)) ≡ true → IsSome (tree_blocks t p y i) → (own : IsOwned t y i)
+    → is_inside own.owner x ≡ true
+owner_below t p x y i from h path directory behind_own l inside behind there own = by_tests (same_path own.owner x) (is_inside own.owner x) refl refl (sym (owner_inside t y i own x path) ∙ inside)
   where
-    no_child : (e : Path × Node) → IsEntry t e → exists t e.0 ≡ true → same_path (parent e.0) x ≡ false
+    not_block : y ≡ x → (j : ℕ) → i ≡ j → ⊥
+    not_block is zero e = below_and_le (key x 0) from (behind_own.blocks 0 (omega arith)) (ap₂ (λ z k. is_le (key_cmp from (key z k))) (sym is) (sym e) ∙ behind)
+    not_block is (suc j) e = no_block (tree_blocks t p y i) there (ap₂ (tree_blocks t p) is e ∙ no_more_blocks t p x j h path directory)
+
+    not_itself : own.owner ≡ x → (y ≡ own.owner) ⊎ IsAttributeAt t own.owner y i → ⊥
+    not_itself same (inl e) = not_block (e ∙ same) i refl
+    not_itself same (inr at) =
+        let is : y ≡ attribute_place x at.name = at.place_is ∙ ap (λ z. attribute_place z at.name) same in
+        below_and_le (key y i) from (ap (λ z. key_cmp (key z i) from) is ∙ behind_own.attributes at.name i at.named (ap (λ z. fits_attribute z at.name) (sym same) ∙ at.fits) l) behind
+
+    by_tests : (a b : Bool) → same_path own.owner x ≡ a → is_inside own.owner x ≡ b → (a || b) ≡ true → is_inside own.owner x ≡ true
+    by_tests true b e f g = absurd (not_itself (same_from_test own.owner x e) own.of)
+    by_tests false true e f g = f
+    by_tests false false e f g = cc
+
+-- the key is that of a block at a child of a path, or below that
+pub record IsOfChild (t : Tree) (p : Parameters) (x : Path) (k : List ℕ) : Type 0 where
+  pub child : Path
+  pub below_root : is_root child ≡ false
+  pub parent_is : parent child ≡ x
+  pub stands : exists t child ≡ true
+  pub at : IsBlockAt (tree_blocks t p) k
+  pub within : is_at_or_inside at.place child ≡ true
+
+-- such is what is found behind a directory's own keys
+pub of_child : (t : Tree) (p : Parameters) (x : Path) (from k : List ℕ) (s : List Pair) → IsTree t → HasPathBlocks (tree_blocks t p) s → IsTrue (is_path x) → is_directory t x ≡ true → IsBehindOwn x from → IsFirstFrom from x s k → IsOfChild t p x k
+of_child t p x from k s h has path directory behind_own first =
+    let within = block_within x (tree_blocks t p) s k has path (le_from_less (key x 0) k (less_le (key x 0) from k (behind_own.blocks 0 (omega arith)) first.behind)) first.before first.there in
+    let at = within.at in
+    let own = owner_of t p at.place at.block h at.there in
+    let inside = owner_below t p x at.place at.block from h path directory behind_own at.in_range within.within (ap (λ q. is_le (key_cmp from q)) (sym at.key_is) ∙ first.behind) at.there own in
+    let below = below_child own.owner x inside in
+    let stands = top_stands t own.owner (x ++ below.0 ∷ []) h (owner_stands t at.place at.block own) below.1 in
+    let valid = ((entry_at t (x ++ below.0 ∷ []) h (not_root-push x below.0) stands).2).path in
+    record {
+      child = x ++ below.0 ∷ [];
+      below_root = not_root-push x below.0;
+      parent_is = parent-push x below.0;
+      stands = stands;
+      at = at;
+      within = owner_inside t at.place at.block own (x ++ below.0 ∷ []) valid ∙ below.1;
+    }
+
+-- the key stands behind a path's own keys, and before all of paths below it
+pub record IsBelow (x : Path) (from : List ℕ) : Type 0 where
+  pub own : IsBehindOwn x from
+  pub below : (q : Path) (block : ℕ) → IsTrue (is_path q) → IsTrue (is_inside q x) → block < 4294967296 → is_le (key_cmp from (key q block)) ≡ true
+
+pub child_answer : (t : Tree) (p : Parameters) (x : Path) (from : List ℕ) (s : List Pair) (found : Option (List ℕ)) → IsTree t → HasPathBlocks (tree_blocks t p) s → IsTrue (is_path x) → is_directory t x ≡ true → IsBelow x from
+    → MatchOption found (LacksFrom from x s) (IsFirstFrom from x s) → is_some found ≡ has_child t x
+child_answer t p x from s None h has path directory at lacks = sym (childless t x (all_with (IsEntry t) (λ e. exists t e.0 ≡ true) _ no_child t h.entries (all_exist t)))
+  where
+    no_child : (e : Path × Entry) → IsEntry t e → exists t e.0 ≡ true → same_path (parent e.0) x ≡ false
     no_child e of is =
         false_from_ne_true _ (λ same.
         let inside = child_inside e.0 x of.below_root (same_from_test (parent e.0) x same) in
-        first_block_there t p e.0 of.below_root is
-        (lacks e.0 0 of.path (omega arith) (or_right (same_path e.0 x) (is_inside e.0 x) inside) (ap (λ q. is_le (key_cmp q (key e.0 0))) key_is ∙ ap is_le (child_behind x e.0 1 0 path of.path (omega arith) (omega arith) inside))))
-child_answer t p x k (Some at) h path directory key_is within first =
-    sym (child_stands t at.path x h (block_stands t p at.path at.number first.there) (strictly_below t p x at.path at.number h directory path within.in_range within.within (subst (λ (q : List ℕ). IsFrom q at.path at.number) key_is first.behind) first.there)).1
+        first_block_there t p e.0 h of.below_root is
+        (lacks_block from x (tree_blocks t p) s e.0 0 has.has lacks (place_of_path e.0 of.path) (omega arith) (or_right (same_path e.0 x) (is_inside e.0 x) inside) (at.below e.0 0 of.path inside (omega arith))))
+child_answer t p x from s (Some k) h has path directory at first =
+    let of = of_child t p x from k s h has path directory at.own first in
+    sym (child_stands t of.child x h of.stands (child_inside of.child x of.below_root of.parent_is)).1

@@ -1,3 +1,4 @@
+pub mod AttributeCalls
 pub mod ListCalls
 pub mod RefusalCalls
 pub mod SubtreeCalls

@@ -1,53 +1,45 @@
 -- What the inner calls on the pairs of a subtree do.
-use Rattle.std.specs.Prelude.{◌≡◌, ℕ, ◌<◌, ◌^◌, true, false, cond, List, Option, None, IsTrue, IsSome, IfSome, MatchOption, Result, IfOk, OnOk}
+use Rattle.std.specs.Prelude.{◌≡◌, ◌-◌, ℕ, true, false, cond, List, slice_set, Option, None, IsTrue, IsSome, MatchOption, Result, IfOk, OnOk}
 use Rattle.std.specs.Ordering.{is_le}
+use Rattle.std.specs.FinMap.{find}
 use Rattle.std.specs.declared.cmp.Ordering.TheVariants.{Less}
-use Rattle.store_model.specs.Paths.{Path, root, is_root, is_path, is_at_or_inside, key, key_cmp}
+use Rattle.store_model.specs.Paths.{Path, root, is_root, is_path, is_at_or_inside, field_len, key, key_cmp}
 use Rattle.store_model.specs.Pairs.{Pair}
 use Rattle.store_base.specs.declared.store_fault.Fault.{Fault}
 use Rattle.store_base.specs.Faults.{disk_faults_after}
 use Rattle.ordered_pairs.specs.PairsState.{PairsState, IsObservable}
 use Rattle.tree_pairs.specs.Blocks.{BlockMap, HasBlocks}
 use Rattle.tree_pairs.specs.TreeCalls.{KeepsPairs}
-use Rattle.dir_tree.specs.declared.subtree.Block.{Block}
 
 -- the list has these blocks, and the root has none
 pub record HasPathBlocks (blocks : BlockMap) (s : List Pair) : Type 0 where
   pub has : HasBlocks blocks s
   pub bare : (block : ℕ) → blocks root block ≡ None
 
--- the key of the path's block is not below the given one
-abbrev pub IsFrom : List ℕ → Path → ℕ → Type 0
-IsFrom from path block = is_le (key_cmp from (key path block)) ≡ true
+-- the key past all of a subtree: the path's first key with 1 in the stead of the last name's 0
+abbrev pub end_of : Path → List ℕ
+end_of top = slice_set (key top 0) (field_len top - 1) 1
 
--- there is no block of the subtree from a key on
-abbrev pub LacksFrom : List ℕ → Path → BlockMap → Type 0
-LacksFrom from top blocks = (path : Path) (block : ℕ) → IsTrue (is_path path) → block < 2 ^ 32 → is_at_or_inside path top ≡ true → IsFrom from path block → blocks path block ≡ None
+-- the key stands before the end of the subtree at the path; the root's subtree has no end
+abbrev pub IsBeforeEnd : Path → List ℕ → Type 0
+IsBeforeEnd top k = is_root top ≡ false → key_cmp k (end_of top) ≡ Less
 
--- the path has the block, and from the key on none stands before it
-pub record IsFirstFrom (from : List ℕ) (blocks : BlockMap) (path : Path) (block : ℕ) : Type 0 where
-  pub there : IsSome (blocks path block)
-  pub behind : IsFrom from path block
-  pub first : (other : Path) (number : ℕ) → IsTrue (is_path other) → number < 2 ^ 32 → IsFrom from other number → key_cmp (key other number) (key path block) ≡ Less → blocks other number ≡ None
+-- there is no key of the subtree from a key on
+abbrev pub LacksFrom : List ℕ → Path → List Pair → Type 0
+LacksFrom from top s = (k : List ℕ) → is_le (key_cmp from k) ≡ true → IsBeforeEnd top k → find key_cmp k s ≡ None
 
--- a path at the top of a subtree or below it, and the number of a block
-pub record IsWithin (top path : Path) (block : ℕ) : Type 0 where
-  pub valid : IsTrue (is_path path)
-  pub below_root : is_root path ≡ false
-  pub within : is_at_or_inside path top ≡ true
-  pub in_range : block < 2 ^ 32
+-- the list has the key, which is from another on and before the subtree's end, and none between
+pub record IsFirstFrom (from : List ℕ) (top : Path) (s : List Pair) (k : List ℕ) : Type 0 where
+  pub there : IsSome (find key_cmp k s)
+  pub behind : is_le (key_cmp from k) ≡ true
+  pub before : IsBeforeEnd top k
+  pub first : (other : List ℕ) → is_le (key_cmp from other) ≡ true → key_cmp other k ≡ Less → find key_cmp other s ≡ None
 
--- the key is that of no block of the subtree; the root has none
-abbrev pub IsOutside : Path → List ℕ → Type 0
-IsOutside top k = (path : Path) (block : ℕ) → IsTrue (is_path path) → is_root path ≡ false → block < 2 ^ 32 → is_at_or_inside path top ≡ true → k ≡ key path block → ⊥
-
--- a call that finds the first block from a key on, where that is one of the subtree
-pub record FindsBlock (from : List ℕ) (top : Path) (old new : PairsState) (result : Result (Option Block) Fault) : Type 0 where
+-- a call that finds the first key from one on, where it stands before the end of the subtree
+pub record FindsKey (from : List ℕ) (top : Path) (old new : PairsState) (result : Result (Option (List ℕ)) Fault) : Type 0 where
   pub faults : new.faults ≡ disk_faults_after old.faults result
   pub keeps : KeepsPairs old new
-  pub within : IfOk result (λ found. IfSome found (λ at. IsWithin top at.path at.number))
-  pub found : IsObservable old → (blocks : BlockMap) → HasPathBlocks blocks old.pairs → IsTrue (is_path top) → is_le (key_cmp (key top 0) from) ≡ true
-      → IfOk result (λ found. MatchOption found (LacksFrom from top blocks) (λ at. IsFirstFrom from blocks at.path at.number))
+  pub found : IsObservable old → IfOk result (λ found. MatchOption found (LacksFrom from top old.pairs) (IsFirstFrom from top old.pairs))
 
 -- the blocks without those of a subtree
 abbrev pub blocks_outside : Path → BlockMap → BlockMap

@@ -52,7 +52,7 @@ pub fn refusal_to_make<P: OrderedPairs>(
     }
 }
 
-/// Removes a file or an empty directory.
+/// Removes a file or an empty directory, with its attributes.
 ///
 /// It is refused, in this order: `Root` for the root, `Missing` where nothing stands there, `NotEmpty` where a
 /// directory with a child does. A refusal changes nothing. A fault of the pairs is handed on; nothing is promised of
@@ -90,5 +90,5 @@ fn has_child<P: OrderedPairs>(pairs: &mut P, path: &Path) -> Result<bool, Fault>
     ensures call { TellsChild path.now (P.state pairs.old) (P.state pairs.new) result }
     ensures follows { P.follows pairs.old pairs.new }
 {
-    Ok(next_within(pairs, &path.key(1), path)?.is_some())
+    Ok(next_within(pairs, &path.below(), path)?.is_some())
 }

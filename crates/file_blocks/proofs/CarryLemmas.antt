@@ -14,6 +14,7 @@ use Rattle.store_model.specs.Trees.Node.{Directory, File}
 use Rattle.store_model.specs.Commands.{Command, Reply}
 use Rattle.store_model.specs.Commands.Command.{Write, Cut, Read}
 use Rattle.store_model.specs.Steps.{Condition, first_refusal, conditions, refusal_of, next_tree, read_limit}
+use Rattle.store_model.proofs.PathsLemmas.{place_of_path}
 use Rattle.store_model.proofs.TreesLemmas.{node_at-find, entry_at}
 use Rattle.store_model.proofs.TreesLemmasSteps.{IsTree-next_tree, all_fail}
 use Rattle.tree_pairs.specs.declared.kind.Kind.{Kind}
@@ -23,6 +24,7 @@ use Rattle.tree_pairs.specs.Kinds.{kind_of_node, file_first, first_value}
 use Rattle.tree_pairs.specs.TreeCalls.{HoldsTree, HasParent, TellsKind, TellsFirst, CarriesOut}
 use Rattle.tree_pairs.proofs.CallLemmas.{step_refused}
 use Rattle.tree_pairs.proofs.TreeBlocks.{file_block_value, block_value, tree_blocks}
+use Rattle.tree_pairs.proofs.PlaceLemmas.{path_blocks}
 use Rattle.tree_pairs.proofs.BlocksLemmas.{blocks_alike}
 use Rattle.tree_pairs.proofs.ChangesLemmas.{put_block, blocks_at, pairs-with_node}
 use Rattle.file_blocks.specs.FileCalls.{file_blocks, HasFile, IsFirst, StandsAs, PutsFileBytes, FillsBlocks}
@@ -85,7 +87,7 @@ pairs_of_file t p x inline first bytes k v s new h path form has key_is value_is
     let form_is : (j : ℕ) → block_value (Some (File bytes)) p.version j ≡ file_block_value inline bytes j = λ j. ap (λ b. file_block_value b bytes j) form in
     changed ∙ ap₂ (λ q w. put key_cmp q w s) key_is value_is
     ∙ pairs-with_node t p x (File bytes) (put key_cmp (key x 0) (file_first inline bytes) s) h
-    (put_block x (file_blocks first (cond inline [] bytes)) (λ i. block_value (Some (File bytes)) p.version i) (tree_blocks t p) 0 (file_first inline bytes) s path (omega arith)
+    (put_block x (file_blocks first (cond inline [] bytes)) (λ i. block_value (Some (File bytes)) p.version i) (tree_blocks t p) 0 (file_first inline bytes) s (place_of_path x path) (omega arith)
     (form_is 0 ∙ file_blocks_in inline bytes 0) (λ j ne. form_is j ∙ file_blocks_are inline first bytes j ne) has)
 
 -- ---- `write`
@@ -136,9 +138,9 @@ pub record IsWriting (t : Tree) (p : Parameters) (x : Path) (at len : ℕ) (byte
   pub long : length (overwrite (contents t x) at bytes) ≡ len
   pub stands : StandsAs (is_inline p.version (length (contents t x))) x first (contents t x) (tree_blocks t p) found.pairs
 
-pub writing : (x : Path) (at len : ℕ) (bytes : List ℕ) (first : Option (List ℕ)) (kind : Option Kind) (old found : PairsState) → HasParent old x → TellsFirst x old found (Ok first) → TellsKind x old found (Ok kind)
+pub writing : (x : Path) (at len : ℕ) (bytes : List ℕ) (first : Option (List ℕ)) (kind : Option Kind) (old found : PairsState) → IsTrue (is_path x) → HasParent old x → TellsFirst x old found (Ok first) → TellsKind x old found (Ok kind)
     → (first_refusal (write_conditions kind at (length bytes)) ≡ None) × (len ≡ max (size_of kind) (at + length bytes)) → IsObservable old → (t : Tree) (p : Parameters) → HoldsTree old t p → IsWriting t p x at len bytes first found
-writing x at len bytes first kind old found parent first_told told fits seen t p holds =
+writing x at len bytes first kind old found path parent first_told told fits seen t p holds =
     let kind_is = told.told seen t p holds in
     let free = refusal-write t x at bytes (parent seen t p holds) ∙ ap (λ k. first_refusal (write_conditions k at (length bytes))) (sym kind_is) ∙ fits.0 in
     let allowed = write_allowed t x at bytes free in
@@ -148,7 +150,7 @@ writing x at len bytes first kind old found parent first_told told fits seen t p
       within = allowed.1;
       short = omega (arith, fits.1, size_is);
       long = length-overwrite (contents t x) at bytes allowed.1 ∙ ap (λ n. max n (at + length bytes)) (sym size_is) ∙ sym fits.1;
-      stands = stands_found x first old found t p first_told seen holds allowed.0;
+      stands = stands_found x first old found t p path first_told seen holds allowed.0;
     }
 
 -- a write that leaves a file in one pair
@@ -231,9 +233,9 @@ pub record IsCutting (t : Tree) (p : Parameters) (x : Path) (size len : ℕ) (fi
   pub long : length (take len (contents t x)) ≡ len
   pub stands : StandsAs (is_inline p.version (length (contents t x))) x first (contents t x) (tree_blocks t p) found.pairs
 
-pub cutting : (x : Path) (size len : ℕ) (first : Option (List ℕ)) (kind : Option Kind) (old found : PairsState) → TellsFirst x old found (Ok first) → TellsKind x old found (Ok kind)
+pub cutting : (x : Path) (size len : ℕ) (first : Option (List ℕ)) (kind : Option Kind) (old found : PairsState) → IsTrue (is_path x) → TellsFirst x old found (Ok first) → TellsKind x old found (Ok kind)
     → (first_refusal (cut_conditions kind len) ≡ None) × (size ≡ size_of kind) → IsObservable old → (t : Tree) (p : Parameters) → HoldsTree old t p → IsCutting t p x size len first found
-cutting x size len first kind old found first_told told fits seen t p holds =
+cutting x size len first kind old found path first_told told fits seen t p holds =
     let kind_is = told.told seen t p holds in
     let free = refusal-cut t x len ∙ ap (λ k. first_refusal (cut_conditions k len)) (sym kind_is) ∙ fits.0 in
     let allowed = cut_allowed t x len free in
@@ -242,7 +244,7 @@ cutting x size len first kind old found first_told told fits seen t p holds =
       within = allowed.1;
       size_is = fits.1 ∙ ap size_of kind_is ∙ size_of-node (node_at t x);
       long = let a = length-take len (contents t x) in let l = allowed.1 in omega arith;
-      stands = stands_found x first old found t p first_told seen holds allowed.0;
+      stands = stands_found x first old found t p path first_told seen holds allowed.0;
     }
 
 -- the pairs after it are those of the next tree
@@ -267,10 +269,10 @@ file_at (Some Directory) is other = cc
 file_at (Some (File bytes)) is other = refl
 
 -- a tree with the file that it has
-pairs_kept : (t : Tree) (p : Parameters) (x : Path) (bytes : List ℕ) → IsTree t → IsTree (with_node t x (File bytes)) → is_root x ≡ false → node_at t x ≡ Some (File bytes) → pairs t p ≡ pairs (with_node t x (File bytes)) p
-pairs_kept t p x bytes h g below is =
+pairs_kept : (t : Tree) (p : Parameters) (x : Path) (bytes : List ℕ) → IsTrue (is_path x) → IsTree t → IsTree (with_node t x (File bytes)) → is_root x ≡ false → node_at t x ≡ Some (File bytes) → pairs t p ≡ pairs (with_node t x (File bytes)) p
+pairs_kept t p x bytes path h g below is =
     pairs-with_node t p x (File bytes) (pairs t p) g
-    (blocks_alike _ _ (pairs t p) (λ y i. ap (λ o. cond (same_path y x) (block_value o p.version i) (tree_blocks t p y i)) (sym (node_at-find t x below) ∙ is)) (blocks_at t p x h))
+    (blocks_alike _ _ (pairs t p) (λ y i. ap (λ v. cond (same_path y x) v (tree_blocks t p y i)) (path_blocks t p.version x i path ∙ ap (λ o. block_value o p.version i) (sym (node_at-find t x below) ∙ is))) (blocks_at t p x h))
 
 -- a file that is cut to its length stays as it is
 pub pairs-uncut : (t : Tree) (p : Parameters) (x : Path) (len : ℕ) (s : List Pair) → IsTree t → len < 2 ^ 32 → refusal_of t (Cut x len) ≡ None → length (contents t x) ≡ len → s ≡ pairs t p → s ≡ pairs (next_tree t (Cut x len)) p
@@ -282,4 +284,4 @@ pairs-uncut t p x len s h l e long is =
     let path = ((entry_at t x h below (not-false _ fail.0)).2).path in
     let same : contents t x ≡ take len (contents t x) = sym (take_all len (contents t x) (omega arith)) in
     let file : node_at t x ≡ Some (File (take len (contents t x))) = file_at (node_at t x) (not-false _ fail.0) other ∙ ap (λ bytes. Some (File bytes)) same in
-    is ∙ pairs_kept t p x (take len (contents t x)) h (IsTree-next_tree t (Cut x len) h (path, l) e) below file
+    is ∙ pairs_kept t p x (take len (contents t x)) path h (IsTree-next_tree t (Cut x len) h (path, l) e) below file

@@ -8,6 +8,7 @@ use Rattle.std.proofs.lemmas.List.{length-take, take_all, take-take}
 use Rattle.store_model.specs.Lists.{run_at}
 use Rattle.store_model.specs.Paths.{Path, is_path, key, key_cmp}
 use Rattle.store_model.specs.Pairs.{Pair, file_block}
+use Rattle.store_model.proofs.PathsLemmas.{place_of_path}
 use Rattle.store_model.proofs.ListsLemmasCuts.{length-filter-le}
 use Rattle.store_base.specs.declared.store_fault.Fault.{Fault}
 use Rattle.store_base.specs.Faults.{disk_faults_after}
@@ -51,7 +52,7 @@ fronts_alike first y m n b hm lm hn ln (suc i) ne =
 drop_run : (x : Path) (first : Option (List ℕ)) (y : List ℕ) (others : BlockMap) (s : List Pair) (left b : ℕ) → IsTrue (is_path x) → left ≡ suc b → left < 4294967296
     → HasFile x first (take (file_block * left) y) others s → HasFile x first (take (file_block * b) y) others (filter (λ pair. not (eq_by_cmp key_cmp (key x left) pair.0)) s)
 drop_run x first y others s left b path e l has =
-    take_block x (file_blocks first (take (file_block * left) y)) (file_blocks first (take (file_block * b) y)) others left s path l
+    take_block x (file_blocks first (take (file_block * left) y)) (file_blocks first (take (file_block * b) y)) others left s (place_of_path x path) l
     (ap (file_blocks first (take (file_block * b) y)) e ∙ run_at-take_none y (file_block * b) b (omega arith))
     (λ j ne. fronts_alike first y (file_block * b) (file_block * left) b (omega arith) (omega arith) (omega arith) (omega arith) j (λ same. ne (same ∙ sym e)))
     has
@@ -84,7 +85,7 @@ cut_run x first y others s len block old value path e l rest some fits is value_
     let left : len - file_block * (len / file_block) ≡ len % file_block = omega arith in
     let cut : run_at file_block (take len y) (len / file_block) ≡ value = run_at-take y len (len / file_block) (omega arith) ∙ ap₂ take left (sym is) ∙ sym value_is in
     let long : 1 ≤ length (run_at file_block (take len y) (len / file_block)) = let a = length-take (len % file_block) old in omega (arith, ap length cut, ap length value_is) in
-    put_block x (file_blocks first y) (file_blocks first (take len y)) others block value s path l
+    put_block x (file_blocks first y) (file_blocks first (take len y)) others block value s (place_of_path x path) l
     (ap (file_blocks first (take len y)) number ∙ run_value-some (run_at file_block (take len y) (len / file_block)) long ∙ ap Some cut)
     (λ j ne. fronts_alike first y len (file_block * (len / file_block) + file_block) (len / file_block) (omega arith) (omega arith) (omega arith) (omega arith) j (λ same. ne (same ∙ sym number)) ∙ ap (λ z. file_blocks first z j) whole)
     has

@@ -7,6 +7,7 @@ use Rattle.std.proofs.lemmas.List.{length-append}
 use Rattle.store_model.specs.Lists.{overwrite, run_at}
 use Rattle.store_model.specs.Paths.{Path, is_path, key, key_cmp}
 use Rattle.store_model.specs.Pairs.{Pair, file_block}
+use Rattle.store_model.proofs.PathsLemmas.{place_of_path}
 use Rattle.store_model.proofs.TreesLemmasPaths.{same_path-itself}
 use Rattle.tree_pairs.specs.Blocks.{BlockMap, run_value}
 use Rattle.tree_pairs.proofs.BlocksLemmas.{run_value-some, length-run_at}
@@ -48,7 +49,7 @@ pub found_run : (x : Path) (first : Option (List ℕ)) (y : List ℕ) (others : 
     → HasFile x first y others s → found ≡ find key_cmp (key x block) s → block_bytes found ≡ run_at file_block y i
 found_run x first y others s i block found path e l h is =
     let number : block ≡ suc i = omega arith in
-    ap block_bytes (is ∙ h.each x block path l ∙ ap (λ b. cond b (file_blocks first y block) (others x block)) (same_path-itself x) ∙ ap (file_blocks first y) number)
+    ap block_bytes (is ∙ h.each x block (place_of_path x path) l ∙ ap (λ b. cond b (file_blocks first y block) (others x block)) (same_path-itself x) ∙ ap (file_blocks first y) number)
     ∙ block_bytes-run (run_at file_block y i)
 
 -- ---- a piece is written into a block
@@ -83,7 +84,7 @@ put_run x first y others s at block piece old value path e l h some fits is writ
     let long = length-run_at file_block y (at / file_block) in
     let room : at % file_block ≤ length old = omega (arith, ap length is) in
     let new : file_blocks first (overwrite y at piece) block ≡ Some value = ap (file_blocks first (overwrite y at piece)) number ∙ written_block first y at piece h some fits ∙ ap (λ r. Some (overwrite r (at % file_block) piece)) (sym is) ∙ ap Some (sym (written room)) in
-    put_block x (file_blocks first y) (file_blocks first (overwrite y at piece)) others block value s path l new (λ j ne. other_blocks first y at piece h fits j (λ same. ne (same ∙ sym number))) has
+    put_block x (file_blocks first y) (file_blocks first (overwrite y at piece)) others block value s (place_of_path x path) l new (λ j ne. other_blocks first y at piece h fits j (λ same. ne (same ∙ sym number))) has
 
 -- the same for a list whose block was read before
 pub piece_put : (x : Path) (first : Option (List ℕ)) (y : List ℕ) (others : BlockMap) (before between after : List Pair) (at block : ℕ) (k piece bytes value : List ℕ) (found : Option (List ℕ))

@@ -1,14 +1,14 @@
 -- Lemmas on the two forms of a file: its bytes stand in its first pair, or in the blocks behind it.
-use Rattle.std.proofs.Common.{◌≡◌, ℕ, zero, suc, ◌≤◌, List, [], ◌∷◌, length, Bool, true, false, cond, Option, Some, None, Ok, refl, sym, ap, subst, ◌∙◌, arith, inl, inr}
+use Rattle.std.proofs.Common.{◌≡◌, ℕ, zero, suc, ◌≤◌, List, [], ◌∷◌, length, Bool, true, false, cond, IsTrue, Option, Some, None, Ok, refl, sym, ap, subst, ◌∙◌, arith, inl, inr}
 use Rattle.std.specs.FinMap.{find}
 use Rattle.std.proofs.lemmas.Bool.{false≢true, leb-true, le-leb}
 use Rattle.store_model.specs.declared.version.Version.{Version}
 use Rattle.store_model.specs.declared.version.Version.TheVariants.{One, Two}
 use Rattle.store_model.specs.Lists.{run_at}
 use Rattle.store_model.specs.Parameters.{Parameters}
-use Rattle.store_model.specs.Paths.{Path, path_cmp, same_path}
+use Rattle.store_model.specs.Paths.{Path, is_path, path_cmp, same_path}
 use Rattle.store_model.specs.Pairs.{Pair, file_block, file_value, inline_value, is_inline, pairs}
-use Rattle.store_model.specs.Trees.{Tree, Node, IsTree, node_at, is_directory, is_directory_node, contents_of, contents}
+use Rattle.store_model.specs.Trees.{Tree, Node, IsTree, node_of, node_at, is_directory, is_directory_node, contents_of, contents}
 use Rattle.store_model.specs.Trees.Node.{Directory, File}
 use Rattle.store_model.proofs.TreesLemmasBytes.{heads_same}
 use Rattle.ordered_pairs.specs.PairsState.{PairsState, IsObservable}
@@ -17,6 +17,7 @@ use Rattle.tree_pairs.specs.Blocks.{BlockMap, run_value}
 use Rattle.tree_pairs.specs.Kinds.{kind_of_node, file_first, first_value, LacksBytes}
 use Rattle.tree_pairs.specs.TreeCalls.{HoldsTree, TellsFirst}
 use Rattle.tree_pairs.proofs.TreeBlocks.{file_block_value, block_value, tree_blocks}
+use Rattle.tree_pairs.proofs.PlaceLemmas.{path_blocks}
 use Rattle.tree_pairs.proofs.BlocksLemmas.{run_value-none, length-run_at, blocks_alike}
 use Rattle.tree_pairs.proofs.ChangesLemmas.{blocks_at}
 use Rattle.file_blocks.specs.FileCalls.{file_blocks, HasFile, IsFirst, StandsAs}
@@ -82,19 +83,19 @@ node_first (Some Directory) version h = cc
 node_first (Some (File bytes)) version h = inr refl
 
 -- so the pairs of a tree have the contents of a path that is no directory
-stands_in_tree : (t : Tree) (p : Parameters) (x : Path) → IsTree t → is_directory t x ≡ false → StandsAs (is_inline p.version (length (contents t x))) x (first_value (node_at t x) p.version) (contents t x) (tree_blocks t p) (pairs t p)
-stands_in_tree t p [] h other = cc
-stands_in_tree t p (n ∷ x) h other =
-    let o = find path_cmp (n ∷ x) t in
-    (node_first o p.version other, blocks_alike _ _ (pairs t p) (λ y i. ap (λ v. cond (same_path y (n ∷ x)) v (tree_blocks t p y i)) (node_blocks o p.version other i)) (blocks_at t p (n ∷ x) h))
+stands_in_tree : (t : Tree) (p : Parameters) (x : Path) → IsTrue (is_path x) → IsTree t → is_directory t x ≡ false → StandsAs (is_inline p.version (length (contents t x))) x (first_value (node_at t x) p.version) (contents t x) (tree_blocks t p) (pairs t p)
+stands_in_tree t p [] path h other = cc
+stands_in_tree t p (n ∷ x) path h other =
+    let o = node_of (find path_cmp (n ∷ x) t) in
+    (node_first o p.version other, blocks_alike _ _ (pairs t p) (λ y i. ap (λ v. cond (same_path y (n ∷ x)) v (tree_blocks t p y i)) (path_blocks t p.version (n ∷ x) i path ∙ node_blocks o p.version other i)) (blocks_at t p (n ∷ x) h))
 
 -- and so has a list whose first pair was found
-pub stands_found : (x : Path) (first : Option (List ℕ)) (old new : PairsState) (t : Tree) (p : Parameters) → TellsFirst x old new (Ok first) → IsObservable old → HoldsTree old t p → is_directory t x ≡ false
+pub stands_found : (x : Path) (first : Option (List ℕ)) (old new : PairsState) (t : Tree) (p : Parameters) → IsTrue (is_path x) → TellsFirst x old new (Ok first) → IsObservable old → HoldsTree old t p → is_directory t x ≡ false
     → StandsAs (is_inline p.version (length (contents t x))) x first (contents t x) (tree_blocks t p) new.pairs
-stands_found x first old new t p told seen holds other =
+stands_found x first old new t p path told seen holds other =
     let inline = is_inline p.version (length (contents t x)) in
     subst (λ (f : Option (List ℕ)). StandsAs inline x f (contents t x) (tree_blocks t p) new.pairs) (sym (told.told seen t p holds))
-    (subst (StandsAs inline x (first_value (node_at t x) p.version) (contents t x) (tree_blocks t p)) (sym (told.keeps.unchanged seen ∙ holds.pairs_are)) (stands_in_tree t p x holds.tree other))
+    (subst (StandsAs inline x (first_value (node_at t x) p.version) (contents t x) (tree_blocks t p)) (sym (told.keeps.unchanged seen ∙ holds.pairs_are)) (stands_in_tree t p x path holds.tree other))
 
 -- the first pair of a long file says its length
 pub first_of_long : (o : Option Node) (version : Version) (len : ℕ) → kind_of_node o ≡ Some (kinds.File len) → is_inline version len ≡ false → first_value o version ≡ Some (file_value len)

@@ -70,7 +70,7 @@ module _ (t : Tree) (p : Parameters) (valid : IsParameters p) (tree : IsTree t) 
       ap (λ (n : ℕ). bytes_at (head ++ table_bytes table) n 4096) (areas p.slots i below).table_is
       ∙ ap (take 4096) (sym (drop-drop (4096 * i) (table_at p.slots 0) (head ++ table_bytes table)))
       ∙ ap (λ (l : List ℕ). take 4096 (drop (4096 * i) l)) (drop_at head (table_bytes table) (table_at p.slots 0) front)
-      ∙ block-table_bytes table (slots-place (draw_of p) (pages t p) (IsLawful-draw_of p valid) fits (tree_pages_are_pages t p valid tree fits)) i content at
+      ∙ block-table_bytes table (slots-place (draw_of p) (pages t p) (IsLawful-draw_of p valid) fits.room (tree_pages_are_pages t p valid tree fits)) i content at
 
   -- a layout has an empty journal
   pub layout-has-empty-journal : HasEmptyJournal p.slots (layout t p)

@@ -89,7 +89,7 @@ module _ (p : Parameters) (valid : IsParameters p) (old mid : SlotsState) where
               let table = its_table observable in
               let s = taken observable in
               subst (λ o. MatchOption o (AreOfTree s p → ⊥) (AreCounted s p)) is (tells s (took none observable) (few observable))
-              (record { tree = meets.tree; is_tree = meets.pairs_are.tree; pairs_are = met_taken p valid old.slots table.0 table.1 Took TookNow (holds observable) meets });
+              (record { tree = meets.tree; is_tree = meets.pairs_are.tree; bare = meets.pairs_are.bare; pairs_are = met_taken p valid old.slots table.0 table.1 Took TookNow (holds observable) meets });
         }
 
         -- they are those of a tree
@@ -102,7 +102,7 @@ module _ (p : Parameters) (valid : IsParameters p) (old mid : SlotsState) where
               let table = its_table observable in
               let s = taken observable in
               let are = subst (λ o. MatchOption o (AreOfTree s p → ⊥) (AreCounted s p)) is (tells s (took none observable) (few observable)) in
-              let one = met p valid old.slots table.0 table.1 Took TookNow (holds observable) are.tree are.is_tree are.pairs_are in
+              let one = met p valid old.slots table.0 table.1 Took TookNow (holds observable) are.tree are.is_tree are.bare are.pairs_are in
               record {
                 meets = one;
                 contents_are = record {
@@ -110,7 +110,7 @@ module _ (p : Parameters) (valid : IsParameters p) (old mid : SlotsState) where
                   params_are = named;
                   tree = are.is_tree;
                   fits = (conditions_tell old.slots p valid one).fits;
-                  used_is = used_is ∙ table.2 ∙ found_count p valid old.slots table.0 table.1 Took TookNow (holds observable) are.tree are.is_tree are.pairs_are;
+                  used_is = used_is ∙ table.2 ∙ found_count p valid old.slots table.0 table.1 Took TookNow (holds observable) are.tree are.is_tree are.bare are.pairs_are;
                   counts_are = are.counts_are;
                 };
               };

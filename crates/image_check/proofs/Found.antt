@@ -13,9 +13,9 @@ use Rattle.std.proofs.lemmas.List.Sums.{sum_by-le}
 use Rattle.store_model.specs.Parameters.{Parameters, IsParameters}
 use Rattle.store_model.specs.Paths.{key_cmp}
 use Rattle.store_model.specs.Trees.{Tree, IsTree}
-use Rattle.store_model.specs.Pairs.{Pair, pairs}
+use Rattle.store_model.specs.Pairs.{Pair, has_attributes, pairs}
 use Rattle.store_model.specs.Draws.{draw_of}
-use Rattle.store_model.specs.Pages.{Cell, Page, IsCell, IsCellValue, IsPage, cell_on, page_room, pages, page_count}
+use Rattle.store_model.specs.Pages.{Cell, Page, IsCell, IsCellValue, IsPage, IsBare, cell_on, page_room, pages, page_count}
 use Rattle.store_model.specs.Placement.{Table, pages_in}
 use Rattle.store_model.specs.Images.{slots_of}
 use Rattle.store_model.proofs.ListsLemmas.{all_weaker}
@@ -133,8 +133,8 @@ module _ (p : Parameters) (valid : IsParameters p) (slots : List (List ℕ)) (ta
     rising_taken = pairs_rise holds.cells holds.rising
 
     -- where they are a tree's, the slots meet the conditions
-    abbrev pub meets : (t : Tree) → IsTree t → taken ≡ pairs t p → MeetConditions slots p
-    meets t tree are = record {
+    abbrev pub meets : (t : Tree) → IsTree t → (has_attributes p.version ≡ false → IsBare t) → taken ≡ pairs t p → MeetConditions slots p
+    meets t tree bare are = record {
       table = table;
       slots_are = is.slots_are;
       sound = sound_of p slots table is;
@@ -144,17 +144,18 @@ module _ (p : Parameters) (valid : IsParameters p) (slots : List (List ℕ)) (ta
       tree = t;
       pairs_are = record {
         tree = tree;
+        bare = bare;
         cells = λ pair. (λ has. subst (λ s. Contains s pair) are (cell_taken pair has), λ held. taken_cell pair (subst (λ s. Contains s pair) (sym are) held));
       };
     }
 
     -- and the table has the pages of the tree
-    pub found_count : (t : Tree) → IsTree t → taken ≡ pairs t p → length (pages_in table) ≡ page_count t p
+    pub found_count : (t : Tree) → IsTree t → (has_attributes p.version ≡ false → IsBare t) → taken ≡ pairs t p → length (pages_in table) ≡ page_count t p
     unfolding draw_of
-    found_count t tree are =
-        let one = meets t tree are in
+    found_count t tree bare are =
+        let one = meets t tree bare are in
         ap (λ u. length (pages_in u)) (table_is_of_tree slots p valid one)
-        ∙ length_permutation (pages t p) (pages_in (table_of_tree t p)) (IsPermutation-place (draw_of p) (pages t p) (IsLawful-draw_of p valid) (conditions_tell slots p valid one).fits)
+        ∙ length_permutation (pages t p) (pages_in (table_of_tree t p)) (IsPermutation-place (draw_of p) (pages t p) (IsLawful-draw_of p valid) (conditions_tell slots p valid one).fits.room)
 
     -- where the slots meet the conditions, they are the pairs of their tree
     pub met_taken : (there : MeetConditions slots p) → taken ≡ pairs there.tree p

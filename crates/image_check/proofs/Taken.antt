@@ -38,10 +38,10 @@ took_more old new s pair p false adds seen = begin_refused old new s pair p fals
 pub none_of_tree : (s : List Pair) (p : Parameters) → BeginNoTree s p → length s ≤ pairs_limit → AreOfTree s p → ⊥
 none_of_tree s p none few are =
     none.none (omega (arith, few, ap length none.split, length-append none.first none.rest))
-    (record { tree = are.tree; is_tree = are.is_tree; rest = none.rest; pairs_are = sym are.pairs_are ∙ none.split })
+    (record { tree = are.tree; is_tree = are.is_tree; bare = are.bare; rest = none.rest; pairs_are = sym are.pairs_are ∙ none.split })
 
 -- what a reader tells of whole pairs
 pub counted_of : (reader : TreeReader) (s : List Pair) (p : Parameters) (result : Bool) (counts : Counts) → TellsWhole reader result → TellsCounts reader counts → HasSeen reader s p → result ≡ true → AreCounted s p counts
 counted_of reader s p result counts whole counted seen is =
     let are = (whole s p seen).0 is in
-    record { tree = are.tree; is_tree = are.is_tree; pairs_are = are.pairs_are; counts_are = counted s p seen are.tree are.is_tree are.pairs_are }
+    record { tree = are.tree; is_tree = are.is_tree; bare = are.bare; pairs_are = are.pairs_are; counts_are = counted s p seen are.tree are.is_tree are.pairs_are }

@@ -1,5 +1,6 @@
 //! The tests, a module for each kind of what is tested.
 
+mod attributes;
 mod faults;
 mod files;
 mod listed_pages;

@@ -9,7 +9,7 @@ use Rattle.store_model.specs.Parameters.{IsParameters}
 use Rattle.store_model.specs.Paths.{field, key, key_cmp, name_bytes, path_text, parent}
 use Rattle.store_model.specs.Trees.{Tree, IsTree}
 use Rattle.store_model.specs.Trees.Node.{Directory}
-use Rattle.store_model.specs.Pairs.{Pair, node_pairs, pairs}
+use Rattle.store_model.specs.Pairs.{Pair, node_pairs, attribute_pairs, pairs}
 use Rattle.store_model.specs.Labels.{Label, label_bytes, label_cmp}
 use Rattle.store_model.specs.Labels.Lead.{Start, Leader}
 use Rattle.store_model.specs.Draws.{ruler_start, ruler_level, draw_of}
@@ -33,7 +33,7 @@ use Rattle.layout_conditions.proofs.HeldLemmas.{held_none}
 
 -- the tree of the example
 abbrev example_tree : Tree
-example_tree = (codes "Ua" ∷ [], Directory) ∷ []
+example_tree = (codes "Ua" ∷ [], record { node = Directory; attributes = [] }) ∷ []
 
 -- the parameters are in range
 in_range : IsParameters two_slots
@@ -167,10 +167,10 @@ both_met = each_of_two (λ page. IsLed (StandsIn both_pages) page.label.level pa
 
 tree_is_tree : IsTree example_tree
 unfolding parent name_bytes
-tree_is_tree = record { sorted = refl; entries = (record { path = refl; below_root = refl; parent_directory = refl; node = tt }, tt) }
+tree_is_tree = record { sorted = refl; entries = (record { path = refl; below_root = refl; parent_directory = refl; node = tt; attributes = record { sorted = refl; each = tt } }, tt) }
 
 tree_pairs : pairs example_tree two_slots ≡ (example_key, 1 ∷ []) ∷ []
-unfolding pairs node_pairs key field name_bytes path_text example_key zero_filled
+unfolding pairs node_pairs attribute_pairs key field name_bytes path_text example_key zero_filled
 tree_pairs = refl
 
 -- the lower page has its pair
@@ -206,7 +206,7 @@ both_meet = record {
   groups = both_groups;
   met = both_met;
   tree = example_tree;
-  pairs_are = record { tree = tree_is_tree; cells = both_cells };
+  pairs_are = record { tree = tree_is_tree; bare = λ lacks. (refl, tt); cells = both_cells };
 }
 
 -- ---- one page alone

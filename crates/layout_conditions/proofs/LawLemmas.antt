@@ -47,16 +47,16 @@ module _ (t : Tree) (p : Parameters) (is : IsParameters p) (tree : IsTree t) (fi
   of_tree : (page : Page) → StandsIn (table_of_tree t p) page → Contains (pages_of_pairs (draw_of p) (pairs t p)) page
   unfolding pages draw_of
   of_tree page stands =
-      let moves = IsPermutation-place (draw_of p) (pages t p) law fits in
+      let moves = IsPermutation-place (draw_of p) (pages t p) law fits.room in
       Contains-permutation (pages_in (table_of_tree t p)) (pages t p) page (IsPermutation-sym (pages t p) (pages_in (table_of_tree t p)) moves) (held_contained (table_of_tree t p) stands.0 page stands.1)
 
   in_table : (page : Page) → Contains (pages_of_pairs (draw_of p) (pairs t p)) page → StandsIn (table_of_tree t p) page
   unfolding pages draw_of
-  in_table page held = some_slot (table_of_tree t p) page (Contains-permutation (pages t p) (pages_in (table_of_tree t p)) page (IsPermutation-place (draw_of p) (pages t p) law fits) held)
+  in_table page held = some_slot (table_of_tree t p) page (Contains-permutation (pages t p) (pages_in (table_of_tree t p)) page (IsPermutation-place (draw_of p) (pages t p) law fits.room) held)
 
   ordered : IsOrderedTable (draw_of p) (table_of_tree t p)
   unfolding draw_of
-  ordered = IsOrderedTable-place (draw_of p) (pages t p) law fits (distinct_tree_labels t p is tree fits) (tree_pages_are_pages t p is tree fits)
+  ordered = IsOrderedTable-place (draw_of p) (pages t p) law fits.room (distinct_tree_labels t p is tree fits) (tree_pages_are_pages t p is tree fits)
 
   tree_pages_meet : AreLayout (draw_of p) (pairs t p) (StandsIn (table_of_tree t p))
   tree_pages_meet = cut_pages_meet (draw_of p) (pairs t p) (StandsIn (table_of_tree t p)) law (pair_list_of_tree t p is tree fits) of_tree in_table (low_height p is)
@@ -76,7 +76,7 @@ layout_meets slots p t is have =
         groups = are.groups;
         met = are.met;
         tree = t;
-        pairs_are = record { tree = have.tree; cells = are.cells };
+        pairs_are = record { tree = have.tree; bare = have.fits.bare; cells = are.cells };
       },
       refl,
     )
@@ -146,17 +146,20 @@ module _ (slots : List (List ℕ)) (p : Parameters) (is : IsParameters p) (c : M
   -- and fit
   tree_fits : Fits c.tree p
   unfolding pages draw_of
-  tree_fits =
-      let fewer = no_longer page_cmp_total (pages c.tree p) (pages_in c.table) (rising_pages (draw_of p) (pairs c.tree p) (keyed (pairs c.tree p) pair_list)) tree_page_stands in
-      let room = room_of_table (draw_of p) c.table c.sound.ordered in
-      omega arith
+  tree_fits = record {
+    room =
+        let fewer = no_longer page_cmp_total (pages c.tree p) (pages_in c.table) (rising_pages (draw_of p) (pairs c.tree p) (keyed (pairs c.tree p) pair_list)) tree_page_stands in
+        let room = room_of_table (draw_of p) c.table c.sound.ordered in
+        omega arith;
+    bare = c.pairs_are.bare;
+  }
 
   -- so the table is the tree's
   pub table_is_of_tree : c.table ≡ table_of_tree c.tree p
   unfolding draw_of
   table_is_of_tree =
       let own = ordered c.tree p is c.pairs_are.tree tree_fits in
-      let in_place = IsPermutation-place (draw_of p) (pages c.tree p) (IsLawful-draw_of p is) tree_fits in
+      let in_place = IsPermutation-place (draw_of p) (pages c.tree p) (IsLawful-draw_of p is) tree_fits.room in
       one_ordered_table (draw_of p) c.table (table_of_tree c.tree p) (IsLawful-draw_of p is) c.sound.ordered own
       (λ page held. Contains-permutation (pages c.tree p) (pages_in (table_of_tree c.tree p)) page in_place (standing_is_of_tree page held))
       (λ page held. tree_page_stands page (Contains-permutation (pages_in (table_of_tree c.tree p)) (pages c.tree p) page (IsPermutation-sym (pages c.tree p) (pages_in (table_of_tree c.tree p)) in_place) held))

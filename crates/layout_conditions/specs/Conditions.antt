@@ -1,11 +1,11 @@
 -- The conditions by which slots are known to be the layout of a tree: each can be tested page by page.
-use Rattle.std.specs.Prelude.{◌≡◌, ◌↔◌, ℕ, ◌+◌, ◌<◌, List}
+use Rattle.std.specs.Prelude.{◌≡◌, ◌↔◌, ℕ, ◌+◌, ◌<◌, List, false}
 use Rattle.std.specs.List.{Contains}
 use Rattle.store_model.specs.Parameters.{Parameters}
 use Rattle.store_model.specs.Trees.{Tree, IsTree}
-use Rattle.store_model.specs.Pairs.{Pair, pairs}
+use Rattle.store_model.specs.Pairs.{Pair, has_attributes, pairs}
 use Rattle.store_model.specs.Draws.{Draw, draw_of}
-use Rattle.store_model.specs.Pages.{Page, cell_on}
+use Rattle.store_model.specs.Pages.{Page, IsBare, cell_on}
 use Rattle.store_model.specs.Placement.{Table, HoldsPage, IsOrderedTable}
 use Rattle.store_model.specs.Images.{slots_of}
 use Rattle.layout_conditions.specs.Pages.{KeysRise, LeadsBefore, AreRunOf, LeadsGroup, HasCell, HasKey, FollowsFull, IsLed}
@@ -38,9 +38,10 @@ module _ (There : Page → Type 0) where
   abbrev pub AreMet : Type 0
   AreMet = (page : Page) → There page → IsLed There page.label.level page.label.lead
 
-  -- the cells of level 0 are the pairs of the tree, which is one
+  -- the cells of level 0 are the pairs of the tree, which is one, and under version 1 has no attributes
   pub record HoldTree (t : Tree) (p : Parameters) : Type 0 where
     pub tree : IsTree t
+    pub bare : has_attributes p.version ≡ false → IsBare t
     pub cells : (pair : Pair) → HasCell There 0 (cell_on 0 pair) ↔ Contains (pairs t p) pair
 
 -- The five conditions.

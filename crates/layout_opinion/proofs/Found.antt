@@ -1,5 +1,5 @@
 -- What is found in slots: contents of a tree, and none where they hold none.
-use Rattle.std.proofs.Common.{◌≡◌, ℕ, ◌≤◌, List, map, length, Option, Some, None, MatchOption, IfSome, IsTrue, sym, ap, subst, ◌∙◌, arith}
+use Rattle.std.proofs.Common.{◌≡◌, ℕ, ◌≤◌, List, map, length, Option, Some, None, MatchOption, IfSome, IsTrue, false, sym, ap, subst, ◌∙◌, arith}
 use Rattle.std.specs.Cmp.Lexicographic.{nat_list_cmp_total}
 use Rattle.std.specs.FinMap.{is_sorted}
 use Rattle.std.specs.List.{AllByRecursion}
@@ -10,10 +10,10 @@ use Rattle.std.proofs.lemmas.List.Sorted.{IsPermutation-sym, IsPermutation-trans
 use Rattle.std.proofs.lemmas.Map.Keys.{IsDistinct-from_sorted, IsDistinct-IsPermutation}
 use Rattle.store_model.specs.Parameters.{Parameters, IsParameters}
 use Rattle.store_model.specs.Paths.{key_cmp}
-use Rattle.store_model.specs.Pairs.{Pair, pairs}
+use Rattle.store_model.specs.Pairs.{Pair, has_attributes, pairs}
 use Rattle.store_model.specs.Trees.{Tree, IsTree}
 use Rattle.store_model.specs.Draws.{draw_of}
-use Rattle.store_model.specs.Pages.{Fits, pages, page_count, pages_of_pairs}
+use Rattle.store_model.specs.Pages.{IsBare, Fits, pages, page_count, pages_of_pairs}
 use Rattle.store_model.specs.Placement.{Table, place, pages_in}
 use Rattle.store_model.specs.Images.{slots_of}
 use Rattle.store_model.proofs.ListsLemmas.{in_order_of_rising, rising_from_is_sorted, rising_to_map}
@@ -70,18 +70,18 @@ length-table_of t p = length-place (draw_of p) (pages t p)
 pub pages_of_layout : (t : Tree) (p : Parameters) (table : Table) → IsParameters p → Fits t p → table ≡ table_of_tree t p → length (pages_in table) ≡ page_count t p
 unfolding draw_of
 pages_of_layout t p table valid fits is =
-    ap (λ held. length (pages_in held)) is ∙ length_permutation (pages t p) (pages_in (table_of_tree t p)) (IsPermutation-place (draw_of p) (pages t p) (IsLawful-draw_of p valid) fits)
+    ap (λ held. length (pages_in held)) is ∙ length_permutation (pages t p) (pages_in (table_of_tree t p)) (IsPermutation-place (draw_of p) (pages t p) (IsLawful-draw_of p valid) fits.room)
 
 -- it fits where they do
-pub fits_are : (t : Tree) (p : Parameters) (s : List Pair) → IsTree t → s ≡ pairs t p → length (pages_of_pairs (draw_of p) (by_key s)) ≤ p.slots → Fits t p
-fits_are t p s tree is few = subst (λ n. n ≤ p.slots) (ap length (pages_are t p s tree is)) few
+pub fits_are : (t : Tree) (p : Parameters) (s : List Pair) → IsTree t → (has_attributes p.version ≡ false → IsBare t) → s ≡ pairs t p → length (pages_of_pairs (draw_of p) (by_key s)) ≤ p.slots → Fits t p
+fits_are t p s tree bare is few = record { room = subst (λ n. n ≤ p.slots) (ap length (pages_are t p s tree is)) few; bare = bare }
 
 -- a tree that fits has no more pages than slots
 pub not_full : (t : Tree) (p : Parameters) (s : List Pair) (fault : ScratchFault) (need slots : ℕ) → IsTree t → Fits t p → s ≡ pairs t p → IsRefusal (draw_of p) s fault → fault ≡ Full need slots → ⊥
 unfolding draw_of
 not_full t p s fault need slots tree fits is refused full =
     let more = subst (IsRefusal (draw_of p) s) full refused in
-    omega (arith, fits, more.0, more.2, ap length (pages_are t p s tree is))
+    omega (arith, fits.room, more.0, more.2, ap length (pages_are t p s tree is))
 
 -- what the slots of a tree hold are its pairs, in some order
 pub pairs_moved : (slots : List (List ℕ)) (t : Tree) (p : Parameters) (s : List Pair) → IsParameters p → HaveLayout slots t p → s ≡ pairs_of_table (table_of_tree t p) → IsPermutation s (pairs t p)

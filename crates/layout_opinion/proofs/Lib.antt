@@ -1,3 +1,4 @@
+pub mod AttributeFronts
 pub mod EntryLemmas
 pub mod FileBlocks
 pub mod Found

@@ -141,7 +141,7 @@ pub table_pairs : (t : Tree) (p : Parameters) → IsParameters p → IsTree t �
 unfolding draw_of pages
 table_pairs t p valid tree fits =
     subst (λ s. IsPermutation s (pairs_of_table (table_of_tree t p))) (pages_hold_pairs (draw_of p) (pairs t p) valid.some_level)
-    (pairs_place (draw_of p) (pages t p) (IsLawful-draw_of p valid) fits (tree_pages_by_rank t p valid tree fits))
+    (pairs_place (draw_of p) (pages t p) (IsLawful-draw_of p valid) fits.room (tree_pages_by_rank t p valid tree fits))
 
 may_hold : (held : Option Page) → IsSlot held → MayHold held
 may_hold None is = tt
@@ -151,4 +151,4 @@ may_hold (Some page) is = is
 pub table_slots : (t : Tree) (p : Parameters) → IsParameters p → IsTree t → Fits t p → AllByRecursion MayHold (table_of_tree t p)
 unfolding draw_of
 table_slots t p valid tree fits =
-    all_weaker IsSlot MayHold may_hold (table_of_tree t p) (slots-place (draw_of p) (pages t p) (IsLawful-draw_of p valid) fits (tree_pages_are_pages t p valid tree fits))
+    all_weaker IsSlot MayHold may_hold (table_of_tree t p) (slots-place (draw_of p) (pages t p) (IsLawful-draw_of p valid) fits.room (tree_pages_are_pages t p valid tree fits))

@@ -7,8 +7,9 @@ ghost use Rattle.store_model.specs.Pairs as model;
 ghost use Rattle.store_model.specs.Trees as trees;
 ghost use Rattle.tree_pairs.specs.Kinds.{IsKind, kind_of};
 ghost use Rattle.tree_reader.specs.Fronts.{IsFirst};
-ghost use Rattle.layout_opinion.specs.PairFronts.{HasPairs, StandsFirst};
+ghost use Rattle.layout_opinion.specs.PairFronts.{HasPairs, StandsFirst, EntryStandsFirst, MayStandFirst};
 
+use crate::attributes::attribute_count;
 use crate::blocks::{are_blocks, block_count};
 use path_keys::Path;
 use store_base::{Key, Value};
@@ -57,8 +58,8 @@ fn first_in(key: &Key, value: &[u8], version: Version) -> Option<(Path, Kind)>
     }
 }
 
-/// What stands at the front of pairs under a version; `None` exactly where nothing does.
-pub fn first_entry(pairs: &[(Key, Value)], version: Version) -> Option<Entry>
+/// What stands at the front of pairs under a version, its attributes apart; `None` exactly where nothing does.
+fn first_node(pairs: &[(Key, Value)], version: Version) -> Option<Entry>
     ensures found { IfSome result (λ entry. StandsFirst version pairs.now entry.path entry.kind entry.count) }
     ensures only { (path : paths.Path) (node : trees.Node) (rest : List model.Pair) (p : Parameters) → p.version ≡ version → IsTrue (paths.is_path path) → paths.is_root path ≡ false → trees.IsNode node
         → pairs.now ≡ model.node_pairs path node p ++ rest → MatchOption result ⊥ (λ entry. (entry.path ≡ path) × (entry.kind ≡ kind_of node) × (entry.count ≡ length (model.node_pairs path node p))) }
@@ -67,4 +68,18 @@ pub fn first_entry(pairs: &[(Key, Value)], version: Version) -> Option<Entry>
     let (path, kind) = first_in(key, value.as_slice(), version)?;
     let count = pair_count(&path, kind, pairs, version)?;
     Some(Entry { path, kind, count })
+}
+
+/// The entry at the front of pairs under a version, with its attributes; `None` exactly where there is none.
+pub fn first_entry(pairs: &[(Key, Value)], version: Version) -> Option<Entry>
+    ensures found { IfSome result (λ entry. EntryStandsFirst version pairs.now entry.path entry.kind entry.count) }
+    ensures only { (path : paths.Path) (entry : trees.Entry) (rest : List model.Pair) (p : Parameters) → p.version ≡ version → MayStandFirst version path entry rest
+        → pairs.now ≡ model.entry_pairs path entry p ++ rest → MatchOption result ⊥ (λ found. (found.path ≡ path) × (found.kind ≡ kind_of entry.node) × (found.count ≡ length (model.entry_pairs path entry p))) }
+{
+    let entry = first_node(pairs, version)?;
+    let attributes = attribute_count(&entry.path, &pairs[entry.count..], version);
+    Some(Entry {
+        count: entry.count + attributes,
+        ..entry
+    })
 }

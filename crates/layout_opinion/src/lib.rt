@@ -5,6 +5,7 @@
 //! it tests page by page, without memory. The tests ask both, and no program asks this one.
 #![tactic(auto)]
 
+mod attributes;
 mod blocks;
 mod collect;
 mod entry;

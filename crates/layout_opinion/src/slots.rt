@@ -1,12 +1,13 @@
 //! What is said of slots.
 
-ghost use Rattle.std.specs.Prelude.{◌≡◌, ◌≤◌, IfOk, IfSome, MatchOption, length};
+ghost use Rattle.std.specs.Prelude.{◌≡◌, ◌≤◌, IfOk, IfSome, MatchOption, false, length};
 ghost use Rattle.std.specs.List.Sorted.{IsPermutation};
 ghost use Rattle.store_model.specs.Parameters.{Parameters};
 ghost use Rattle.store_model.specs.Trees.{Tree, IsTree};
 ghost use Rattle.store_model.specs.Pairs as model;
+ghost use Rattle.store_model.specs.Pages.{IsBare};
 ghost use Rattle.layout_opinion.specs.Collected.{most_table_pairs};
-ghost use Rattle.tree_reader.specs.Counts.{AreCounts};
+ghost use Rattle.tree_reader.specs.ReaderCalls.{AreCounted};
 ghost use Rattle.layout_opinion.specs.Opinions.{JudgesSlots};
 
 use crate::collect::read_pairs;
@@ -28,9 +29,9 @@ fn in_key_order(
     version: Version,
 ) -> Result<Option<(PairList, Counts)>, NoMemory>
     requires { length pairs.items ≤ most_table_pairs }
-    ensures tree { (p : Parameters) → p.version ≡ version → IfOk result (λ found. IfSome found (λ (s, counts). (t : Tree) × IsTree t × (s ≡ model.pairs t p) × AreCounts t counts)) }
+    ensures tree { (p : Parameters) → p.version ≡ version → IfOk result (λ found. IfSome found (λ (s, counts). AreCounted s p counts)) }
     ensures few { IfOk result (λ found. IfSome found (λ (s, counts). length s ≤ most_table_pairs)) }
-    ensures only { (p : Parameters) → p.version ≡ version → (t : Tree) → IsTree t → IsPermutation pairs.items (model.pairs t p) → IfOk result (λ found. MatchOption found ⊥ (λ (s, counts). s ≡ model.pairs t p)) }
+    ensures only { (p : Parameters) → p.version ≡ version → (t : Tree) → IsTree t → (model.has_attributes p.version ≡ false → IsBare t) → IsPermutation pairs.items (model.pairs t p) → IfOk result (λ found. MatchOption found ⊥ (λ (s, counts). s ≡ model.pairs t p)) }
 {
     sort_pairs(&mut pairs)?;
     if !do_rise(&pairs) {

@@ -4,10 +4,11 @@ ghost use Rattle.std.specs.Prelude.{◌≡◌, ◌↔◌, ◌≤◌, ◌+◌, Is
 ghost use Rattle.std.specs.FinMap.{is_sorted, find};
 ghost use Rattle.store_model.specs.Parameters.{Parameters};
 ghost use Rattle.store_model.specs.Paths as paths;
-ghost use Rattle.store_model.specs.Pairs as model;
 ghost use Rattle.store_model.specs.Trees as trees;
 ghost use Rattle.layout_opinion.specs.Collected.{most_table_pairs};
-ghost use Rattle.tree_reader.specs.Counts.{AreCounts, CountsMore};
+ghost use Rattle.tree_reader.specs.Counts.{CountsMore};
+ghost use Rattle.tree_reader.specs.Fronts.{AreOfTree};
+ghost use Rattle.tree_reader.specs.ReaderCalls.{AreCounted};
 ghost use Rattle.node_pages.specs.EntryPlaces.{IsPlaceOf};
 ghost use Rattle.layout_opinion.specs.Parents.{MayHaveChildren};
 ghost use Rattle.tree_pairs.specs.Kinds.{IsKind};
@@ -83,8 +84,8 @@ fn counted(counts: Counts, kind: Kind) -> Counts
 pub fn count_tree(pairs: &[(Key, Value)], version: Version) -> Option<Counts>
     requires few { length pairs.now ≤ most_table_pairs }
     requires sorted { IsTrue (is_sorted paths.key_cmp pairs.now) }
-    ensures tree { (p : Parameters) → p.version ≡ version → IfSome result (λ counts. (t : trees.Tree) × trees.IsTree t × (pairs.now ≡ model.pairs t p) × AreCounts t counts) }
-    ensures none { (p : Parameters) → p.version ≡ version → IfNone result ((t : trees.Tree) → trees.IsTree t → pairs.now ≡ model.pairs t p → ⊥) }
+    ensures tree { (p : Parameters) → p.version ≡ version → IfSome result (AreCounted pairs.now p) }
+    ensures none { (p : Parameters) → p.version ≡ version → IfNone result (AreOfTree pairs.now p → ⊥) }
 {
     let mut counts = Counts {
         dirs: 0,

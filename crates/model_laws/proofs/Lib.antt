@@ -1,3 +1,4 @@
+pub mod AttributesLemmas
 pub mod HeadersLemmas
 pub mod PagesLemmasGroups
 pub mod PagesLemmasKeys

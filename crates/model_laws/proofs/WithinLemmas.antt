@@ -1,20 +1,21 @@
 -- What commands at or below a path leave elsewhere.
 use Rattle.std.proofs.Common.{◌≡◌, ℕ, ◌≤◌, List, [], ◌∷◌, ◌++◌, map, length, drop, Bool, true, false, not, ◌&&◌, ◌||◌, cond, nat_lt, T, Option, Some, None, is_some, Result, Ok, Err, refl, sym, ap, ap₂, subst, ◌∙◌, append_assoc}
 use Rattle.std.specs.List.{AllByRecursion}
-use Rattle.std.specs.FinMap.{find, is_sorted}
+use Rattle.std.specs.FinMap.{find, put, is_sorted}
 use Rattle.std.specs.FinMap.Entries.{find-put, where_key, find-where_key, same_entries}
 use Rattle.std.proofs.lemmas.Bool.{and_parts, false_from_ne_true, both_ways, cond-true, cond-false, le-ltb, not_from_false}
 use Rattle.store_model.specs.declared.refusal.Refusal.{Refusal}
 use Rattle.store_model.specs.declared.refusal.Refusal.TheVariants as refusals
 use Rattle.store_model.specs.Parameters.{Parameters}
 use Rattle.store_model.specs.Paths.{Path, is_root, path_cmp, same_path, is_inside, is_at_or_inside}
-use Rattle.store_model.specs.Trees.{Tree, Node, IsTree, exists, node_at, moved_path, with_node, without, without_subtree, moved}
+use Rattle.store_model.specs.Trees.{Tree, Entry, Attributes, node_of, attributes_of, IsTree, exists, node_at, attributes_at, moved_path, attributed, without, without_subtree, moved}
 use Rattle.store_model.specs.Pages.{page_count}
 use Rattle.store_model.specs.Commands.{Command, IsCommand}
-use Rattle.store_model.specs.Commands.Command.{Make, Write, Cut, Rename, Remove, Prune, ListChildren, Read, Space, Digest}
-use Rattle.store_model.specs.Steps.{Step, step, step_by, first_refusal, conditions, refusal_of, next_tree, may_fill}
+use Rattle.store_model.specs.Commands.Command.{Make, Write, Cut, Rename, Remove, Prune, ListChildren, Read, Space, Digest, SetAttribute, UnsetAttribute, GetAttribute, ListAttributes}
+use Rattle.store_model.specs.Steps.{Step, step, step_by, first_refusal, conditions, refusal_of, next_tree, may_fill, is_on_attributes, lacks_version}
 use Rattle.store_model.specs.Grammar.{parse}
 use Rattle.store_model.specs.Scripts.{answer, answer_by, line_limit, tree_after, tree_by, state_by}
+use Rattle.store_model.proofs.TreesLemmas.{is_some-node_of}
 use Rattle.store_model.proofs.TreesLemmasMoves.{find-tree_of, nothing_below}
 use Rattle.store_model.proofs.TreesLemmasPaths.{path_cmp_total, same_from_tie, same_from_test, same_path-itself, at_or_inside-append, at_or_inside-split, moved_path_there, moved_path_elsewhere}
 use Rattle.store_model.proofs.TreesLemmasSteps.{picked_tree, IsTree-step, IsTree-tree_after}
@@ -45,9 +46,14 @@ elsewhere_is_outside x p at inside outside = false_from_ne_true _ (λ s. both_wa
 
 -- ---- one command
 
--- a node that is put at or below
-put_elsewhere : (t : Tree) (p at x : Path) (node : Node) → is_at_or_inside p at ≡ true → is_at_or_inside x at ≡ false → find path_cmp x (with_node t p node) ≡ find path_cmp x t
-put_elsewhere t p at x node inside outside = find-put path_cmp path_cmp_total x p node t ∙ ap (λ b. cond b (Some node) (find path_cmp x t)) (elsewhere_differs x p at inside outside)
+-- an entry that is put at or below
+put_elsewhere : (t : Tree) (p at x : Path) (entry : Entry) → is_at_or_inside p at ≡ true → is_at_or_inside x at ≡ false → find path_cmp x (put path_cmp p entry t) ≡ find path_cmp x t
+put_elsewhere t p at x entry inside outside = find-put path_cmp path_cmp_total x p entry t ∙ ap (λ b. cond b (Some entry) (find path_cmp x t)) (elsewhere_differs x p at inside outside)
+
+-- attributes that are put at or below
+attributed_elsewhere : (t : Tree) (p at x : Path) (attributes : Attributes) (o : Option Entry) → is_at_or_inside p at ≡ true → is_at_or_inside x at ≡ false → find path_cmp x (attributed t p attributes o) ≡ find path_cmp x t
+attributed_elsewhere t p at x attributes None inside outside = refl
+attributed_elsewhere t p at x attributes (Some entry) inside outside = put_elsewhere t p at x _ inside outside
 
 -- entries that a test of their paths keeps
 kept_elsewhere : (t : Tree) (keep : Path → Bool) (x : Path) → keep x ≡ true → find path_cmp x (where_key path_cmp keep t) ≡ find path_cmp x t
@@ -84,23 +90,34 @@ next_elsewhere t (ListChildren p) at x within outside = refl
 next_elsewhere t (Read p from len) at x within outside = refl
 next_elsewhere t Space at x within outside = refl
 next_elsewhere t Digest at x within outside = refl
+next_elsewhere t (SetAttribute p a bytes) at x within outside = attributed_elsewhere t p at x _ (find path_cmp p t) within outside
+next_elsewhere t (UnsetAttribute p a) at x within outside = attributed_elsewhere t p at x _ (find path_cmp p t) within outside
+next_elsewhere t (GetAttribute p a) at x within outside = refl
+next_elsewhere t (ListAttributes p) at x within outside = refl
 
--- so does its step, whichever refusal holds
-stepped_elsewhere : (t : Tree) (c : Command) (p : Parameters) (o : Option Refusal) (at x : Path) → works_within at c ≡ true → is_at_or_inside x at ≡ false → find path_cmp x (step_by t c p o).tree ≡ find path_cmp x t
-stepped_elsewhere t c p (Some refusal) at x within outside = refl
-stepped_elsewhere t c p None at x within outside = picked_tree (λ u. find path_cmp x u ≡ find path_cmp x t) (may_fill c && nat_lt p.slots (page_count (next_tree t c) p)) _ _ refl (next_elsewhere t c at x within outside)
-
-step_elsewhere : (t : Tree) (c : Command) (p : Parameters) (at x : Path) → works_within at c ≡ true → is_at_or_inside x at ≡ false → find path_cmp x (step t c p).tree ≡ find path_cmp x t
+-- what holds of a tree, and of what a command that is not refused makes of it, holds after its step
+pub after_step : (P : Tree → Type 0) (t : Tree) (c : Command) (p : Parameters) → P t → P (next_tree t c) → P (step t c p).tree
 unfolding step
-step_elsewhere t c p at x within outside = stepped_elsewhere t c p (refusal_of t c) at x within outside
+after_step P t c p h g = picked_tree P (lacks_version c p) _ _ h (by_refusal (refusal_of t c))
+  where
+    by_refusal : (o : Option Refusal) → P (step_by t c p o).tree
+    by_refusal (Some refusal) = h
+    by_refusal None = picked_tree P (may_fill c && nat_lt p.slots (page_count (next_tree t c) p)) _ _ h g
+
+-- so a step leaves the same elsewhere
+step_elsewhere : (t : Tree) (c : Command) (p : Parameters) (at x : Path) → works_within at c ≡ true → is_at_or_inside x at ≡ false → find path_cmp x (step t c p).tree ≡ find path_cmp x t
+step_elsewhere t c p at x within outside = after_step (λ u. find path_cmp x u ≡ find path_cmp x t) t c p refl (next_elsewhere t c at x within outside)
 
 -- what stands at a path is what is found there
 node_at_from_find : (t u : Tree) (x : Path) → find path_cmp x t ≡ find path_cmp x u → node_at t x ≡ node_at u x
 node_at_from_find t u [] e = refl
-node_at_from_find t u (n ∷ x) e = e
+node_at_from_find t u (n ∷ x) e = ap node_of e
 
 pub node_at-step_elsewhere : (t : Tree) (c : Command) (p : Parameters) (at x : Path) → works_within at c ≡ true → is_at_or_inside x at ≡ false → node_at (step t c p).tree x ≡ node_at t x
 node_at-step_elsewhere t c p at x within outside = node_at_from_find (step t c p).tree t x (step_elsewhere t c p at x within outside)
+
+pub attributes_at-step_elsewhere : (t : Tree) (c : Command) (p : Parameters) (at x : Path) → works_within at c ≡ true → is_at_or_inside x at ≡ false → attributes_at (step t c p).tree x ≡ attributes_at t x
+attributes_at-step_elsewhere t c p at x within outside = ap attributes_of (step_elsewhere t c p at x within outside)
 
 -- ---- lines
 
@@ -120,6 +137,10 @@ lines_elsewhere t (text ∷ texts) p at x within outside = lines_elsewhere (answ
 pub node_at-lines_elsewhere : (t : Tree) (texts : List (List ℕ)) (p : Parameters) (at x : Path) → AllByRecursion (λ text. stays_within at text ≡ true) texts → is_at_or_inside x at ≡ false → node_at (tree_after t texts p) x ≡ node_at t x
 node_at-lines_elsewhere t texts p at x within outside = node_at_from_find (tree_after t texts p) t x (lines_elsewhere t texts p at x within outside)
 
+pub attributes_at-lines_elsewhere : (t : Tree) (texts : List (List ℕ)) (p : Parameters) (at x : Path) → AllByRecursion (λ text. stays_within at text ≡ true) texts → is_at_or_inside x at ≡ false
+    → attributes_at (tree_after t texts p) x ≡ attributes_at t x
+attributes_at-lines_elsewhere t texts p at x within outside = ap attributes_of (lines_elsewhere t texts p at x within outside)
+
 -- ---- what was removed
 
 -- where nothing stands at a path, nothing is found there or below
@@ -128,11 +149,11 @@ none_found t at x h none inside = by_find (find path_cmp x t) (λ is. both_ways 
   where
     found : (t : Tree) (x : Path) → is_some (find path_cmp x t) ≡ true → exists t x ≡ true
     found t [] is = refl
-    found t (n ∷ x) is = is
+    found t (n ∷ x) is = is_some-node_of (find path_cmp (n ∷ x) t) ∙ is
 
-    by_find : (o : Option Node) → (is_some o ≡ true → ⊥) → o ≡ None
+    by_find : (o : Option Entry) → (is_some o ≡ true → ⊥) → o ≡ None
     by_find None never = refl
-    by_find (Some node) never = absurd (never refl)
+    by_find (Some entry) never = absurd (never refl)
 
 -- without a path and all below it nothing is found there
 none_left : (t : Tree) (at x : Path) → is_at_or_inside x at ≡ true → find path_cmp x (without_subtree t at) ≡ None
@@ -141,7 +162,7 @@ none_left t at x inside = find-where_key path_cmp (λ y. not (is_at_or_inside y 
 
 -- behind `prune` nothing is found at the path or below it, whether or not it was refused
 pruned : (t : Tree) (at x : Path) (p : Parameters) → IsTree t → is_root at ≡ false → is_at_or_inside x at ≡ true → find path_cmp x (step t (Prune at) p).tree ≡ None
-unfolding step conditions first_refusal next_tree may_fill
+unfolding step conditions first_refusal next_tree may_fill is_on_attributes
 pruned t at x p h below inside =
     elim (is_root at) as (λ r. is_root at ≡ r → find path_cmp x (step_by t (Prune at) p (cond r (Some refusals.Root) (cond (not (exists t at)) (Some refusals.Missing) None))).tree ≡ None) [
       | true ↦ λ e. absurd (both_ways _ below e)

@@ -9,7 +9,8 @@ use Rattle.store_model.specs.declared.version.Version.TheVariants.{One, Two}
 use Rattle.store_model.specs.Lists.{zeros, zero_filled}
 use Rattle.store_model.specs.Parameters.{Parameters, seed_len, with_version}
 use Rattle.store_model.specs.Paths.{field_limit, key_len}
-use Rattle.store_model.specs.Trees.{Tree, empty_tree}
+use Rattle.store_model.specs.Trees.{Tree, Node, Entry, Attributes, empty_tree}
+use Rattle.store_model.specs.Trees.Node.{Directory}
 use Rattle.store_model.specs.Pairs.{Pair, pairs}
 use Rattle.store_model.specs.Labels.{Label}
 use Rattle.store_model.specs.Labels.Lead.{Start, Leader}
@@ -48,7 +49,14 @@ page_list p script = pages (tree p script) p
 abbrev pub table : Parameters → List ℕ → Table
 table p script = place (draw_of p) (page_list p script)
 
--- a line that writes bytes to a file, from a place on
+-- a node without attributes, and a directory with these
+abbrev pub bare : Node → Entry
+bare node = record { node = node; attributes = [] }
+
+abbrev pub directory_with : Attributes → Entry
+directory_with attributes = record { node = Directory; attributes = attributes }
+
+-- a line with bytes at its end, as one that writes them to a file
 abbrev pub write_line : String → List ℕ → List ℕ
 write_line front bytes = line (codes front ++ encode_lower bytes)
 

@@ -3,7 +3,7 @@ use Rattle.std.specs.Prelude.{ℕ, List, Bool, true, ◌&&◌, Result, Ok, Err}
 use Rattle.store_model.specs.declared.refusal.Refusal.{Refusal}
 use Rattle.store_model.specs.Paths.{Path, is_at_or_inside}
 use Rattle.store_model.specs.Commands.{Command}
-use Rattle.store_model.specs.Commands.Command.{Make, Write, Cut, Rename, Remove, Prune, ListChildren, Read, Space, Digest}
+use Rattle.store_model.specs.Commands.Command.{Make, Write, Cut, Rename, Remove, Prune, ListChildren, Read, Space, Digest, SetAttribute, UnsetAttribute, GetAttribute, ListAttributes}
 use Rattle.store_model.specs.Grammar.{parse}
 
 -- whether each path that the command may change is this one or lies below it; what only reads changes none
@@ -18,6 +18,10 @@ works_within at (ListChildren p) = true
 works_within at (Read p from len) = true
 works_within at Space = true
 works_within at Digest = true
+works_within at (SetAttribute p a bytes) = is_at_or_inside p at
+works_within at (UnsetAttribute p a) = is_at_or_inside p at
+works_within at (GetAttribute p a) = true
+works_within at (ListAttributes p) = true
 
 -- the same of what was read of a line, which asks for nothing where it is refused
 abbrev pub asks_within : Path → Result Command Refusal → Bool

@@ -2,6 +2,7 @@
 //! computing. The values were worked out by hand from the format, or by
 //! another program where SHA-256 gives them; none by this one.
 
+pub mod attributes;
 pub mod draws;
 pub mod edges;
 pub mod formats;

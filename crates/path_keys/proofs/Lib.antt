@@ -5,3 +5,5 @@ pub mod InsideBytes
 pub mod KeyBytes
 pub mod PastBytes
 pub mod ReplantBytes
+pub mod AttributeBytes
+pub mod BelowBytes

@@ -1,14 +1,15 @@
 -- Lemmas on the bytes of names, and on the fields of paths.
-use Rattle.std.proofs.Common.{◌≡◌, ℕ, ◌+◌, ◌-◌, ◌<◌, ◌≤◌, suc, List, [], ◌∷◌, ◌++◌, length, take, drop, get_or, set, refl, sym, ap, ap₂, ◌∙◌, subst, arith, Bool, true, false, cond, eqb, not, ◌&&◌, IsTrue, append_assoc, append-nil, length-append}
+use Rattle.std.proofs.Common.{◌≡◌, ℕ, ◌+◌, ◌-◌, ◌<◌, ◌≤◌, suc, List, [], ◌∷◌, ◌++◌, length, take, drop, get_or, set, refl, sym, ap, ap₂, ◌∙◌, subst, arith, Bool, true, false, cond, eqb, not, ◌&&◌, IsTrue, nat_le, append_assoc, append-nil, length-append}
 use Rattle.std.specs.List.{AllByRecursion, list_all, flat_map, onto_first, slice_split}
-use Rattle.std.proofs.lemmas.List.{take_at, drop_at, length-map, drop-replicate, get_or_default}
+use Rattle.std.proofs.lemmas.List.{take_at, take_all, drop_at, drop_all, drop-append-le, length-map, length-replicate, drop-replicate, get_or_default}
 use Rattle.std.proofs.lemmas.List.Edits.{map_over_more}
 use Rattle.std.proofs.lemmas.List.Splits.{length-slice_split}
 use Rattle.std.proofs.lemmas.Bool.{cond-false, cond-true, ne_eqb, leb-true, le-leb, and_from, eq-eqb, eqb-true, eqb-false}
 use Rattle.std.specs.Int.{w32, to_be_bytes}
 use borrow.Rule.Slice.PartMut.{put_mid}
 use Rattle.store_model.specs.Lists.{zeros, zero_filled, same_bytes}
-use Rattle.store_model.specs.Paths.{Path, is_name, is_name_byte, is_path, is_root, name_bytes, field_len, field, key}
+use Rattle.store_model.specs.Paths.{Path, is_name, is_name_byte, is_path, is_part, is_place, is_root, name_bytes, field_len, field, key}
+use Rattle.store_model.proofs.PathsLemmas.{place_of_path}
 use Rattle.path_keys.specs.Fields.{names_in, IsField, with_zeros}
 
 -- the parts of a test that holds
@@ -29,24 +30,26 @@ abbrev pub AreWords : Path → Type 0
 AreWords [] = Unit {0}
 AreWords (n ∷ p) = IsWord n × AreWords p
 
-name_byte_above_zero : (c : ℕ) → IsTrue (is_name_byte c) → 0 < c
-name_byte_above_zero c h = omega (arith, leb-true 33 c (first_true _ _ (first_true _ _ h)))
-
-bytes_above_zero : (n : List ℕ) → IsTrue (list_all is_name_byte n) → AllByRecursion (λ c. 0 < c) n
+bytes_above_zero : (n : List ℕ) → IsTrue (list_all (λ c. nat_le 1 c && nat_le c 0xff) n) → AllByRecursion (λ c. 0 < c) n
 bytes_above_zero [] h = tt
-bytes_above_zero (c ∷ n) h = (name_byte_above_zero c (first_true _ _ h), bytes_above_zero n (second_true _ _ h))
+bytes_above_zero (c ∷ n) h =
+    (omega (arith, leb-true 1 c (first_true (nat_le 1 c) (nat_le c 0xff) (first_true (nat_le 1 c && nat_le c 0xff) _ h))), bytes_above_zero n (second_true (nat_le 1 c && nat_le c 0xff) _ h))
 
-pub word_from_name : (n : List ℕ) → IsTrue (is_name n) → IsWord n
-word_from_name n h =
-    let front = first_true _ _ (first_true _ _ h) in
-    record { some_byte = leb-true 1 (length n) (first_true _ _ front); bytes = bytes_above_zero n (second_true _ _ front) }
+word_from_part : (n : List ℕ) → IsTrue (is_part n) → IsWord n
+word_from_part n h = record {
+  some_byte = leb-true 1 (length n) (first_true (nat_le 1 (length n)) _ h);
+  bytes = bytes_above_zero n (second_true (nat_le 1 (length n)) _ h);
+}
 
-pub words_from_names : (p : Path) → IsTrue (list_all is_name p) → AreWords p
-words_from_names [] h = tt
-words_from_names (n ∷ p) h = (word_from_name n (first_true _ _ h), words_from_names p (second_true _ _ h))
+words_from_parts : (p : Path) → IsTrue (list_all is_part p) → AreWords p
+words_from_parts [] h = tt
+words_from_parts (n ∷ p) h = (word_from_part n (first_true (is_part n) _ h), words_from_parts p (second_true (is_part n) _ h))
+
+pub words_of_place : (p : Path) → IsTrue (is_place p) → AreWords p
+words_of_place p h = words_from_parts p (first_true (list_all is_part p) _ h)
 
 pub words : (p : Path) → IsTrue (is_path p) → AreWords p
-words p h = words_from_names p (first_true _ _ h)
+words p h = words_of_place p (place_of_path p h)
 
 -- the first name, and the names behind it
 pub name_bytes-cons : (n : List ℕ) (p : Path) → name_bytes (n ∷ p) ≡ n ++ 0 ∷ name_bytes p
@@ -158,43 +161,75 @@ field_written separator xs ys zs h e is =
     ap₂ ◌++◌ (is ∙ ap (with_zeros separator) (take_at ys (drop (length xs) (zeros 120)) (length xs) (ap length e) ∙ e))
     (drop_at ys (drop (length xs) (zeros 120)) (length xs) (ap length e) ∙ drop-replicate (length xs) 120 0 ∙ ap (λ n. zeros (120 - n)) (sym (length-map xs _)))
 
+-- a byte 0 behind the bytes is one of the zeros that fill the field
+pub filled_more : (xs : List ℕ) → length xs < 120 → zero_filled 120 (xs ++ 0 ∷ []) ≡ zero_filled 120 xs
+unfolding zero_filled
+filled_more xs h =
+    let rest : 120 - length xs ≡ suc (120 - length (xs ++ 0 ∷ [])) = omega (arith, length-append xs (0 ∷ [])) in
+    append_assoc xs (0 ∷ []) (zeros (120 - length (xs ++ 0 ∷ []))) ∙ ap (λ k. xs ++ zeros k) (sym rest)
+
 -- names parted by a separator have the field that has a byte 0 for each separator
 pub field-split : (separator : ℕ) (xs : List ℕ) → length xs < 120 → field (slice_split (λ b. eqb b separator) xs) ≡ zero_filled 120 (with_zeros separator xs)
-unfolding field zero_filled
+unfolding field
 field-split separator xs h =
-    let zs = with_zeros separator xs in
-    let n : length zs ≡ length xs = length-map xs _ in
-    let rest : 120 - length zs ≡ suc (120 - length (zs ++ 0 ∷ [])) = omega (arith, n, length-append zs (0 ∷ [])) in
-    ap (λ t. t ++ zeros (120 - length t)) (name_bytes-split separator xs)
-    ∙ append_assoc zs (0 ∷ []) (zeros (120 - length (zs ++ 0 ∷ [])))
-    ∙ ap (λ k. zs ++ zeros k) (sym rest)
+    ap (zero_filled 120) (name_bytes-split separator xs)
+    ∙ filled_more (with_zeros separator xs) (let n : length (with_zeros separator xs) ≡ length xs = length-map xs _ in omega arith)
 
 pub field_len-split : (separator : ℕ) (xs : List ℕ) → field_len (slice_split (λ b. eqb b separator) xs) ≡ length xs + 1
 field_len-split separator xs =
     ap length (name_bytes-split separator xs) ∙ length-append (with_zeros separator xs) (0 ∷ []) ∙ ap (λ n. n + 1) (length-map xs _)
 
+pub path-split : (separator : ℕ) (xs : List ℕ) → list_all is_name (slice_split (λ b. eqb b separator) xs) ≡ true → length xs < 120 → is_path (slice_split (λ b. eqb b separator) xs) ≡ true
+path-split separator xs names h = and_from _ _ names (le-leb _ 120 (omega (arith, field_len-split separator xs, h)))
+
 pub is_field-split : (bytes : List ℕ) (separator : ℕ) (xs : List ℕ) → bytes ≡ zero_filled 120 (with_zeros separator xs)
     → list_all is_name (slice_split (λ b. eqb b separator) xs) ≡ true → length xs < 120 → IsField bytes (length xs + 1) (slice_split (λ b. eqb b separator) xs)
 is_field-split bytes separator xs e names h =
     record {
-      path = and_from _ _ names (le-leb _ 120 (omega (arith, field_len-split separator xs, h)));
+      path = path-split separator xs names h;
       bytes_are = e ∙ sym (field-split separator xs h);
       len_is = sym (field_len-split separator xs);
     }
+
+-- the bytes of a key
+pub key_is : (p : Path) (block : ℕ) → key p block ≡ zero_filled 120 (name_bytes p) ++ to_be_bytes w32 block
+unfolding key field
+key_is p block = refl
+
+-- a key is its field and the block number that is written behind it
+pub number_written : (bytes ys xs back : List ℕ) (block : ℕ) (p : Path) → bytes ≡ xs ++ back → xs ≡ field p → length xs ≡ 120 → length back ≡ 4
+    → ys ≡ to_be_bytes w32 block ++ drop 4 (take 4 (drop 120 bytes)) → put_mid 120 4 bytes ys ≡ key p block
+unfolding key
+number_written bytes ys xs back block p parts same long four written =
+    let zs = to_be_bytes w32 block in
+    let last : drop 120 bytes ≡ back = ap (drop 120) parts ∙ drop_at xs back 120 long in
+    let none : drop 4 back ≡ [] = drop_all 4 back (omega arith) in
+    let rest : drop 4 (take 4 (drop 120 bytes)) ≡ [] = ap (λ t. drop 4 (take 4 t)) last ∙ ap (drop 4) (take_all 4 back (omega arith)) ∙ none in
+    let behind : drop 4 (drop 120 bytes) ≡ [] = ap (drop 4) last ∙ none in
+    ap₂ ◌++◌ (ap (take 120) parts ∙ take_at xs back 120 long ∙ same)
+    (ap₂ ◌++◌ (written ∙ ap (λ t. zs ++ t) rest ∙ append-nil zs) behind ∙ append-nil zs)
 
 -- what a key is written from
 pub key_written : (xs bytes ys : List ℕ) (block : ℕ) (p : Path) → xs ≡ bytes → length bytes ≡ 120
     → ys ≡ to_be_bytes w32 block ++ drop 4 (take 4 (drop 120 (xs ++ 0 ∷ 0 ∷ 0 ∷ 0 ∷ []))) → {len : ℕ} → IsField bytes len p
     → put_mid 120 4 (xs ++ 0 ∷ 0 ∷ 0 ∷ 0 ∷ []) ys ≡ key p block
-unfolding key
 key_written xs bytes ys block p e n written h =
-    let zs = to_be_bytes w32 block in
-    let m : length xs ≡ 120 = ap length e ∙ n in
-    let rest : drop 4 (take 4 (drop 120 (xs ++ 0 ∷ 0 ∷ 0 ∷ 0 ∷ []))) ≡ [] = ap (λ t. drop 4 (take 4 t)) (drop_at xs (0 ∷ 0 ∷ 0 ∷ 0 ∷ []) 120 m) in
-    let behind : drop 4 (drop 120 (xs ++ 0 ∷ 0 ∷ 0 ∷ 0 ∷ [])) ≡ [] = ap (drop 4) (drop_at xs (0 ∷ 0 ∷ 0 ∷ 0 ∷ []) 120 m) in
-    ap₂ ◌++◌ (take_at xs (0 ∷ 0 ∷ 0 ∷ 0 ∷ []) 120 m)
-    (ap₂ ◌++◌ (written ∙ ap (λ t. zs ++ t) rest ∙ append-nil zs) behind ∙ append-nil zs)
-    ∙ ap (λ t. t ++ zs) (e ∙ h.bytes_are)
+    number_written (xs ++ 0 ∷ 0 ∷ 0 ∷ 0 ∷ []) ys xs (0 ∷ 0 ∷ 0 ∷ 0 ∷ []) block p refl (e ∙ h.bytes_are) (ap length e ∙ n) refl written
+
+-- what is written behind the bytes of a field, over the zeros that fill it
+pub written_behind : (front xs back bytes copied : List ℕ) (start count : ℕ) → bytes ≡ zero_filled 120 front ++ back → copied ≡ xs → start ≡ length front → count ≡ length xs
+    → length front + length xs ≤ 120 → put_mid start count bytes copied ≡ zero_filled 120 (front ++ xs) ++ back
+unfolding zero_filled
+written_behind front xs back bytes copied start count e same at many fits =
+    let free = zeros (120 - length front) in
+    let split : bytes ≡ front ++ (free ++ back) = e ∙ append_assoc front free back in
+    let width : length free ≡ 120 - length front = length-replicate (120 - length front) 0 in
+    let left : 120 - length front - count ≡ 120 - length (front ++ xs) = omega (arith, length-append front xs) in
+    let rest : drop count (drop start bytes) ≡ zeros (120 - length (front ++ xs)) ++ back =
+    ap (drop count) (ap (drop start) split ∙ drop_at front (free ++ back) start (sym at)) ∙ drop-append-le count free back (omega arith)
+    ∙ ap (λ t. t ++ back) (drop-replicate count (120 - length front) 0 ∙ ap zeros left) in
+    ap₂ ◌++◌ (ap (take start) split ∙ take_at front (free ++ back) start (sym at)) (ap₂ ◌++◌ same rest)
+    ∙ sym (append_assoc front xs (zeros (120 - length (front ++ xs)) ++ back)) ∙ sym (append_assoc (front ++ xs) (zeros (120 - length (front ++ xs))) back)
 
 -- the tests of a name, where all but the last hold
 pub name_test : (n : List ℕ) (r : Bool) → eqb (length n) 0 ≡ false → list_all is_name_byte n ≡ true → not (same_bytes n (46 ∷ [])) ≡ true

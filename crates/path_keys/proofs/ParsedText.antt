@@ -1,15 +1,15 @@
 -- Lemmas on what is read from a text.
 use Rattle.std.proofs.Common.{◌≡◌, ℕ, ◌<◌, ◌≤◌, List, [], ◌∷◌, length, refl, sym, ap, ◌∙◌, subst, arith, false, eqb, IsTrue, Some, None, Result, Ok, Err, IfOk, IfSome, IsSome, IsErrOf}
 use Rattle.std.specs.List.{list_all}
-use Rattle.std.proofs.lemmas.Bool.{cond-false, cond-true, le-leb, lt-leb, ne_eqb, and_from}
+use Rattle.std.proofs.lemmas.Bool.{cond-false, cond-true, lt-leb, ne_eqb}
 use Rattle.store_model.specs.Paths.{Path, is_name, is_path, fits_field, field_limit}
 use Rattle.store_model.specs.Grammar.{path_of, names_of}
 use Rattle.path_keys.specs.declared.paths.PathFault.{PathFault}
 use Rattle.path_keys.specs.declared.paths.PathFault.TheVariants.{Syntax, TooLong}
 use Rattle.path_keys.specs.Reading.{parts_of, IsOfNames}
-use Rattle.path_keys.proofs.NameBytes.{field_len-split, root_field}
+use Rattle.path_keys.proofs.NameBytes.{field_len-split, path-split, root_field}
 
-path_of-names : (rest : List ℕ) → 1 ≤ length rest → path_of (47 ∷ rest) ≡ names_of (parts_of rest)
+path_of-names : (rest : List ℕ) → 1 ≤ length rest → path_of (47 ∷ rest) ≡ names_of (parts_of 47 rest)
 unfolding path_of
 path_of-names [] h = absurd (omega arith)
 path_of-names (e ∷ more) h = refl
@@ -33,21 +33,21 @@ IsParsed text (Ok p) = (path_of text ≡ Some p) × IsTrue (is_path p) × (lengt
 IsParsed text (Err Syntax) = path_of text ≡ None
 IsParsed text (Err TooLong) = (p : Path) × (path_of text ≡ Some p) × (fits_field p ≡ false) × (field_limit < length text)
 
-parsed_after_slash : (rest : List ℕ) (r : Result Path PathFault) → 1 ≤ length rest → IsOfNames rest r → IsParsed (47 ∷ rest) r
+parsed_after_slash : (rest : List ℕ) (r : Result Path PathFault) → 1 ≤ length rest → IsOfNames 47 rest r → IsParsed (47 ∷ rest) r
 parsed_after_slash rest (Ok p) h of = (
-  path_of-names rest h ∙ cond-true (list_all is_name (parts_of rest)) _ _ of.0 ∙ ap Some (sym of.2),
-  subst (λ q. IsTrue (is_path q)) (sym of.2) (and_from _ _ of.0 (le-leb _ 120 (omega (arith, field_len-split 47 rest, of.1)))),
+  path_of-names rest h ∙ cond-true (list_all is_name (parts_of 47 rest)) _ _ of.0 ∙ ap Some (sym of.2),
+  subst (λ q. IsTrue (is_path q)) (sym of.2) (path-split 47 rest of.0 of.1),
   omega (arith, of.1),
 )
-parsed_after_slash rest (Err Syntax) h of = path_of-names rest h ∙ cond-false (list_all is_name (parts_of rest)) _ _ of
+parsed_after_slash rest (Err Syntax) h of = path_of-names rest h ∙ cond-false (list_all is_name (parts_of 47 rest)) _ _ of
 parsed_after_slash rest (Err TooLong) h of = (
-  parts_of rest,
-  path_of-names rest h ∙ cond-true (list_all is_name (parts_of rest)) _ _ of.0,
+  parts_of 47 rest,
+  path_of-names rest h ∙ cond-true (list_all is_name (parts_of 47 rest)) _ _ of.0,
   lt-leb _ 120 (omega (arith, field_len-split 47 rest, of.1)),
   omega (arith, of.1),
 )
 
-pub parsed_names : (text : List ℕ) (c : ℕ) (rest : List ℕ) (r : Result Path PathFault) → text ≡ c ∷ rest → c ≡ 47 → 1 ≤ length rest → IsOfNames rest r → IsParsed text r
+pub parsed_names : (text : List ℕ) (c : ℕ) (rest : List ℕ) (r : Result Path PathFault) → text ≡ c ∷ rest → c ≡ 47 → 1 ≤ length rest → IsOfNames 47 rest r → IsParsed text r
 parsed_names text c rest r e slash h of =
     subst (λ t. IsParsed t r) (sym (e ∙ ap (λ b. b ∷ rest) slash)) (parsed_after_slash rest r h of)
 

@@ -1,5 +1,5 @@
 -- Lemmas on the parent and the last name of a path, in its bytes.
-use Rattle.std.proofs.Common.{◌≡◌, ℕ, ◌+◌, ◌-◌, ◌<◌, ◌≤◌, List, [], ◌∷◌, ◌++◌, length, take, drop, get_or, refl, sym, ap, ap₂, ◌∙◌, subst, arith, true, false, append_assoc, append-nil, length-append, ⊎_elim}
+use Rattle.std.proofs.Common.{◌≡◌, ℕ, ◌+◌, ◌-◌, ◌<◌, ◌≤◌, List, [], ◌∷◌, ◌++◌, length, take, drop, get_or, refl, sym, ap, ap₂, ◌∙◌, subst, arith, Bool, true, false, append_assoc, append-nil, length-append, ⊎_elim}
 use Rattle.std.specs.List.{list_all, concat}
 use Rattle.std.proofs.lemmas.List.{take_at, drop_at, take-append-drop, drop_more, drop_all, get_or_at, get_or_append_left, get_or-append_right, drop-replicate}
 use Rattle.std.proofs.lemmas.List.Elements.{All-from_recursion}
@@ -36,6 +36,15 @@ words_of_parts (n ∷ q) r h = let rest = words_of_parts q r h.1 in ((h.0, rest.
 
 pub last_word : (p : Path) → AreWords p → is_root p ≡ false → IsWord (last_name p)
 last_word p h other = (words_of_parts (parent p) (last_name p ∷ []) (subst AreWords (last_split p other) h)).1.0
+
+-- what holds of the parts of a path, of those behind others and of both
+pub all_behind : (test : List ℕ → Bool) (q r : Path) → list_all test (q ++ r) ≡ true → list_all test r ≡ true
+all_behind test [] r h = h
+all_behind test (n ∷ q) r h = all_behind test q r (second_true (test n) _ h)
+
+pub all_of_both : (test : List ℕ → Bool) (q r : Path) → list_all test q ≡ true → list_all test r ≡ true → list_all test (q ++ r) ≡ true
+all_of_both test [] r hq hr = hr
+all_of_both test (n ∷ q) r hq hr = and_from (test n) _ (first_true (test n) _ hq) (all_of_both test q r (second_true (test n) _ hq) hr)
 
 names_of_front : (q r : Path) → list_all is_name (q ++ r) ≡ true → list_all is_name q ≡ true
 names_of_front [] r h = refl
@@ -78,30 +87,41 @@ name_start_is p r h other front within behind =
     o)
     (cases_order r (length a))
 
--- the field of a path other than the root
+-- the field of what is not the root
+pub field_parts : (p : Path) → is_root p ≡ false → field p ≡ name_bytes (parent p) ++ (last_name p ++ 0 ∷ zeros (120 - field_len p))
+unfolding field zero_filled
+field_parts p other =
+    let fill = zeros (120 - field_len p) in
+    ap (λ t. t ++ fill) (bytes_split p other)
+    ∙ append_assoc (name_bytes (parent p)) (last_name p ++ 0 ∷ []) fill
+    ∙ ap (λ t. name_bytes (parent p) ++ t) (append_assoc (last_name p) (0 ∷ []) fill)
+
+pub len_parts : (p : Path) → is_root p ≡ false → field_len p ≡ length (name_bytes (parent p)) + length (last_name p) + 1
+len_parts p other =
+    ap length (bytes_split p other) ∙ omega (arith, length-append (name_bytes (parent p)) (last_name p ++ 0 ∷ []), length-append (last_name p) (0 ∷ []))
+
 pub field_split : (bytes : List ℕ) (len : ℕ) (p : Path) → IsField bytes len p → is_root p ≡ false
     → bytes ≡ name_bytes (parent p) ++ (last_name p ++ 0 ∷ zeros (120 - len))
-unfolding field zero_filled
 field_split bytes len p h other =
-    h.bytes_are ∙ ap₂ (λ t n. t ++ zeros (120 - n)) (bytes_split p other) (sym h.len_is)
-    ∙ append_assoc (name_bytes (parent p)) (last_name p ++ 0 ∷ []) (zeros (120 - len))
-    ∙ ap (λ t. name_bytes (parent p) ++ t) (append_assoc (last_name p) (0 ∷ []) (zeros (120 - len)))
+    h.bytes_are ∙ field_parts p other ∙ ap (λ n. name_bytes (parent p) ++ (last_name p ++ 0 ∷ zeros (120 - n))) (sym h.len_is)
 
 pub len_split : (bytes : List ℕ) (len : ℕ) (p : Path) → IsField bytes len p → is_root p ≡ false
     → len ≡ length (name_bytes (parent p)) + length (last_name p) + 1
-len_split bytes len p h other =
-    h.len_is ∙ ap length (bytes_split p other) ∙ omega (arith, length-append (name_bytes (parent p)) (last_name p ++ 0 ∷ []), length-append (last_name p) (0 ∷ []))
+len_split bytes len p h other = h.len_is ∙ len_parts p other
 
 pub len_above_zero : (bytes : List ℕ) (len : ℕ) (p : Path) → IsField bytes len p → is_root p ≡ false → 1 ≤ len
 len_above_zero bytes len p h other = omega (arith, len_split bytes len p h other)
 
 -- the bytes in front of the last byte 0 of the names
-pub front_is : (bytes : List ℕ) (len : ℕ) (p : Path) → IsField bytes len p → is_root p ≡ false → take (len - 1) bytes ≡ name_bytes (parent p) ++ last_name p
-front_is bytes len p h other =
+pub front_parts : (p : Path) (count : ℕ) → is_root p ≡ false → count + 1 ≡ field_len p → take count (field p) ≡ name_bytes (parent p) ++ last_name p
+front_parts p count other e =
     let a = name_bytes (parent p) in
     let n = last_name p in
-    ap (take (len - 1)) (field_split bytes len p h other ∙ sym (append_assoc a n (0 ∷ zeros (120 - len))))
-    ∙ take_at (a ++ n) (0 ∷ zeros (120 - len)) (len - 1) (omega (arith, len_split bytes len p h other, length-append a n))
+    ap (take count) (field_parts p other ∙ sym (append_assoc a n (0 ∷ zeros (120 - field_len p))))
+    ∙ take_at (a ++ n) (0 ∷ zeros (120 - field_len p)) count (omega (arith, len_parts p other, length-append a n))
+
+pub front_is : (bytes : List ℕ) (len : ℕ) (p : Path) → IsField bytes len p → is_root p ≡ false → take (len - 1) bytes ≡ name_bytes (parent p) ++ last_name p
+front_is bytes len p h other = ap (take (len - 1)) h.bytes_are ∙ front_parts p (len - 1) other (omega (arith, len_split bytes len p h other, h.len_is))
 
 -- where the last name begins, and what it is
 pub start_found : (bytes : List ℕ) (len : ℕ) (p : Path) (r : ℕ) → IsField bytes len p → is_root p ≡ false

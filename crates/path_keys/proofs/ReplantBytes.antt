@@ -1,80 +1,66 @@
--- Lemmas on paths whose subtree has moved, and on equal paths.
-use Rattle.std.proofs.Common.{◌≡◌, ℕ, ◌+◌, ◌-◌, ◌<◌, ◌≤◌, List, [], ◌∷◌, ◌++◌, length, drop, refl, sym, ap, ap₂, ◌∙◌, subst, arith, Bool, true, false, append_assoc, length-append, nat_eq}
+-- Lemmas on places whose subtree has moved, and on equal paths.
+use Rattle.std.proofs.Common.{◌≡◌, ℕ, ◌+◌, ◌<◌, ◌≤◌, List, ◌++◌, length, drop, refl, sym, ap, ap₂, ◌∙◌, subst, arith, Bool, true, false, IsTrue, length-append, nat_eq}
 use Rattle.std.specs.List.{list_all}
 use Rattle.std.specs.Bool.{Decides}
 use Rattle.std.specs.Cmp.Lexicographic.{pointwise}
-use Rattle.std.proofs.lemmas.List.{drop_at, drop-replicate}
+use Rattle.std.specs.Int.{w32, to_be_bytes}
+use Rattle.std.proofs.lemmas.List.{append_cancel_left}
 use Rattle.std.proofs.lemmas.Slice.Eq.{bytes_eq-Decides, slice_eq-Decides}
 use Rattle.std.proofs.lemmas.Bool.{and_from, le-leb, lt-leb}
 use Rattle.std.proofs.lemmas.Bool.Decides.{same_from_decides}
-use borrow.Rule.Slice.PartMut.{put_mid}
-use Rattle.store_model.specs.Lists.{zeros, zero_filled, same_bytes}
-use Rattle.store_model.specs.Paths.{Path, is_name, is_path, fits_field, name_bytes, field_len, field, replanted, is_at_or_inside}
+use Rattle.store_model.specs.Lists.{zero_filled, same_bytes}
+use Rattle.store_model.specs.Paths.{Path, is_path, is_part, is_place, fits_field, name_bytes, field_len, field, key, replanted, is_at_or_inside}
+use Rattle.store_model.proofs.PathsLemmas.{place_of_path}
 use Rattle.path_keys.specs.Fields.{IsField}
-use Rattle.path_keys.proofs.NameBytes.{name_bytes-append, names_shown, first_true, second_true}
+use Rattle.path_keys.proofs.NameBytes.{name_bytes-append, first_true}
+use Rattle.path_keys.proofs.PathBytes.{all_behind, all_of_both}
 use Rattle.path_keys.proofs.PastBytes.{at_or_inside_split}
-use Rattle.path_keys.proofs.KeyBytes.{same_path_from_field}
+use Rattle.path_keys.proofs.KeyBytes.{same_path_from_field, field_read}
 
--- the bytes of a path and of what lies below it
+-- the bytes of a path and of what stands below it
 pub bytes_of_below : (p old : Path) → is_at_or_inside p old ≡ true → name_bytes p ≡ name_bytes old ++ name_bytes (drop (length old) p)
 bytes_of_below p old h = ap name_bytes (at_or_inside_split p old h) ∙ name_bytes-append old (drop (length old) p)
 
-pub old_within : (p old : Path) → is_at_or_inside p old ≡ true → field_len old ≤ field_len p
-old_within p old h = omega (arith, ap length (bytes_of_below p old h), length-append (name_bytes old) (name_bytes (drop (length old) p)))
+-- what stands behind the old path in the field of a key
+pub below_found : (bytes front back shown ahead below : List ℕ) (p old : Path) (block : ℕ) → bytes ≡ front ++ back → length front ≡ 120 → is_place p ≡ true → bytes ≡ key p block
+    → (IsTrue (is_place p) → front ≡ field p → shown ≡ name_bytes p) → ahead ≡ name_bytes old → shown ≡ ahead ++ below → name_bytes p ≡ name_bytes old ++ below
+below_found bytes front back shown ahead below p old block parts long valid e names first stripped =
+    sym (names valid (field_read bytes front back p block parts long valid e)) ∙ stripped ∙ ap (λ t. t ++ below) first
 
-pub bytes_replanted : (p old new : Path) (below : List ℕ) → is_at_or_inside p old ≡ true → below ≡ drop (field_len old) (name_bytes p)
+-- the bytes of the new place: what stood behind the old path stands behind the new one
+pub bytes_replanted : (p old new : Path) (below : List ℕ) → is_at_or_inside p old ≡ true → name_bytes p ≡ name_bytes old ++ below
     → name_bytes (replanted old new p) ≡ name_bytes new ++ below
 unfolding replanted
 bytes_replanted p old new below h e =
     let rest = name_bytes (drop (length old) p) in
     name_bytes-append new (drop (length old) p)
-    ∙ ap (λ t. name_bytes new ++ t) (sym (e ∙ ap (drop (field_len old)) (bytes_of_below p old h) ∙ drop_at (name_bytes old) rest (field_len old) refl))
+    ∙ ap (λ t. name_bytes new ++ t) (append_cancel_left (name_bytes old) rest below (sym (bytes_of_below p old h) ∙ e))
 
-pub len_replanted : (p old new : Path) (new_len : ℕ) (below : List ℕ) → is_at_or_inside p old ≡ true → below ≡ drop (field_len old) (name_bytes p) → new_len ≡ field_len new
-    → field_len (replanted old new p) ≡ new_len + length below
-len_replanted p old new new_len below h e len = ap length (bytes_replanted p old new below h e) ∙ omega (arith, length-append (name_bytes new) below)
+pub len_replanted : (p old new : Path) (below : List ℕ) → is_at_or_inside p old ≡ true → name_bytes p ≡ name_bytes old ++ below
+    → field_len (replanted old new p) ≡ field_len new + length below
+len_replanted p old new below h e = ap length (bytes_replanted p old new below h e) ∙ length-append (name_bytes new) below
 
-pub outgrown : (p old new : Path) (new_len : ℕ) (below : List ℕ) → is_at_or_inside p old ≡ true → below ≡ drop (field_len old) (name_bytes p) → new_len ≡ field_len new
-    → 120 < new_len + length below → fits_field (replanted old new p) ≡ false
-outgrown p old new new_len below h e len more = lt-leb _ 120 (omega (arith, len_replanted p old new new_len below h e len))
+pub outgrown : (p old new : Path) (below : List ℕ) → is_at_or_inside p old ≡ true → name_bytes p ≡ name_bytes old ++ below
+    → 120 < field_len new + length below → fits_field (replanted old new p) ≡ false
+outgrown p old new below h e more = lt-leb _ 120 (omega (arith, len_replanted p old new below h e))
 
-names_of_back : (q r : Path) → list_all is_name (q ++ r) ≡ true → list_all is_name r ≡ true
-names_of_back [] r h = h
-names_of_back (n ∷ q) r h = names_of_back q r (second_true _ _ h)
+pub still_fits : (p old new : Path) (below : List ℕ) → is_at_or_inside p old ≡ true → name_bytes p ≡ name_bytes old ++ below
+    → field_len new + length below ≤ 120 → fits_field (replanted old new p) ≡ true
+still_fits p old new below h e fits = le-leb _ 120 (omega (arith, len_replanted p old new below h e))
 
-names_of_both : (q r : Path) → list_all is_name q ≡ true → list_all is_name r ≡ true → list_all is_name (q ++ r) ≡ true
-names_of_both [] r hq hr = hr
-names_of_both (n ∷ q) r hq hr = and_from _ _ (first_true _ _ hq) (names_of_both q r (second_true _ _ hq) hr)
+pub key_replanted : (p old new : Path) (below written : List ℕ) (n block : ℕ) → is_at_or_inside p old ≡ true → name_bytes p ≡ name_bytes old ++ below → n ≡ block
+    → written ≡ zero_filled 120 (name_bytes new ++ below) ++ to_be_bytes w32 n → written ≡ key (replanted old new p) block
+unfolding key field
+key_replanted p old new below written n block h e same is =
+    is ∙ ap₂ (λ t k. zero_filled 120 t ++ to_be_bytes w32 k) (sym (bytes_replanted p old new below h e)) same
 
-names_replanted : (p old new : Path) → is_at_or_inside p old ≡ true → is_path p ≡ true → is_path new ≡ true → list_all is_name (replanted old new p) ≡ true
+-- what is moved from a place to a path stands at a place again, where the field has room
+pub place_replanted : (p old new : Path) → is_at_or_inside p old ≡ true → is_place p ≡ true → is_path new ≡ true → fits_field (replanted old new p) ≡ true → is_place (replanted old new p) ≡ true
 unfolding replanted
-names_replanted p old new h hp hn =
-    names_of_both new (drop (length old) p) (first_true _ _ hn)
-    (names_of_back old (drop (length old) p) (subst (λ t. list_all is_name t ≡ true) (at_or_inside_split p old h) (first_true _ _ hp)))
-
--- the field of a path in its new place
-pub replanted_field : (p old new : Path) (new_len : ℕ) (below bytes copy : List ℕ) → is_at_or_inside p old ≡ true → is_path p ≡ true
-    → IsField bytes new_len new → below ≡ drop (field_len old) (name_bytes p) → copy ≡ below → new_len + length below ≤ 120
-    → IsField (put_mid new_len (new_len + length below - new_len) bytes copy) (new_len + length below) (replanted old new p)
-unfolding field zero_filled
-replanted_field p old new new_len below bytes copy h hp hn e copied fits =
-    let n = new_len + length below in
-    let all = bytes_replanted p old new below h e in
-    let sum : field_len (replanted old new p) ≡ n = len_replanted p old new new_len below h e hn.len_is in
-    let past_names : drop new_len bytes ≡ zeros (120 - field_len new) = ap₂ drop hn.len_is hn.bytes_are ∙ drop_at (name_bytes new) (zeros (120 - field_len new)) (field_len new) refl in
-    let behind : drop (n - new_len) (drop new_len bytes) ≡ zeros (120 - n) =
-    ap₂ drop (omega arith) past_names ∙ drop-replicate (length below) (120 - field_len new) 0 ∙ ap zeros (omega (arith, hn.len_is)) in
-    record {
-      path = and_from _ _ (names_replanted p old new h hp hn.path) (le-leb _ 120 (omega arith));
-      bytes_are =
-          ap₂ ◌++◌ (names_shown bytes new_len new hn) (ap₂ ◌++◌ copied behind)
-          ∙ sym (append_assoc (name_bytes new) below (zeros (120 - n)))
-          ∙ ap₂ (λ t k. t ++ zeros (120 - k)) (sym all) (sym sum);
-      len_is = sym sum;
-    }
-
-pub fits_from_field : (bytes : List ℕ) (len : ℕ) (p : Path) → IsField bytes len p → fits_field p ≡ true
-fits_from_field bytes len p h = second_true (list_all is_name p) _ h.path
+place_replanted p old new h hp hn fits =
+    and_from (list_all is_part (replanted old new p)) _
+    (all_of_both is_part new (drop (length old) p) (first_true (list_all is_part new) _ (place_of_path new hn))
+    (all_behind is_part old (drop (length old) p) (subst (λ t. list_all is_part t ≡ true) (at_or_inside_split p old h) (first_true (list_all is_part p) _ hp)))) fits
 
 -- paths are equal where their fields are
 pub same_field : (bytes others : List ℕ) (len other_len : ℕ) (p q : Path) → IsField bytes len p → IsField others other_len q → Decides (same_bytes bytes others) (p ≡ q)

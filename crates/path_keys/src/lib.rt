@@ -1,7 +1,11 @@
-//! Paths, and the keys that pairs have in the list: the bytes of a key are in the order of paths.
+//! Paths and their attributes, and the keys that pairs have in the list: the bytes of a key are in the order of paths.
 #![tactic(auto)]
 
+mod attributes;
 mod names;
 mod paths;
+mod places;
 
+pub use attributes::{AttrName, attr_key, of_attr_key};
 pub use paths::{Path, PathFault};
+pub use places::{last_at, replant};

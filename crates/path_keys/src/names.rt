@@ -9,6 +9,9 @@ ghost use Rattle.path_keys.specs.Fields.{with_zeros};
 /// The bytes of a path's field in a key.
 pub const FIELD_LEN: usize = 120;
 
+/// The byte that stands in a field between a path and the name of its attribute. It is below each byte of a name.
+pub const MARK: u8 = 1;
+
 /// Whether a byte may stand in a name: printable ASCII other than the space and `/`.
 fn is_name_byte(byte: u8) -> bool
     ensures { result ≡ model.is_name_byte byte }
@@ -17,7 +20,7 @@ fn is_name_byte(byte: u8) -> bool
 }
 
 /// Whether the bytes are a name.
-fn is_name(bytes: &[u8]) -> bool
+pub fn is_name(bytes: &[u8]) -> bool
     ensures { result ≡ model.is_name bytes.now }
 {
     !bytes.is_empty()

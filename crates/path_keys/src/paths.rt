@@ -1,17 +1,19 @@
 //! Paths, held as the fields of keys.
 
-ghost use Rattle.std.specs.Prelude.{◌≡◌, ◌<◌, ◌-◌, ◌^◌, ◌↔◌, ℕ, [], length, take, drop, slice_set, false, nat_eq, Some, None, IfOk, IfSome, IfNone, IsErrOf, IsSome, IsNone, IsTrue};
+ghost use Rattle.std.specs.Prelude.{◌≡◌, ◌<◌, ◌≤◌, ◌+◌, ◌-◌, ◌^◌, ◌↔◌, ℕ, [], ◌++◌, length, take, slice_set, true, false, nat_eq, Some, None, IfOk, IfSome, IfNone, IsErrOf, IsSome, IsNone, IsTrue};
 ghost use Rattle.std.specs.Cmp.{partial_equiv_from_equiv};
 ghost use Rattle.std.proofs.Common.{refl};
 ghost use Rattle.std.specs.Cmp.Lexicographic.{pointwise, lists_equiv, lists_total, nat_list_eq_equiv, nat_list_cmp_total};
 ghost use Rattle.path_keys.specs.PathOrder.{paths_po, paths_ties};
 ghost use Rattle.std.specs.Int.{w32, to_be_bytes};
 ghost use Rattle.std.specs.declared.cmp.Ordering.TheVariants.{Less};
+ghost use Rattle.std.specs.Ordering.{is_le};
+ghost use Rattle.store_model.specs.Lists.{zero_filled};
 ghost use Rattle.store_model.specs.Paths as model;
 ghost use Rattle.store_model.specs.Grammar.{path_of};
 ghost use Rattle.store_base.specs.Keys.{IsKey};
 
-use crate::names::{FIELD_LEN, are_names, field_of_names, last_start, used_len};
+use crate::names::{FIELD_LEN, MARK, are_names, field_of_names, last_start, used_len};
 use byteorder::{BigEndian, ByteOrder};
 use std::cmp::Ordering;
 use std::marker::Model;
@@ -93,21 +95,21 @@ impl Path {
         if names.is_empty() {
             return Ok(Path::root());
         }
-        Path::of_names(names)
+        Path::of_names(names, b'/')
     }
 
-    /// The path of one or more names that are parted by `/`.
-    fn of_names(text: &[u8]) -> Result<Path, PathFault>
-        ensures { IsOfNames text.now result }
+    /// The path of one or more names that are parted by the separator.
+    pub(crate) fn of_names(text: &[u8], separator: u8) -> Result<Path, PathFault>
+        ensures { IsOfNames separator text.now result }
     {
-        if !are_names(text, b'/') {
+        if !are_names(text, separator) {
             return Err(PathFault::Syntax);
         }
         if text.len() >= FIELD_LEN {
             return Err(PathFault::TooLong);
         }
         Ok(Path {
-            bytes: field_of_names(text, b'/'),
+            bytes: field_of_names(text, separator),
             len: text.len() as u8 + 1,
         })
     }
@@ -121,6 +123,18 @@ impl Path {
         let mut bytes = [0; 124];
         bytes[..FIELD_LEN].copy_from_slice(&self.bytes);
         BigEndian::write_u32(&mut bytes[FIELD_LEN..], block);
+        Key::new(bytes)
+    }
+
+    /// The key whose field has these bytes behind the path's names, and zeros behind them.
+    pub(crate) fn key_behind(&self, behind: &[u8], block: u32) -> Key
+        requires { model.field_len self.now + length behind.now ≤ FIELD_LEN }
+        ensures value { result ≡ zero_filled FIELD_LEN (model.name_bytes self.now ++ behind.now) ++ to_be_bytes w32 block }
+        ensures valid { IsKey result }
+    {
+        let start = self.len as usize;
+        let mut bytes = *self.key(block).as_bytes();
+        bytes[start..start + behind.len()].copy_from_slice(behind);
         Key::new(bytes)
     }
 
@@ -158,21 +172,11 @@ impl Path {
     }
 
     /// The names, each with a byte 0 behind it.
-    fn names(&self) -> &[u8]
+    pub(crate) fn names(&self) -> &[u8]
         ensures value { result.now ≡ model.name_bytes self.now }
         ensures valid { IsTrue (model.is_path self.now) }
     {
         &self.bytes[..self.len as usize]
-    }
-
-    /// The names behind those of the path at which or below which it lies.
-    fn names_below(&self, above: &Path) -> &[u8]
-        requires { IsTrue (model.is_at_or_inside self.now above.now) }
-        ensures value { result.now ≡ drop (model.field_len above.now) (model.name_bytes self.now) }
-        ensures valid { IsTrue (model.is_path self.now) }
-    {
-        let (_, below) = self.names().split_at(above.len as usize);
-        below
     }
 
     /// Where the last name begins in the field.
@@ -217,39 +221,47 @@ impl Path {
         ensures valid { IsKey result }
         ensures path { IsTrue (model.is_path self.now) }
 
-        // It stands behind the keys of the subtree.
-        ensures above { (q : model.Path) (block : ℕ) → IsTrue (model.is_path q) → IsTrue (model.is_at_or_inside q self.now)
+        // It stands behind the keys of the subtree, attributes among them.
+        ensures above { (q : model.Path) (block : ℕ) → IsTrue (model.is_place q) → IsTrue (model.is_at_or_inside q self.now)
             → model.key_cmp (model.key q block) result ≡ Less }
 
-        // And it stands before the keys of each path behind this one that is not in the subtree.
+        // And it stands before the keys of each path behind this one that is not in the subtree,
         ensures below { (q : model.Path) (block : ℕ) → IsTrue (model.is_path q) → model.is_at_or_inside q self.now ≡ false
             → model.path_cmp self.now q ≡ Less → model.key_cmp result (model.key q block) ≡ Less }
+
+        // and not behind those of each such place.
+        ensures not_above { (q : model.Path) (block : ℕ) → IsTrue (model.is_place q) → model.is_at_or_inside q self.now ≡ false
+            → model.path_cmp self.now q ≡ Less → is_le (model.key_cmp result (model.key q block)) ≡ true }
     {
         let mut bytes = *self.key(0).as_bytes();
         bytes[self.len as usize - 1] = 1;
         Key::new(bytes)
     }
 
-    /// This path, which is the old one or lies below it, with the new one in the old one's place; nothing
-    /// where that has a field of more than 120 bytes.
-    pub fn replant(&self, old: &Path, new: &Path) -> Option<Path>
-        requires { IsTrue (model.is_at_or_inside self.now old.now) }
-        ensures value { IfSome result (λ p. p ≡ model.replanted old.now new.now self.now) }
-        ensures valid { IfSome result (λ p. IsTrue (model.is_path p)) }
-        ensures none { IsNone result ↔ (model.fits_field (model.replanted old.now new.now self.now) ≡ false) }
+    /// A key above those of this path and of its attributes, and above no key of a path below it.
+    pub fn below(&self) -> Key
+        ensures valid { IsKey result }
+        ensures path { IsTrue (model.is_path self.now) }
+
+        // It stands behind the path's blocks, but for the last one that there could be,
+        ensures blocks { (block : ℕ) → block < 2 ^ 32 - 1 → model.key_cmp (model.key self.now block) result ≡ Less }
+
+        // behind its attributes,
+        ensures attributes { (a : model.Name) (block : ℕ) → IsTrue (model.is_attribute_name a) → IsTrue (model.fits_attribute self.now a)
+            → block < 2 ^ 32 → model.key_cmp (model.key (model.attribute_place self.now a) block) result ≡ Less }
+
+        // and not behind what lies below it.
+        ensures below { (q : model.Path) (block : ℕ) → IsTrue (model.is_path q) → IsTrue (model.is_inside q self.now)
+            → block < 2 ^ 32 → is_le (model.key_cmp result (model.key q block)) ≡ true }
+
+        // Nor does it stand behind the keys of each path behind this one that is not in the subtree.
+        ensures behind { (q : model.Path) (block : ℕ) → IsTrue (model.is_path q) → model.is_at_or_inside q self.now ≡ false
+            → model.path_cmp self.now q ≡ Less → is_le (model.key_cmp result (model.key q block)) ≡ true }
     {
-        let below = self.names_below(old);
-        let start = new.len as usize;
-        let len = start + below.len();
-        if len > FIELD_LEN {
-            return None;
+        if self.len as usize == FIELD_LEN {
+            return self.key(u32::MAX);
         }
-        let mut bytes = new.bytes;
-        bytes[start..len].copy_from_slice(below);
-        Some(Path {
-            bytes,
-            len: len as u8,
-        })
+        self.key_behind(&[MARK + 1], 0)
     }
 
     /// Whether it lies strictly below the other path.
@@ -309,7 +321,7 @@ impl Ord for Path {
 }
 
 /// The block number that four bytes spell.
-fn block_of(bytes: &[u8]) -> u32
+pub(crate) fn block_of(bytes: &[u8]) -> u32
     requires { length bytes.now ≡ 4 }
     ensures { to_be_bytes w32 result ≡ bytes.now }
 {

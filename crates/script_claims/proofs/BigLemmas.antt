@@ -10,7 +10,7 @@ use Rattle.store_model.specs.Images.{layout, Represents}
 use Rattle.store_model.specs.Commands.{Command, Reply}
 use Rattle.store_model.specs.Commands.Command.{Space, Digest}
 use Rattle.store_model.specs.Commands.Reply.{PagesUsed, ImageDigest}
-use Rattle.store_model.specs.Steps.{Step, step, conditions, first_refusal, may_fill, reply_of}
+use Rattle.store_model.specs.Steps.{Step, step, conditions, first_refusal, may_fill, is_on_attributes, reply_of}
 use Rattle.store_model.specs.Grammar.{parse}
 use Rattle.store_model.specs.Scripts.{lines, line_limit, answer, answer_by, answers_by, state_by, replies_by, tree_by, replies, tree_after}
 use Rattle.script_lines.specs.Generated.{generated}
@@ -64,11 +64,11 @@ length-first_commands number zero = refl
 length-first_commands number (suc count) = omega (arith, length-first_commands number count, length-append (first_commands number count) (generated number count ∷ []))
 
 space_reply : (t : Tree) (p : Parameters) → (step t Space p).reply ≡ PagesUsed (page_count t p) p.slots
-unfolding step conditions first_refusal may_fill reply_of
+unfolding step conditions first_refusal may_fill reply_of is_on_attributes
 space_reply t p = refl
 
 digest_reply : (t : Tree) (p : Parameters) → (step t Digest p).reply ≡ ImageDigest (sha256 (layout t p))
-unfolding step conditions first_refusal may_fill reply_of
+unfolding step conditions first_refusal may_fill reply_of is_on_attributes
 digest_reply t p = refl
 
 pub summary_is : (all : List Reply) (t : Tree) (p : Parameters) → summary_text all t p ≡ summary_of all t p (layout t p)

@@ -11,13 +11,14 @@ use Rattle.store_model.specs.Pages.{page_count, Fits}
 use Rattle.store_model.specs.Trees.{IsTree}
 use Rattle.store_model.specs.Images.{layout, Represents}
 use Rattle.store_model.specs.Commands.{Command, Reply, reply_text}
-use Rattle.store_model.specs.Commands.Command.{Make, Write, Cut, Rename, Remove, Prune, ListChildren, Read, Space, Digest}
-use Rattle.store_model.specs.Commands.Reply.{Acknowledged, Content, Listing, PagesUsed, ImageDigest, Refused}
-use Rattle.store_model.specs.Steps.{Step, Condition, step, step_by, conditions, first_refusal, refusal_of, reply_of, next_tree, may_fill}
+use Rattle.store_model.specs.Commands.Command.{Make, Write, Cut, Rename, Remove, Prune, ListChildren, Read, Space, Digest, SetAttribute, UnsetAttribute, GetAttribute, ListAttributes}
+use Rattle.store_model.specs.Commands.Reply.{Acknowledged, Content, Listing, AttributeListing, PagesUsed, ImageDigest, Refused}
+use Rattle.store_model.specs.Steps.{Step, Condition, step, step_by, conditions, first_refusal, refusal_of, reply_of, next_tree, may_fill, lacks_version}
 use Rattle.store_model.specs.Grammar.{parse}
 use Rattle.store_model.specs.Scripts.{lines, line_limit, answer, answer_by, answers_by, state_by, replies_by, tree_by, replies, tree_after, replies_text}
 use Rattle.store_model.proofs.ScriptsLemmas.{refused_answer_keeps}
 use Rattle.store_model.proofs.TreesLemmasFits.{needs_no_more}
+use Rattle.store_model.proofs.TreesLemmasSteps.{step_of_version, step_by_refusal}
 use Rattle.gate_journal.specs.Phases.{HasEmptyJournal}
 use Rattle.gate_journal.proofs.Layouts.{layout-has-empty-journal}
 use Rattle.script_lines.specs.Memory.{SourceMemory, SinkMemory, source_state, sink_state}
@@ -58,6 +59,7 @@ refusal_of_reply : (reply : Reply) → is_refused reply ≡ true → IsRefusal r
 refusal_of_reply Acknowledged e = absurd (cc)
 refusal_of_reply (Content bytes) e = absurd (cc)
 refusal_of_reply (Listing children) e = absurd (cc)
+refusal_of_reply (AttributeListing attributes) e = absurd (cc)
 refusal_of_reply (PagesUsed used slots) e = absurd (cc)
 refusal_of_reply (ImageDigest digest) e = absurd (cc)
 refusal_of_reply (Refused refusal) e = (refusal, refl)
@@ -111,6 +113,10 @@ others t (ListChildren p) = (tt, (tt, tt))
 others t (Read p at len) = (tt, (tt, (tt, (tt, tt))))
 others t Space = tt
 others t Digest = tt
+others t (SetAttribute p a bytes) = (tt, (tt, (tt, (tt, tt))))
+others t (UnsetAttribute p a) = (tt, (tt, (tt, tt)))
+others t (GetAttribute p a) = (tt, (tt, (tt, tt)))
+others t (ListAttributes p) = (tt, (tt, tt))
 
 -- what is not refused is not answered by a refusal
 not_refused : (t : Tree) (c : Command) (p : Parameters) (r : Refusal) → reply_of t c p ≡ Refused r → ⊥
@@ -125,6 +131,10 @@ not_refused t (ListChildren path) p r e = cc
 not_refused t (Read path at len) p r e = cc
 not_refused t Space p r e = cc
 not_refused t Digest p r e = cc
+not_refused t (SetAttribute path a bytes) p r e = cc
+not_refused t (UnsetAttribute path a) p r e = cc
+not_refused t (GetAttribute path a) p r e = cc
+not_refused t (ListAttributes path) p r e = cc
 
 abbrev full_reply : Tree → Command → Parameters → Reply
 full_reply t c p = Refused (refusals.Full (page_count (next_tree t c) p) p.slots)
@@ -144,18 +154,18 @@ picked_first : (b : Bool) (x y : Step) → b ≡ true → (if b then x else y).r
 picked_first true x y e = refl
 picked_first false x y e = absurd (cc)
 
-full_by : (t : Tree) (c : Command) (p : Parameters) (need slots : ℕ) (o : Option Refusal) → refusal_of t c ≡ o → (step_by t c p o).reply ≡ Refused (refusals.Full need slots) → IsFullStep t c p need slots
-full_by t c p need slots (Some refusal) o e =
+full_by : (t : Tree) (c : Command) (p : Parameters) (need slots : ℕ) (o : Option Refusal) → lacks_version c p ≡ false → refusal_of t c ≡ o → (step_by t c p o).reply ≡ Refused (refusals.Full need slots) → IsFullStep t c p need slots
+full_by t c p need slots (Some refusal) has o e =
     let same : refusal ≡ refusals.Full need slots = cc in
     absurd (subst IsOther same (other_first (conditions t c) refusal (others t c) o))
-full_by t c p need slots None o e =
+full_by t c p need slots None has o e =
     ⊎_elim
     (λ full.
     let said = full.1 in
     let need_is : need ≡ page_count (next_tree t c) p = cc in
     let slots_are : slots ≡ p.slots = cc in
     record {
-      needs = record { not_refused = o; exceeds = ltb-true p.slots (page_count (next_tree t c) p) (and_parts _ _ full.0).1 };
+      needs = record { served = has; not_refused = o; exceeds = ltb-true p.slots (page_count (next_tree t c) p) (and_parts _ _ full.0).1 };
       need_is = need_is;
       slots_are = slots_are;
     })
@@ -163,16 +173,18 @@ full_by t c p need slots None o e =
     (picked (may_fill c && nat_lt p.slots (page_count (next_tree t c) p)) _ _ (Refused (refusals.Full need slots)) e)
 
 full_step : (t : Tree) (c : Command) (p : Parameters) (need slots : ℕ) → (step t c p).reply ≡ Refused (refusals.Full need slots) → IsFullStep t c p need slots
-unfolding step
-full_step t c p need slots e = full_by t c p need slots (refusal_of t c) refl e
+full_step t c p need slots e = by_test (lacks_version c p) refl
+  where
+    by_test : (b : Bool) → lacks_version c p ≡ b → IsFullStep t c p need slots
+    by_test true lacks = let other : Refused refusals.Version ≡ Refused (refusals.Full need slots) = sym (ap (λ (s : Step). s.reply) (step_of_version t c p lacks)) ∙ e in absurd (cc)
+    by_test false has = full_by t c p need slots (refusal_of t c) has refl (sym (ap (λ (s : Step). s.reply) (step_by_refusal t c p has)) ∙ e)
 
 -- and where they exceed the slots the step refuses so
 step_full : (t : Tree) (c : Command) (p : Parameters) → IsTree t → Fits t p → NeedsMoreSlots c t p → (step t c p).reply ≡ full_reply t c p
-unfolding step
 step_full t c p tree fits needs =
-    let fills : may_fill c ≡ true = true_from_ne_false (may_fill c) (λ e. let fewer = needs_no_more t c p tree e needs.not_refused in let more = needs.exceeds in absurd (omega arith)) in
+    let fills : may_fill c ≡ true = true_from_ne_false (may_fill c) (λ e. let fewer = needs_no_more t c p tree e needs.not_refused in let more = needs.exceeds in let room = fits.room in absurd (omega arith)) in
     let full : (may_fill c && nat_lt p.slots (page_count (next_tree t c) p)) ≡ true = and_from _ _ fills (lt-ltb p.slots (page_count (next_tree t c) p) needs.exceeds) in
-    ap (λ (o : Option Refusal). (step_by t c p o).reply) needs.not_refused
+    ap (λ (s : Step). s.reply) (step_by_refusal t c p needs.served) ∙ ap (λ (o : Option Refusal). (step_by t c p o).reply) needs.not_refused
     ∙ picked_first (may_fill c && nat_lt p.slots (page_count (next_tree t c) p)) _ _ full
 
 -- the reply to a script of one line

@@ -14,7 +14,8 @@ use Rattle.store_model.specs.Pages.{page_count}
 use Rattle.store_model.specs.Images.{layout}
 use Rattle.store_model.specs.Commands.{Command}
 use Rattle.store_model.specs.Commands.Reply.{Refused}
-use Rattle.store_model.specs.Steps.{Step, step, step_by, step_to, refusal_of, next_tree, may_fill, reply_of}
+use Rattle.store_model.specs.Steps.{Step, step, step_by, step_to, refusal_of, next_tree, may_fill, is_on_attributes, lacks_version, reply_of}
+use Rattle.store_model.proofs.TreesLemmasSteps.{step_of_version, step_by_refusal}
 use Rattle.store_model.specs.Grammar.{parse, ◌>>=◌}
 use Rattle.store_model.specs.Scripts.{lines, line_limit, answer, answer_by, answers_by, state_by, replies_by, tree_by, replies, tree_after}
 use Rattle.store_model.specs.Words.{Request, request_of, number_in, kind_of_word, seed_of_word, version_of_word}
@@ -28,7 +29,7 @@ use Rattle.image_subcommands.specs.Statuses.{IsUpgradeStatus, disk_faults_by}
 use Rattle.store_top.specs.UpgradeCall.{IsUpgrade}
 use Rattle.script_claims.specs.Machines.{Disk, Ended, HasImage, bytes_of, meaning}
 use Rattle.script_claims.specs.Makings.{made_tree}
-use Rattle.script_claims.specs.Upgrades.{HaveSameArguments, AreSameScripts, IsNotFull, AreNeverFull, IsUpgradedAsMade, StopsUpgrade}
+use Rattle.script_claims.specs.Upgrades.{HaveSameArguments, AreSameScripts, IsNotFull, IsServed, AreNeverFull, AreServed, IsUpgradedAsMade, StopsUpgrade}
 use Rattle.script_claims.proofs.MakingLemmas.{represented}
 use Rattle.script_claims.proofs.RunWays.{image_of}
 
@@ -75,34 +76,53 @@ goes_on : (b : Bool) (need slots : ℕ) (t : Tree) (to : Step) → IsNotFull (co
 goes_on true need slots t to never = absurd (never need slots refl)
 goes_on false need slots t to never = refl
 
-same_step : (t : Tree) (c : Command) (p q : Parameters) → IsNotFull (step t c p).reply → IsNotFull (step t c q).reply → (step t c p).tree ≡ (step t c q).tree
-unfolding step
-same_step t c p q = by (refusal_of t c)
+-- version 2 serves each command, and another version one that it did not answer `version`
+two_serves : (c : Command) (p : Parameters) → lacks_version c (with_version p Two) ≡ false
+two_serves c p = elim (is_on_attributes c) as (λ b. (b && false) ≡ false) [ true ↦ refl | false ↦ refl ]
+
+served : (t : Tree) (c : Command) (p : Parameters) → IsServed (step t c p).reply → lacks_version c p ≡ false
+served t c p serves = by_test (lacks_version c p) refl
+  where
+    by_test : (b : Bool) → lacks_version c p ≡ b → b ≡ false
+    by_test true lacks = absurd (serves (ap (λ (s : Step). s.reply) (step_of_version t c p lacks)))
+    by_test false has = refl
+
+same_step : (t : Tree) (c : Command) (p : Parameters) → IsServed (step t c p).reply → IsNotFull (step t c p).reply → IsNotFull (step t c (with_version p Two)).reply → (step t c p).tree ≡ (step t c (with_version p Two)).tree
+same_step t c p serves one other =
+    let first = step_by_refusal t c p (served t c p serves) in
+    let second = step_by_refusal t c (with_version p Two) (two_serves c p) in
+    ap (λ (s : Step). s.tree) first
+    ∙ by (refusal_of t c) (subst (λ (s : Step). IsNotFull s.reply) first one) (subst (λ (s : Step). IsNotFull s.reply) second other)
+    ∙ sym (ap (λ (s : Step). s.tree) second)
   where
     leads : (r : Parameters) → IsNotFull (step_to t c r (next_tree t c)).reply → (step_to t c r (next_tree t c)).tree ≡ next_tree t c
     leads r = goes_on (may_fill c && nat_lt r.slots (page_count (next_tree t c) r)) (page_count (next_tree t c) r) r.slots t (record { reply = reply_of t c r; tree = next_tree t c })
 
-    by : (refusal : Option Refusal) → IsNotFull (step_by t c p refusal).reply → IsNotFull (step_by t c q refusal).reply → (step_by t c p refusal).tree ≡ (step_by t c q refusal).tree
+    by : (refusal : Option Refusal) → IsNotFull (step_by t c p refusal).reply → IsNotFull (step_by t c (with_version p Two) refusal).reply → (step_by t c p refusal).tree ≡ (step_by t c (with_version p Two) refusal).tree
     by (Some refusal) one other = refl
-    by None one other = leads p one ∙ sym (leads q other)
+    by None one other = leads p one ∙ sym (leads (with_version p Two) other)
 
-same_answer : (t : Tree) (text : List ℕ) (p q : Parameters) → IsNotFull (answer t text p).reply → IsNotFull (answer t text q).reply → (answer t text p).tree ≡ (answer t text q).tree
+-- the answer to a line, by whether it is too long
+abbrev by_length : Tree → Bool → Result Command Refusal → Parameters → Step
+by_length t long parsed p = cond long (record { reply = Refused refusals.Long; tree = t }) (answer_by t parsed p)
+
+same_answer : (t : Tree) (text : List ℕ) (p : Parameters) → IsServed (answer t text p).reply → IsNotFull (answer t text p).reply → IsNotFull (answer t text (with_version p Two)).reply → (answer t text p).tree ≡ (answer t text (with_version p Two)).tree
 unfolding answer
-same_answer t text p q = by (nat_lt line_limit (length text)) (parse text)
+same_answer t text p = by (nat_lt line_limit (length text)) (parse text)
   where
-    by : (b : Bool) (parsed : Result Command Refusal) → IsNotFull (cond b (record { reply = Refused refusals.Long; tree = t }) (answer_by t parsed p)).reply → IsNotFull (cond b (record { reply = Refused refusals.Long; tree = t }) (answer_by t parsed q)).reply
-        → (cond b (record { reply = Refused refusals.Long; tree = t }) (answer_by t parsed p)).tree ≡ (cond b (record { reply = Refused refusals.Long; tree = t }) (answer_by t parsed q)).tree
-    by true parsed one other = refl
-    by false (Err refusal) one other = refl
-    by false (Ok c) one other = same_step t c p q one other
+    by : (b : Bool) (parsed : Result Command Refusal) → IsServed (by_length t b parsed p).reply → IsNotFull (by_length t b parsed p).reply → IsNotFull (by_length t b parsed (with_version p Two)).reply → (by_length t b parsed p).tree ≡ (by_length t b parsed (with_version p Two)).tree
+    by true parsed serves one other = refl
+    by false (Err refusal) serves one other = refl
+    by false (Ok c) serves one other = same_step t c p serves one other
 
--- lines of which none is answered `full` leave the same tree, whatever the parameters
-same_trees : (t : Tree) (texts : List (List ℕ)) (p q : Parameters) → AllByRecursion IsNotFull (replies t texts p) → AllByRecursion IsNotFull (replies t texts q) → tree_after t texts p ≡ tree_after t texts q
+-- lines that version 1 serves, and of which none is answered `full`, leave the same tree under version 2
+same_trees : (t : Tree) (texts : List (List ℕ)) (p : Parameters) → AllByRecursion IsServed (replies t texts p) → AllByRecursion IsNotFull (replies t texts p) → AllByRecursion IsNotFull (replies t texts (with_version p Two)) → tree_after t texts p ≡ tree_after t texts (with_version p Two)
 unfolding replies replies_by answers_by tree_after tree_by state_by
-same_trees t [] p q one other = refl
-same_trees t (text ∷ texts) p q one other =
-    let same : (answer t text p).tree ≡ (answer t text q).tree = same_answer t text p q one.0 other.0 in
-    same_trees (answer t text p).tree texts p q one.1 (subst (λ (u : Tree). AllByRecursion IsNotFull (replies u texts q)) (sym same) other.1) ∙ ap (λ (u : Tree). tree_after u texts q) same
+same_trees t [] p serves one other = refl
+same_trees t (text ∷ texts) p serves one other =
+    let q = with_version p Two in
+    let same : (answer t text p).tree ≡ (answer t text q).tree = same_answer t text p serves.0 one.0 other.0 in
+    same_trees (answer t text p).tree texts p serves.1 one.1 (subst (λ (u : Tree). AllByRecursion IsNotFull (replies u texts q)) (sym same) other.1) ∙ ap (λ (u : Tree). tree_after u texts q) same
 
 -- ---- images
 
@@ -155,5 +175,5 @@ upgraded_as_made scripts others p one two same image_one image_two =
     record {
       upgraded_image = image_one;
       made_image = made;
-      same = λ never_one never_two. image_one.bytes ∙ ap (λ (t : Tree). layout t q) (same_trees empty_tree texts p q never_one never_two) ∙ sym made.bytes;
+      same = λ serves never_one never_two. image_one.bytes ∙ ap (λ (t : Tree). layout t q) (same_trees empty_tree texts p serves never_one never_two) ∙ sym made.bytes;
     }

@@ -1,5 +1,5 @@
 -- Lines that are refused.
-use Rattle.std.specs.Prelude.{◌≡◌, ◌↔◌, ◌≤◌, ◌<◌, ℕ, List, [], ◌∷◌, ◌++◌, length, Ok, None, if◌then◌else◌}
+use Rattle.std.specs.Prelude.{◌≡◌, ◌↔◌, ◌≤◌, ◌<◌, ℕ, false, List, [], ◌∷◌, ◌++◌, length, Ok, None, if◌then◌else◌}
 use Rattle.store_model.specs.declared.refusal.Refusal.{Refusal}
 use Rattle.store_model.specs.declared.refusal.Refusal.TheVariants as refusals
 use Rattle.store_model.specs.Parameters.{Parameters}
@@ -8,7 +8,7 @@ use Rattle.store_model.specs.Pages.{page_count}
 use Rattle.store_model.specs.Images.{layout, Represents}
 use Rattle.store_model.specs.Commands.{Command, Reply, reply_text}
 use Rattle.store_model.specs.Commands.Reply.{Refused}
-use Rattle.store_model.specs.Steps.{refusal_of, next_tree}
+use Rattle.store_model.specs.Steps.{lacks_version, refusal_of, next_tree}
 use Rattle.store_model.specs.Grammar.{parse}
 use Rattle.store_model.specs.Scripts.{lines, line_limit, answer}
 use Rattle.script_lines.specs.Memory.{SourceMemory, SinkMemory}
@@ -44,6 +44,7 @@ pub record IsOneLine (script : List ℕ) (command : Command) : Type 0 where
 
 -- the pages of the tree that the command would make, if nothing else refuses it, are more than the slots
 pub record NeedsMoreSlots (command : Command) (t : Tree) (p : Parameters) : Type 0 where
+  pub served : lacks_version command p ≡ false
   pub not_refused : refusal_of t command ≡ None
   pub exceeds : p.slots < page_count (next_tree t command) p
 

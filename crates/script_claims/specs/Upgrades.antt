@@ -32,12 +32,21 @@ IsNotFull reply = (need slots : ℕ) → reply ≡ Refused (refusals.Full need s
 abbrev pub AreNeverFull : List SourceMemory → Parameters → Type 0
 AreNeverFull scripts p = AllByRecursion IsNotFull (replies empty_tree (flat_map (λ script. lines script.left) scripts) p)
 
--- Two disks have images of version 2: one of the tree that the scripts leave under version 1, and one of the tree that they leave
--- under version 2. Where no line was answered `full` under either, they read the same bytes.
+-- a reply other than `version`
+abbrev pub IsServed : Reply → Type 0
+IsServed reply = reply ≡ Refused refusals.Version → ⊥
+
+-- no line of the scripts asks for attributes where the version has none
+abbrev pub AreServed : List SourceMemory → Parameters → Type 0
+AreServed scripts p = AllByRecursion IsServed (replies empty_tree (flat_map (λ script. lines script.left) scripts) p)
+
+-- Two disks have images of version 2: one of the tree that the scripts leave under version 1, and one of the tree that
+-- they leave under version 2. Where version 1 served each line, and none was answered `full` under either, they read
+-- the same bytes.
 pub record IsUpgradedAsMade (scripts : List SourceMemory) (p : Parameters) (upgraded made : Disk) : Type 0 where
   pub upgraded_image : HasImage upgraded (made_tree scripts p) (with_version p Two)
   pub made_image : HasImage made (made_tree scripts (with_version p Two)) (with_version p Two)
-  pub same : AreNeverFull scripts p → AreNeverFull scripts (with_version p Two) → bytes_of upgraded ≡ bytes_of made
+  pub same : AreServed scripts p → AreNeverFull scripts p → AreNeverFull scripts (with_version p Two) → bytes_of upgraded ≡ bytes_of made
 
 -- The image of a tree was not upgraded: a call of its disk failed, or memory ran out.
 pub record StopsUpgrade (disk : Disk) (ended : Ended) : Type 0 where

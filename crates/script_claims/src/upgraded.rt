@@ -32,8 +32,8 @@ fn upgrade_image(alloc: Global, disk: Disk, sink: MemSink) -> Result<Ended, Ende
 }
 
 /// Makes an image by `format`, runs scripts on it and upgrades it. Makes another by `format2` with the same arguments,
-/// and runs the same scripts on it. Where all calls ended with 0, and no line was answered `full` on either, the images
-/// are equal, byte for byte.
+/// and runs the same scripts on it. Where all calls ended with 0, no line was answered `full` on either, and none
+/// `version` on the first, the images are equal, byte for byte.
 ///
 /// `sink` is for the upgrade, which prints nothing. `Err` has the first call that did not end with 0, and no call is made
 /// behind it.

@@ -1,10 +1,10 @@
 -- What is read from the fields of a line, and the program's commands seen as those of the definitions.
-use Rattle.std.specs.Prelude.{◌≡◌, ℕ, ◌<◌, ◌≤◌, true, false, List, [], ◌∷◌, length, Result, Ok, Err, Option, Some, None, ◌==◌}
+use Rattle.std.specs.Prelude.{◌≡◌, ℕ, ◌<◌, ◌≤◌, true, false, List, [], ◌∷◌, length, Result, Ok, Err, Option, Some, None, ◌==◌, codes}
 use Rattle.std.specs.List.{slice_split}
 use Rattle.store_model.specs.Paths.{Path, fits_field}
-use Rattle.store_model.specs.Grammar.{path_of, number_of, content_of, ◌>>=◌}
+use Rattle.store_model.specs.Grammar.{path_of, number_of, content_of, attribute_name_of, ◌>>=◌, on_word}
 use Rattle.store_model.specs.Commands as model
-use Rattle.store_model.specs.Commands.Command.{Make, Write, Cut, Rename, Remove, Prune, ListChildren, Read, Space, Digest}
+use Rattle.store_model.specs.Commands.Command.{Make, Write, Cut, Rename, Remove, Prune, ListChildren, Read, Space, Digest, SetAttribute, UnsetAttribute, GetAttribute, ListAttributes}
 use Rattle.store_model.specs.declared.refusal.Refusal.{Refusal}
 use Rattle.store_model.specs.declared.refusal.Refusal.TheVariants as refusals
 use Rattle.script_lines.specs.declared.command.Command.{Command}
@@ -24,6 +24,10 @@ command_of (declared.List p) = ListChildren p
 command_of (declared.Read p at len) = Read p at len
 command_of declared.Space = Space
 command_of declared.Digest = Digest
+command_of (declared.Set p name bytes) = SetAttribute p name bytes
+command_of (declared.Unset p name) = UnsetAttribute p name
+command_of (declared.Get p name) = GetAttribute p name
+command_of (declared.Attrs p) = ListAttributes p
 
 -- what the program read, as the definitions have it
 abbrev pub reading_of : Result Command Refusal → Result model.Command Refusal
@@ -68,3 +72,14 @@ write_of path number content = path_of path >>= λ p. number >>= λ at. content_
 -- the command that renames one path to another
 abbrev pub rename_of : List ℕ → List ℕ → Option model.Command
 rename_of from to = path_of from >>= λ p. path_of to >>= λ q. Some (Rename p q)
+
+-- the command of a word on an attribute of a path
+abbrev pub on_attribute_of : List ℕ → List ℕ → List ℕ → Option model.Command
+on_attribute_of word path name =
+    on_word word (codes "unset") (path_of path >>= λ p. attribute_name_of name >>= λ n. Some (UnsetAttribute p n))
+    (on_word word (codes "get") (path_of path >>= λ p. attribute_name_of name >>= λ n. Some (GetAttribute p n)) None)
+
+-- the command of a word that gives a path an attribute
+abbrev pub set_of : List ℕ → List ℕ → List ℕ → List ℕ → Option model.Command
+set_of word path name content =
+    on_word word (codes "set") (path_of path >>= λ p. attribute_name_of name >>= λ n. content_of content >>= λ bytes. Some (SetAttribute p n bytes)) None

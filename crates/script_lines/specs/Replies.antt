@@ -5,7 +5,7 @@ use Rattle.store_base.specs.Counts.{raised}
 use Rattle.store_model.specs.declared.refusal.Refusal.{Refusal}
 use Rattle.store_model.specs.declared.refusal.Refusal.TheVariants as refusals
 use Rattle.store_model.specs.Commands as model
-use Rattle.store_model.specs.Commands.Reply.{Acknowledged, Content, Listing, PagesUsed, ImageDigest, Refused}
+use Rattle.store_model.specs.Commands.Reply.{Acknowledged, Content, Listing, AttributeListing, PagesUsed, ImageDigest, Refused}
 use Rattle.script_lines.specs.declared.reply.Reply.{Reply}
 use Rattle.script_lines.specs.declared.reply.Reply.TheVariants as declared
 use Rattle.script_lines.specs.SinkState.{SinkState, IsObservable, AppendsPrefix}
@@ -15,6 +15,7 @@ abbrev pub reply_of : Reply → model.Reply
 reply_of declared.Ok = Acknowledged
 reply_of (declared.Bytes bytes) = Content bytes
 reply_of (declared.Listing entries) = Listing entries
+reply_of (declared.Attrs attributes) = AttributeListing attributes
 reply_of (declared.Space used slots) = PagesUsed used slots
 reply_of (declared.Digest digest) = ImageDigest digest
 reply_of (declared.No refusal) = Refused refusal

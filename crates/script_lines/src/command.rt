@@ -6,9 +6,10 @@ ghost use Rattle.store_model.specs.Commands.Command.{Write};
 ghost use Rattle.script_lines.specs.InPlace.{in_place};
 ghost use Rattle.script_lines.specs.Parsing.{command_of, reading_of, rename_of, read_of, write_of};
 
+use crate::attributes::{read_on_attribute, read_set};
 use crate::fields::{Fields, parse_number, read_bytes, read_path, split_fields};
 use crate::lines::MAX_LINE;
-use path_keys::Path;
+use path_keys::{AttrName, Path};
 use store_base::Bytes;
 use store_model::Refusal;
 
@@ -38,6 +39,14 @@ pub enum Command {
     Space,
     /// Asks for the digest of the image.
     Digest,
+    /// Gives a path an attribute with these bytes, in the stead of what it had by this name.
+    Set(Path, AttrName, Bytes),
+    /// Takes an attribute of a path away.
+    Unset(Path, AttrName),
+    /// Asks for the bytes of an attribute.
+    Get(Path, AttrName),
+    /// Lists the attributes of a path.
+    Attrs(Path),
 }
 
 /// The command that a line spells.
@@ -96,13 +105,15 @@ fn read_on_path(word: &[u8], path: &[u8], command: &mut Command) -> Result<(), R
         *command = Command::Prune(read_path(path)?);
     } else if word == b"list".as_slice() {
         *command = Command::List(read_path(path)?);
+    } else if word == b"attrs".as_slice() {
+        *command = Command::Attrs(read_path(path)?);
     } else {
         return Err(Refusal::Syntax);
     }
     Ok(())
 }
 
-/// Reads the command of a word, a path and a number or a second path.
+/// Reads the command of a word, a path and a number, a second path or the name of an attribute.
 #[tactic(auto, unfolding(store_model::specs::Grammar::command_of_fields, store_model::specs::Grammar::has_short_paths))]
 fn read_three(
     word: &[u8],
@@ -121,7 +132,7 @@ fn read_three(
     } else if word == b"rename".as_slice() {
         read_rename(path, argument, command)
     } else {
-        Err(Refusal::Syntax)
+        read_on_attribute(word, path, argument, command)
     }
 }
 
@@ -143,7 +154,7 @@ fn read_rename(from: &[u8], to: &[u8], command: &mut Command) -> Result<(), Refu
     }
 }
 
-/// Reads the command of a word, a path, a number, and bytes or a second number.
+/// Reads the command of a word, a path, and a number and bytes, two numbers, or the name of an attribute and bytes.
 #[tactic(auto, unfolding(store_model::specs::Grammar::command_of_fields, store_model::specs::Grammar::has_short_paths))]
 fn read_four(
     word: &[u8],
@@ -161,7 +172,7 @@ fn read_four(
     } else if word == b"read".as_slice() {
         read_read(path, number, argument, command)
     } else {
-        Err(Refusal::Syntax)
+        read_set(word, path, at, argument, command)
     }
 }
 

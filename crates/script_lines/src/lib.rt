@@ -2,6 +2,7 @@
 //! commands that they spell, and the text of replies and reports.
 #![tactic(auto)]
 
+mod attributes;
 mod command;
 mod fault;
 mod fields;

@@ -2,18 +2,18 @@
 
 ghost use Rattle.std.specs.Prelude.{◌≡◌, ◌≤◌, ◌+◌, ◌<◌, ◌++◌, length, OnOk, codes};
 ghost use Rattle.std.specs.Fmt.{decimal};
-ghost use Rattle.store_model.specs.Commands.{reply_text, child_line, refusal_text};
-ghost use Rattle.store_model.specs.Commands.Reply.{Content, Listing, PagesUsed, ImageDigest, Refused};
+ghost use Rattle.store_model.specs.Commands.{reply_text, child_line, attribute_line, refusal_text};
+ghost use Rattle.store_model.specs.Commands.Reply.{Content, Listing, AttributeListing, PagesUsed, ImageDigest, Refused};
 ghost use Rattle.script_lines.specs.SinkState.{IsPut};
 ghost use Rattle.script_lines.specs.Replies.{reply_of, numbers_of, MakesRoom};
 
 use crate::fault::SinkFault;
 use crate::sink::Sink;
 use crate::text::{MAX_TEXT, Text};
-use store_base::{Bytes, Entries};
+use store_base::{AttrEntries, Bytes, Entries};
 use store_model::Refusal;
 
-/// The most bytes that the line of a child has.
+/// The most bytes that the line of a child or an attribute has.
 const MAX_CHILD: usize = 134;
 
 /// The most bytes that the words of a refusal have.
@@ -28,6 +28,8 @@ pub enum Reply {
     Bytes(Bytes),
     /// The children of a directory, in the order of their names.
     Listing(Entries),
+    /// The attributes of a path, in the order of their names.
+    Attrs(AttrEntries),
     /// How many slots are used, and how many there are.
     Space {
         /// The slots that are used.
@@ -85,6 +87,7 @@ pub fn write_reply<W: Sink>(sink: &mut W, reply: &Reply) -> Result<(), SinkFault
         Reply::Ok => sink.put(b"ok\n"),
         Reply::Bytes(bytes) => write_content(sink, bytes),
         Reply::Listing(entries) => write_listing(sink, entries),
+        Reply::Attrs(attributes) => write_attributes(sink, attributes),
         Reply::Space { used, slots } => write_usage(sink, *used, *slots),
         Reply::Digest(digest) => write_digest(sink, digest),
         Reply::No(refusal) => write_refusal(sink, *refusal),
@@ -180,6 +183,8 @@ fn word_of(refusal: Refusal) -> &'static [u8]
         Refusal::Gap => b"gap",
         Refusal::Big => b"big",
         Refusal::NotEmpty => b"notempty",
+        Refusal::Version => b"version",
+        Refusal::NoAttr => b"none",
         Refusal::Full { .. } => b"full",
     }
 }
@@ -210,6 +215,36 @@ fn write_listing<W: Sink>(sink: &mut W, entries: &Entries) -> Result<(), SinkFau
     make_room(sink, &mut text)?;
     text.push(b"end\n");
     sink.put(text.as_slice())
+}
+
+/// Writes a listing of attributes: the line of each, and `end`.
+#[inline(never)]
+fn write_attributes<W: Sink>(sink: &mut W, attributes: &AttrEntries) -> Result<(), SinkFault>
+    ensures { IsPut (W.state sink.old) (W.state sink.new) (reply_text (AttributeListing attributes.now)) result }
+{
+    let mut text = Text::new();
+    for index in 0..attributes.len() {
+        let (name, size) = attributes.get(index);
+        make_room(sink, &mut text)?;
+        push_attribute(&mut text, name, size);
+    }
+    make_room(sink, &mut text)?;
+    text.push(b"end\n");
+    sink.put(text.as_slice())
+}
+
+/// Adds the line of an attribute.
+#[tactic(auto, unfolding(store_model::specs::Commands::attribute_line))]
+fn push_attribute(text: &mut Text, name: &[u8], size: u32)
+    requires room { length text.old + MAX_CHILD ≤ MAX_TEXT }
+    requires name { length name.now ≤ AttrEntries.MAX_NAME }
+    ensures { text.new ≡ text.old ++ attribute_line (name.now, size) }
+{
+    text.push(b"a ");
+    text.push(name);
+    text.push(b" ");
+    text.push_number(size);
+    text.push(b"\n");
 }
 
 /// Puts the text out where a child's line might not fit behind it.

@@ -1,10 +1,12 @@
 //! The types that all layers share. They know no disk, no table and no tree.
 //!
 //! Faults, byte strings and the entries of a directory; keys and the labels that name pages; the parameters of an image,
-//! its header and where its areas lie; and the traits of the slots that a table is made of. Only `Entries` takes memory.
+//! its header and where its areas lie; and the traits of the slots that a table is made of. Only `Entries` and `AttrEntries`
+//! take memory.
 #![tactic(auto)]
 
 mod areas;
+mod attr_entries;
 mod entries;
 mod fault;
 mod header;
@@ -17,6 +19,7 @@ mod store_fault;
 mod value;
 
 pub use areas::{areas_fill_the_image, gate_at, image_len, mark_at, shadow_at, table_at};
+pub use attr_entries::AttrEntries;
 pub use entries::Entries;
 pub use fault::{DiskFault, NoMemory};
 pub use header::{read_header, version_at, version_byte, write_header};

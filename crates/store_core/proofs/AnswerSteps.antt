@@ -8,7 +8,7 @@ use Rattle.store_model.specs.Draws.{Draw, draw_of}
 use Rattle.store_model.specs.Pairs.{Pair, pairs}
 use Rattle.store_model.specs.Commands.{Command, IsCommand}
 use Rattle.store_model.specs.Commands.Reply.{Acknowledged}
-use Rattle.store_model.specs.Steps.{Step, step}
+use Rattle.store_model.specs.Steps.{Step, lacks_version, step}
 use Rattle.disk_model.specs.DiskState.{DiskState, IsObservable}
 use Rattle.seeded_draw.specs.declared.any.AnyDraw.{AnyDraw}
 use Rattle.seeded_draw.specs.AnyDrawn.{any_draw}
@@ -23,7 +23,7 @@ use Rattle.image_check.specs.declared.fault.ApplyFault.{ApplyFault}
 use Rattle.image_check.specs.declared.fault.ApplyFault.TheVariants as apply
 use Rattle.tree_commands.specs.Answers.{IsReplyOf}
 use Rattle.tree_commands.specs.Counted.{counted_step}
-use Rattle.tree_commands.proofs.StepLemmas.{acked_step, answered_step, uncounted_tree}
+use Rattle.tree_commands.proofs.StepLemmas.{acked_step, acked_fits, answered_step, uncounted_tree}
 use Rattle.store_core.proofs.StagedAnswers.{IsReplyAt, AnswersAt}
 use Rattle.image_check.specs.Faults.{apply_fault_of}
 use Rattle.image_check.specs.Standing.{IsFitting}
@@ -47,7 +47,7 @@ list_at state p staged d drawn some told =
     let holds = tree_holds some.0 p staged.map some.1.0 (some.1.1.held told.disk told.runs).map_is in
     (pairs some.0 p, subst (λ (e : Draw). HoldsPairs e (pairs some.0 p) staged.map) (sym drawn) holds)
 
-module _ {D : Type 0} (state : D → DiskState) (t : Tree) (c : Command) (p : Parameters) (old mid : StagedState D AnyDraw) (fit : IsFitting t p) (at : AreAt state t p old) (runs : old.is_spent ≡ false) (command : IsCommand c) where
+module _ {D : Type 0} (state : D → DiskState) (t : Tree) (c : Command) (p : Parameters) (old mid : StagedState D AnyDraw) (fit : IsFitting t p) (at : AreAt state t p old) (runs : old.is_spent ≡ false) (command : IsCommand c) (has : lacks_version c p ≡ false) where
   -- it is acknowledged, and the pages of the next tree are staged
   pub acked_staged : AnswersAt state c t p old mid (Ok replies.Ok) → IsStagedFor state t (uncounted_step t c p).tree p mid
   acked_staged answers =
@@ -61,6 +61,7 @@ module _ {D : Type 0} (state : D → DiskState) (t : Tree) (c : Command) (p : Pa
         size_is = follows.disk.size ∙ at.size_is;
         stands = λ observable. stands_reading (state old.disk) (state mid.disk) t p (follows.disk.reads (before observable)) (at.held (before observable) runs).stands;
         table_is = λ observable. follows.table (before observable) ∙ (at.held (before observable) runs).table_is;
+        fits = λ observable. acked_fits t c p fit.tree fit.fits has (sym (answers.answered (before observable)).reply_is);
         holds = λ observable. (answers.answered (before observable)).holds;
       }
 
@@ -69,7 +70,7 @@ module _ {D : Type 0} (state : D → DiskState) (t : Tree) (c : Command) (p : Pa
       → EndsStep state t (step t c p) p old new result
   acked new result answers settles =
       let next = (uncounted_step t c p).tree in
-      told_as state t (counted_step t next p) (step t c p) p old new result (λ observable. sym (acked_step t c p fit.tree fit.fits (sym (answers.answered observable).reply_is)))
+      told_as state t (counted_step t next p) (step t c p) p old new result (λ observable. sym (acked_step t c p fit.tree fit.fits has (sym (answers.answered observable).reply_is)))
       (behind_reads state t (counted_step t next p) p old mid new result fit at runs answers.follows answers.faults (settles t next p (acked_staged answers)))
 
   taken_back : Follows state old mid → Follows state old (without_changes mid)
@@ -78,7 +79,7 @@ module _ {D : Type 0} (state : D → DiskState) (t : Tree) (c : Command) (p : Pa
   -- it is answered otherwise
   answered : (reply : Reply) → (reply_of reply ≡ (uncounted_step t c p).reply → reply_of reply ≡ Acknowledged → ⊥) → AnswersAt state c t p old mid (Ok reply) → EndsStep state t (step t c p) p old (without_changes mid) (Ok reply)
   answered reply other answers =
-      let is = λ (observable : IsObservable (state old.disk)). answered_step t c p (reply_of reply) (answers.answered observable).reply_is (other (answers.answered observable).reply_is) in
+      let is = λ (observable : IsObservable (state old.disk)). answered_step t c p (reply_of reply) has (answers.answered observable).reply_is (other (answers.answered observable).reply_is) in
       record {
         step = read_step state t (step t c p) p old (without_changes mid) (Ok reply) fit at runs (taken_back answers.follows) answers.faults (λ e. cc) (λ observable. ap (λ (s : Step). s.tree) (is observable)) (λ observable. sym (ap (λ (s : Step). s.reply) (is observable)));
         none_staged = λ observable still. refl;

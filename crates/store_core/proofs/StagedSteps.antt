@@ -148,11 +148,11 @@ module _ {D : Type 0} (state : D → DiskState) (t next : Tree) (p : Parameters)
   fitting_next few = record {
     in_range = staged.fitting.in_range;
     tree = staged.tree;
-    fits = ⊎_elim (λ fits. fits) (λ more. absurd (few (omega (arith, more, count_is, slots_are)))) (fits_or (page_count next p) p.slots);
+    fits = staged.fits observable (⊎_elim (λ room. room) (λ more. absurd (few (omega (arith, more, count_is, slots_are)))) (room_or (page_count next p) p.slots));
   }
     where
-      fits_or : (m n : ℕ) → (m ≤ n) ⊎ (n < m)
-      fits_or m n = grind arith
+      room_or : (m n : ℕ) → (m ≤ n) ⊎ (n < m)
+      room_or m n = grind arith
 
   -- what the settle of a next tree that fits does to the disk
   module _ (to : IsFitting next p) (kept : KeepsDisk (state old.disk) (state new.disk)) (r : Result (Unit {0}) SettleFault) (disk : SettlesDisk (draw_of p) p (map_of_pages (pages t p)) (map_of_pages (pages next p)) (state old.disk) (state new.disk) new.is_spent r) where
@@ -190,7 +190,7 @@ module _ {D : Type 0} (state : D → DiskState) (t next : Tree) (p : Parameters)
       let to = fitting_next disk.full in
       let seen = by_trees (Ok value) disk in
       let count = counts to settles.kept (Ok value) seen in
-      subst (λ (s : Step). StepsPages state t s p old new (Ok replies.Ok)) (sym (counted_fits t next p to.fits)) (record {
+      subst (λ (s : Step). StepsPages state t s p old new (Ok replies.Ok)) (sym (counted_fits t next p to.fits.room)) (record {
         reply = refl;
         image = image to settles.kept (Ok value) seen (Ok replies.Ok) seen.stands (λ e. absurd (cc)) (λ e. absurd (cc)) (λ e. absurd (cc)) (record { made = count.made; limit = count.limit });
         goes = settles.table observable ∙ map_is;
@@ -201,7 +201,7 @@ module _ {D : Type 0} (state : D → DiskState) (t next : Tree) (p : Parameters)
       let to = fitting_next disk.full in
       let seen = by_trees (Err causes.Disk) disk in
       let count = counts to settles.kept (Err causes.Disk) seen in
-      subst (λ (s : Step). StepsPages state t s p old new (Err apply.Disk)) (sym (counted_fits t next p to.fits)) (record {
+      subst (λ (s : Step). StepsPages state t s p old new (Err apply.Disk)) (sym (counted_fits t next p to.fits.room)) (record {
         reply = tt;
         image = image to settles.kept (Err causes.Disk) seen {U = Reply} (Err apply.Disk) tt (λ e. refl) (λ e. refl) (λ e. absurd (cc)) (record { made = tt; limit = count.limit });
         goes = tt;
@@ -212,7 +212,7 @@ module _ {D : Type 0} (state : D → DiskState) (t next : Tree) (p : Parameters)
       let to = fitting_next disk.full in
       let seen = by_trees (Err causes.NoMemory) disk in
       let count = counts to settles.kept (Err causes.NoMemory) seen in
-      subst (λ (s : Step). StepsPages state t s p old new (Err apply.NoMemory)) (sym (counted_fits t next p to.fits)) (record {
+      subst (λ (s : Step). StepsPages state t s p old new (Err apply.NoMemory)) (sym (counted_fits t next p to.fits.room)) (record {
         reply = tt;
         image = image to settles.kept (Err causes.NoMemory) seen {U = Reply} (Err apply.NoMemory) tt (λ e. absurd (cc)) (λ e. absurd (cc)) (λ e. refl) (record { made = tt; limit = count.limit });
         goes = tt;

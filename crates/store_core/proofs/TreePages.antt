@@ -36,7 +36,7 @@ unfolding draw_of pages
 few_fitting t p fitting =
     let full = pairs_per_page (draw_of p) (pairs t p) fitting.in_range.some_level in
     let slots = fitting.in_range.slots_in_range in
-    let fits = fitting.fits in
+    let room = fitting.fits.room in
     omega arith
 
 -- so a command finds room for what it adds
@@ -112,4 +112,4 @@ slots_as_upgraded t p fitting = slots_by t t p (with_version p Two) (draw_of-wit
 -- the table of its layout has as many pages
 pub table_count : (t : Tree) (p : Parameters) → IsFitting t p → length (pages_in (table_of_tree t p)) ≡ page_count t p
 unfolding draw_of
-table_count t p fitting = length_permutation (pages t p) (pages_in (table_of_tree t p)) (IsPermutation-place (draw_of p) (pages t p) (IsLawful-draw_of p fitting.in_range) fitting.fits)
+table_count t p fitting = length_permutation (pages t p) (pages_in (table_of_tree t p)) (IsPermutation-place (draw_of p) (pages t p) (IsLawful-draw_of p fitting.in_range) fitting.fits.room)

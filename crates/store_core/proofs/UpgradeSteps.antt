@@ -242,7 +242,7 @@ module _ {D : Type 0} (state : D → DiskState) (t : Tree) (p : Parameters) (old
       }
   stepped (Err (causes.Full need slots)) settles =
       let full = (settles.observed observable).full in
-      let fits : page_count t (with_version p Two) ≤ p.slots = to.fits in
+      let fits : page_count t (with_version p Two) ≤ p.slots = to.fits.room in
       absurd (omega (arith, full.more, full.need_is ∙ count_is, full.slots_are ∙ slots_are, fits))
 
 -- what it makes of the count of faults

@@ -1,11 +1,11 @@
 -- Staged pages that are those of a tree.
-use Rattle.std.specs.Prelude.{◌≡◌, true, false, List}
+use Rattle.std.specs.Prelude.{◌≡◌, ◌≤◌, true, false, List}
 use Rattle.store_model.specs.declared.version.Version.TheVariants.{Two}
 use Rattle.store_model.specs.Parameters.{Parameters, with_version, image_len}
 use Rattle.store_model.specs.Trees.{Tree, IsTree}
 use Rattle.store_model.specs.Draws.{draw_of}
 use Rattle.store_model.specs.Pairs.{Pair, pairs}
-use Rattle.store_model.specs.Pages.{pages}
+use Rattle.store_model.specs.Pages.{page_count, Fits, pages}
 use Rattle.store_model.specs.PageMaps.{map_of_pages}
 use Rattle.disk_model.specs.DiskState.{DiskState, IsObservable}
 use Rattle.seeded_draw.specs.declared.any.AnyDraw.{AnyDraw}
@@ -30,7 +30,7 @@ pub record AreAt {D : Type 0} (state : D → DiskState) (t : Tree) (p : Paramete
   pub held : IsObservable (state s.disk) → s.is_spent ≡ false → StagesTreePages state t p s
 
 -- Over an observable disk that stands at the tree, with the tree's pages in its table, the pages of the next one are
--- staged.
+-- staged, which fits where the slots have room for them.
 pub record IsStagedFor {D : Type 0} (state : D → DiskState) (t next : Tree) (p : Parameters) (s : StagedState D AnyDraw) : Type 0 where
   pub fitting : IsFitting t p
   pub tree : IsTree next
@@ -39,6 +39,7 @@ pub record IsStagedFor {D : Type 0} (state : D → DiskState) (t next : Tree) (p
   pub size_is : (state s.disk).size ≡ image_len p.slots
   pub stands : IsObservable (state s.disk) → Stands (state s.disk) t p
   pub table_is : IsObservable (state s.disk) → s.table ≡ map_of_pages (pages t p)
+  pub fits : IsObservable (state s.disk) → page_count next p ≤ p.slots → Fits next p
   pub holds : IsObservable (state s.disk) → HoldsPairs (draw_of p) (pairs next p) s.map
 
 -- Over an observable disk that stands at the tree, with the tree's pages in its table, those that it has under version 2

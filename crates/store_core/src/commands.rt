@@ -6,6 +6,7 @@ ghost use Rattle.store_model.specs.Trees.{Tree};
 ghost use Rattle.store_model.specs.Draws.{draw_of};
 ghost use Rattle.store_model.specs.Commands.{IsCommand};
 ghost use Rattle.store_model.specs.Commands.Command.{Space, Digest};
+ghost use Rattle.store_model.specs.Steps as steps;
 ghost use Rattle.store_model.specs.Steps.{step};
 ghost use Rattle.disk_model.specs.DiskState.{IsObservable};
 ghost use Rattle.seeded_draw.specs.AnyDrawn.{any_draw};
@@ -27,8 +28,8 @@ use seeded_draw::AnyDraw;
 use skip_levels::SkipList;
 use std::alloc::Global;
 use store_base::{Answer, Params};
-use store_model::Refusal;
-use tree_commands::{answer, change};
+use store_model::{Refusal, Version};
+use tree_commands::{answer, change, is_on_attributes};
 
 /// The pages of a tree in the table of an image.
 pub type TreePages<D> = Staged<D, AnyDraw>;
@@ -54,15 +55,27 @@ pub fn carry_out<D: Disk>(
     ensures call { (t : Tree) → IsListAt D.state t params.now pairs.old → EndsStep D.state t (step t (command_of command.now) params.now) params.now pairs.old.pages pairs.new.pages (in_place reply.new result) }
     ensures list { GoesOn D.state pairs.old pairs.new }
 {
+    if lacks_version(command, params) {
+        reply.put_refusal(Refusal::Version);
+        return Ok(());
+    }
     match command {
         Command::Space => {
             tell_space(&pairs.pages, params, reply);
             Ok(())
         }
         Command::Digest => tell_digest(&mut pairs.pages, reply),
-        Command::List(_) | Command::Read(..) => carry_out_look(alloc, pairs, command, reply),
+        Command::List(_) | Command::Read(..) | Command::Get(..) | Command::Attrs(_) =>
+            carry_out_look(alloc, pairs, command, reply),
         _ => put_answer(carry_out_change(pairs, params, command), reply),
     }
+}
+
+/// Whether a command is refused for the version of the image.
+fn lacks_version(command: &Command, params: &Params) -> bool
+    ensures { result ≡ steps.lacks_version (command_of command.now) params.now }
+{
+    is_on_attributes(command) && params.version() == Version::One
 }
 
 /// Tells how many slots are used, and how many there are. LLVM is not to join it to `carry_out`, which would clear the
@@ -90,7 +103,8 @@ fn tell_digest<D: Disk>(staged: &mut TreePages<D>, reply: &mut Reply) -> Result<
     Ok(())
 }
 
-/// Carries out a command that only looks at the pairs of the tree. Behind it nothing is staged.
+/// Carries out a command that only looks at the pairs of the tree, and that its image's version has. Behind it nothing
+/// is staged.
 fn carry_out_look<D: Disk>(
     alloc: Global,
     pairs: &mut TreeList<D>,
@@ -101,7 +115,8 @@ fn carry_out_look<D: Disk>(
     requires command { IsCommand (command_of command.now) }
     requires runs { pairs.old.pages.is_spent ≡ false }
     requires list { (t : Tree) × ((p : Parameters) × IsListAt D.state t p pairs.old) }
-    ensures call { (t : Tree) (p : Parameters) → IsListAt D.state t p pairs.old → EndsStep D.state t (step t (command_of command.now) p) p pairs.old.pages pairs.new.pages (in_place reply.new result) }
+    ensures call { (t : Tree) (p : Parameters) → steps.lacks_version (command_of command.now) p ≡ false → IsListAt D.state t p pairs.old
+        → EndsStep D.state t (step t (command_of command.now) p) p pairs.old.pages pairs.new.pages (in_place reply.new result) }
     ensures list { GoesOn D.state pairs.old pairs.new }
 {
     match answer(alloc, pairs, command, reply) {
@@ -116,14 +131,15 @@ fn carry_out_look<D: Disk>(
     }
 }
 
-/// Carries out a command that changes the tree. A `Reply` is large, since it may hold the bytes of a read: it is not
-/// made here, but by the caller.
+/// Carries out a command that changes the tree, and that its image's version has. A `Reply` is large, since it may hold
+/// the bytes of a read: it is not made here, but by the caller.
 fn carry_out_change<D: Disk>(
     pairs: &mut TreeList<D>,
     params: &Params,
     command: &Command,
 ) -> Result<Answer<()>, ApplyFault>
     requires change { is_change (command_of command.now) ≡ true }
+    requires version { steps.lacks_version (command_of command.now) params.now ≡ false }
     requires command { IsCommand (command_of command.now) }
     requires runs { pairs.old.pages.is_spent ≡ false }
     requires list { (t : Tree) × IsListAt D.state t params.now pairs.old }

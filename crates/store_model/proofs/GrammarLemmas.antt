@@ -7,10 +7,10 @@ use Rattle.hex.specs.declared.error.FromHexError.{FromHexError}
 use Rattle.hex.proofs.HexLemmas.{decode_of-ok}
 use Rattle.store_model.specs.declared.refusal.Refusal.TheVariants as refusals
 use Rattle.store_model.specs.Lists.{IsBytes}
-use Rattle.store_model.specs.Paths.{Path, is_name, fits_field}
+use Rattle.store_model.specs.Paths.{Path, Name, is_name, is_attribute_name, fits_field}
 use Rattle.store_model.specs.Commands.{Command, IsCommand}
-use Rattle.store_model.specs.Commands.Command.{Make, Write, Cut, Rename, Remove, Prune, ListChildren, Read, Space, Digest}
-use Rattle.store_model.specs.Grammar.{number_limit, is_numeral, digits_value, number_of, names_of, path_of, ok_value, content_of, ◌>>=◌, command_of_fields, command_of, has_short_paths, checked_command, parse}
+use Rattle.store_model.specs.Commands.Command.{Make, Write, Cut, Rename, Remove, Prune, ListChildren, Read, Space, Digest, SetAttribute, UnsetAttribute, GetAttribute, ListAttributes}
+use Rattle.store_model.specs.Grammar.{number_limit, is_numeral, digits_value, number_of, names_of, path_of, ok_value, content_of, attribute_name_of, ◌>>=◌, command_of_fields, command_of, has_short_paths, checked_command, parse}
 
 -- a path made of names, of any length
 abbrev IsNamed : Path → Type 0
@@ -28,6 +28,10 @@ IsSpelled (ListChildren p) = IsNamed p
 IsSpelled (Read p at len) = IsNamed p × (at < 2 ^ 32) × (len < 2 ^ 32)
 IsSpelled Space = Unit {0}
 IsSpelled Digest = Unit {0}
+IsSpelled (SetAttribute p a bytes) = IsNamed p × IsTrue (is_attribute_name a) × IsBytes bytes
+IsSpelled (UnsetAttribute p a) = IsNamed p × IsTrue (is_attribute_name a)
+IsSpelled (GetAttribute p a) = IsNamed p × IsTrue (is_attribute_name a)
+IsSpelled (ListAttributes p) = IsNamed p
 
 -- ---- the steps of the grammar keep what is known of what they give
 
@@ -110,6 +114,12 @@ path_then text f g = record { command = if_next IsNamed IsSpelled (path_of text)
 number_then : (text : List ℕ) (f : ℕ → Option Command) → ((n : ℕ) → n < 2 ^ 32 → Spells (f n)) → Spells (number_of text >>= f)
 number_then text f g = record { command = if_next (λ n. n < 2 ^ 32) IsSpelled (number_of text) f (small_number text) (λ n h. (g n h).command) }
 
+-- a command whose next part is an attribute's name
+attribute_then : (text : List ℕ) (f : Name → Option Command) → ((a : Name) → IsTrue (is_attribute_name a) → Spells (f a)) → Spells (attribute_name_of text >>= f)
+attribute_then text f g = record {
+  command = if_next (λ a. IsTrue (is_attribute_name a)) IsSpelled (attribute_name_of text) f (if_tested (λ a. IsTrue (is_attribute_name a)) (is_attribute_name text) text (λ e. e)) (λ a h. (g a h).command);
+}
+
 -- a command whose next part is contents
 contents_then : (text : List ℕ) (f : List ℕ → Option Command) → ((bytes : List ℕ) → IsBytes bytes → Spells (f bytes)) → Spells (content_of text >>= f)
 contents_then text f g = record { command = if_next IsBytes IsSpelled (content_of text) f (content_bytes text) (λ bytes h. (g bytes h).command) }
@@ -123,19 +133,26 @@ spells_fields (w ∷ a ∷ []) =
     spells_picked _ _ _ (spells_path Make a (λ p h. h))
     (spells_picked _ _ _ (spells_path Remove a (λ p h. h))
     (spells_picked _ _ _ (spells_path Prune a (λ p h. h))
-    (spells_picked _ _ _ (spells_path ListChildren a (λ p h. h)) spells_none)))
+    (spells_picked _ _ _ (spells_path ListChildren a (λ p h. h))
+    (spells_picked _ _ _ (spells_path ListAttributes a (λ p h. h)) spells_none))))
 spells_fields (w ∷ a ∷ b ∷ []) =
     spells_picked _ _ _
     (path_then a _ (λ p h. number_then b _ (λ n k. spells_some (Cut p n) (h, k))))
     (spells_picked _ _ _
     (path_then a _ (λ p h. path_then b _ (λ q k. spells_some (Rename p q) (h, k))))
-    spells_none)
+    (spells_picked _ _ _
+    (path_then a _ (λ p h. attribute_then b _ (λ n k. spells_some (UnsetAttribute p n) (h, k))))
+    (spells_picked _ _ _
+    (path_then a _ (λ p h. attribute_then b _ (λ n k. spells_some (GetAttribute p n) (h, k))))
+    spells_none)))
 spells_fields (w ∷ a ∷ b ∷ c ∷ []) =
     spells_picked _ _ _
     (path_then a _ (λ p h. number_then b _ (λ n k. contents_then c _ (λ bytes is. spells_some (Write p n bytes) (h, k, is)))))
     (spells_picked _ _ _
     (path_then a _ (λ p h. number_then b _ (λ n k. number_then c _ (λ m l. spells_some (Read p n m) (h, k, l)))))
-    spells_none)
+    (spells_picked _ _ _
+    (path_then a _ (λ p h. attribute_then b _ (λ n k. contents_then c _ (λ bytes is. spells_some (SetAttribute p n bytes) (h, k, is)))))
+    spells_none))
 spells_fields (w ∷ a ∷ b ∷ c ∷ d ∷ fields) = spells_none
 
 -- so does a line
@@ -156,6 +173,10 @@ short_command (ListChildren p) h s = and_from _ _ h s
 short_command (Read p at len) h s = (and_from _ _ h.0 s, h.1, h.2)
 short_command Space h s = tt
 short_command Digest h s = tt
+short_command (SetAttribute p a bytes) h s = (and_from _ _ h.0 s, h.1, h.2)
+short_command (UnsetAttribute p a) h s = (and_from _ _ h.0 s, h.1)
+short_command (GetAttribute p a) h s = (and_from _ _ h.0 s, h.1)
+short_command (ListAttributes p) h s = and_from _ _ h s
 
 -- a command that is checked for the length of its paths
 checked : (spelled : Option Command) (c : Command) → IfSome spelled IsSpelled → checked_command spelled ≡ Ok c → IsCommand c

@@ -141,7 +141,7 @@ length-areas slots head table h t = omega (arith, length-append (head ++ zeros (
 -- a layout has the length of an image
 pub length-layout : (t : Tree) (p : Parameters) → IsParameters p → IsTree t → Fits t p → length (layout t p) ≡ image_len p.slots
 unfolding layout draw_of
-length-layout t p is tree fits = length-areas p.slots (header p) (table_bytes (place (draw_of p) (pages t p))) (length-header p is) (length-place_bytes (draw_of p) (pages t p) (IsLawful-draw_of p is) fits (tree_pages_are_pages t p is tree fits))
+length-layout t p is tree fits = length-areas p.slots (header p) (table_bytes (place (draw_of p) (pages t p))) (length-header p is) (length-place_bytes (draw_of p) (pages t p) (IsLawful-draw_of p is) fits.room (tree_pages_are_pages t p is tree fits))
 
 -- runs of n elements, one after another from a run on, make the list from there on
 pub runs_join : (n first count : ℕ) (xs : List ℕ) → length xs ≡ n * (first + count) → flat_map (λ i. take n (drop (n * i) xs)) (numbers_from first count) ≡ drop (n * first) xs
@@ -233,7 +233,7 @@ recovered-at_rest slots head table h t =
 -- a layout is its own recovery
 pub recovered-layout : (t : Tree) (p : Parameters) → IsParameters p → IsTree t → Fits t p → recovered p.slots (layout t p) ≡ layout t p
 unfolding layout draw_of
-recovered-layout t p is tree fits = recovered-at_rest p.slots (header p) (table_bytes (place (draw_of p) (pages t p))) (length-header p is) (length-place_bytes (draw_of p) (pages t p) (IsLawful-draw_of p is) fits (tree_pages_are_pages t p is tree fits))
+recovered-layout t p is tree fits = recovered-at_rest p.slots (header p) (table_bytes (place (draw_of p) (pages t p))) (length-header p is) (length-place_bytes (draw_of p) (pages t p) (IsLawful-draw_of p is) fits.room (tree_pages_are_pages t p is tree fits))
 
 -- a layout begins with its header
 pub header-layout : (t : Tree) (p : Parameters) → IsParameters p → take 4096 (layout t p) ≡ header p

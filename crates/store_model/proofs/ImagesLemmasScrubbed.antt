@@ -194,10 +194,10 @@ scrubbed-layout t p is tree fits =
     bytes = flat_map slot_bytes table
 
     whole : length bytes ≡ 4096 * p.slots
-    whole = length-place_bytes (draw_of p) (pages t p) (IsLawful-draw_of p is) fits (tree_pages_are_pages t p is tree fits)
+    whole = length-place_bytes (draw_of p) (pages t p) (IsLawful-draw_of p is) fits.room (tree_pages_are_pages t p is tree fits)
 
     block : (i : ℕ) → i < p.slots → take 4096 (drop (4096 * i) bytes) ≡ slot_bytes (get_or table i None)
-    block i within = block_of_flat_map slot_bytes 4096 table i None (all_weaker IsSlot (λ slot. length (slot_bytes slot) ≡ 4096) length-slot_bytes table (slots-place (draw_of p) (pages t p) (IsLawful-draw_of p is) fits (tree_pages_are_pages t p is tree fits))) (omega (arith, length-place (draw_of p) (pages t p)))
+    block i within = block_of_flat_map slot_bytes 4096 table i None (all_weaker IsSlot (λ slot. length (slot_bytes slot) ≡ 4096) length-slot_bytes table (slots-place (draw_of p) (pages t p) (IsLawful-draw_of p is) fits.room (tree_pages_are_pages t p is tree fits))) (omega (arith, length-place (draw_of p) (pages t p)))
 
     kept : (i : ℕ) → i < p.slots → scrubbed_block (recovered_slot p.slots (header p ++ zeros (journal_len p.slots) ++ bytes) i) ≡ take 4096 (drop (4096 * i) bytes)
     kept i within =

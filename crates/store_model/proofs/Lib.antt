@@ -11,12 +11,14 @@ pub mod PagesLemmasSizes
 pub mod PagesLemmasSplits
 pub mod PairsLemmas
 pub mod PathsLemmas
+pub mod PathsLemmasPlaces
 pub mod PlacementLemmas
 pub mod PlacementLemmasDraws
 pub mod PlacementLemmasOrder
 pub mod PlacementLemmasTables
 pub mod ScriptsLemmas
 pub mod TreesLemmas
+pub mod TreesLemmasAttributes
 pub mod TreesLemmasBytes
 pub mod TreesLemmasFewer
 pub mod TreesLemmasFits

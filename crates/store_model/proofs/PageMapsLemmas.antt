@@ -458,5 +458,5 @@ IsPageMap-pages_of_pairs d s low pairs few = IsPageMap-map_of_pages (pages_of_pa
 pub HoldsPages-tree : (t : Tree) (p : Parameters) → IsParameters p → IsTree t → Fits t p → HoldsPages (draw_of p) (slots_of (place (draw_of p) (pages t p))) (map_of_pages (pages t p))
 unfolding draw_of pages
 HoldsPages-tree t p is tree fits =
-    HoldsPages-place (draw_of p) (pages t p) fits (tree_pages_are_pages t p is tree fits)
+    HoldsPages-place (draw_of p) (pages t p) fits.room (tree_pages_are_pages t p is tree fits)
     (rising_pages (draw_of p) (pairs t p) (keyed (pairs t p) (pair_list_of_tree t p is tree fits)))

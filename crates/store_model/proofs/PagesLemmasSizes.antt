@@ -11,7 +11,7 @@ use Rattle.store_model.specs.Labels.{Lead, IsLead, label_cmp}
 use Rattle.store_model.specs.Labels.Lead.{Start, Leader}
 use Rattle.store_model.specs.Draws.{Draw, draw_of}
 use Rattle.store_model.specs.Pairs.{Pair, pairs, IsPair, IsPairs}
-use Rattle.store_model.specs.Pages.{Cell, Page, page_room, cell_on, level_list, leads_group, groups, lead_of, group_pages, level_pages, pages_of_pairs, IsCell, IsPage, Fits, pages}
+use Rattle.store_model.specs.Pages.{Cell, Page, page_room, cell_on, level_list, leads_group, groups, lead_of, group_pages, level_pages, pages_of_pairs, IsCell, IsPage, Fits, pages, page_count}
 use Rattle.store_model.specs.Placement.{page_cmp}
 use Rattle.store_model.specs.Parameters.{Parameters, IsParameters}
 use Rattle.store_model.specs.Trees.{Tree, IsTree}
@@ -157,14 +157,18 @@ pairs_per_page d s h =
     let among = level_0_among_pages d s d.height h in
     omega arith
 
--- the pairs of a tree that fits
-pub pair_list_of_tree : (t : Tree) (p : Parameters) → IsParameters p → IsTree t → Fits t p → IsPairList (pairs t p)
+-- the pairs of a tree that has no more pages than there are slots
+pair_list_in_room : (t : Tree) (p : Parameters) → IsParameters p → IsTree t → page_count t p ≤ p.slots → IsPairList (pairs t p)
 unfolding pages draw_of
-pair_list_of_tree t p h g fits =
+pair_list_in_room t p h g room =
     record {
       pairs = pairs_are_pairs t p g;
       few = (let few = pairs_per_page (draw_of p) (pairs t p) h.some_level in let slots = h.slots_in_range in omega arith);
     }
+
+-- the pairs of a tree that fits
+pub pair_list_of_tree : (t : Tree) (p : Parameters) → IsParameters p → IsTree t → Fits t p → IsPairList (pairs t p)
+pair_list_of_tree t p h g fits = pair_list_in_room t p h g fits.room
 
 -- each page of such a tree can stand in a slot
 pub tree_pages_are_pages : (t : Tree) (p : Parameters) → IsParameters p → IsTree t → Fits t p → AllByRecursion IsPage (pages t p)
@@ -176,10 +180,14 @@ pub rising_tree_labels : (t : Tree) (p : Parameters) → IsParameters p → IsTr
 unfolding pages
 rising_tree_labels t p h g fits = rising_labels (draw_of p) (pairs t p) (keyed (pairs t p) (pair_list_of_tree t p h g fits))
 
--- and no two of them have the same bytes
-pub distinct_tree_labels : (t : Tree) (p : Parameters) → IsParameters p → IsTree t → Fits t p → IsDistinct (eq_by_cmp label_cmp) (map (λ page. page.label) (pages t p))
+-- and no two of them have the same bytes, where the pages are no more than the slots
+pub distinct_labels_in_room : (t : Tree) (p : Parameters) → IsParameters p → IsTree t → page_count t p ≤ p.slots → IsDistinct (eq_by_cmp label_cmp) (map (λ page. page.label) (pages t p))
 unfolding pages
-distinct_tree_labels t p h g fits = distinct_labels (draw_of p) (pairs t p) (keyed (pairs t p) (pair_list_of_tree t p h g fits))
+distinct_labels_in_room t p h g room = distinct_labels (draw_of p) (pairs t p) (keyed (pairs t p) (pair_list_in_room t p h g room))
+
+-- so where the tree fits
+pub distinct_tree_labels : (t : Tree) (p : Parameters) → IsParameters p → IsTree t → Fits t p → IsDistinct (eq_by_cmp label_cmp) (map (λ page. page.label) (pages t p))
+distinct_tree_labels t p h g fits = distinct_labels_in_room t p h g fits.room
 
 -- the pages of a tree come by rank
 pub tree_pages_by_rank : (t : Tree) (p : Parameters) → IsParameters p → IsTree t → Fits t p → in_order page_cmp (pages t p) ≡ pages t p

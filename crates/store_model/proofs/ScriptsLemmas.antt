@@ -7,9 +7,9 @@ use Rattle.store_model.specs.Pages.{page_count}
 use Rattle.sha2.specs.Sha256.{sha256}
 use Rattle.store_model.specs.Images.{layout}
 use Rattle.store_model.specs.Commands.{Command}
-use Rattle.store_model.specs.Commands.Command.{Make, Write, Cut, Rename, Remove, Prune, ListChildren, Read, Space, Digest}
+use Rattle.store_model.specs.Commands.Command.{Make, Write, Cut, Rename, Remove, Prune, ListChildren, Read, Space, Digest, SetAttribute, UnsetAttribute, GetAttribute, ListAttributes}
 use Rattle.store_model.specs.Commands.Reply.{Refused, ImageDigest}
-use Rattle.store_model.specs.Steps.{Step, step, step_to, step_by, first_refusal, conditions, reply_of, refusal_of, next_tree, may_fill}
+use Rattle.store_model.specs.Steps.{Step, step, step_to, step_by, first_refusal, conditions, reply_of, refusal_of, next_tree, may_fill, is_on_attributes, lacks_version}
 use Rattle.store_model.specs.Scripts.{answer, answer_by, line_limit, answers_by, state_by, by_step, replies_by, tree_by, replies, tree_after}
 use Rattle.store_model.specs.Grammar.{command_of_fields, command_of, has_short_paths, parse}
 
@@ -26,6 +26,10 @@ reply_of-not_refused t (ListChildren path) p r e = cc
 reply_of-not_refused t (Read path at len) p r e = cc
 reply_of-not_refused t Space p r e = cc
 reply_of-not_refused t Digest p r e = cc
+reply_of-not_refused t (SetAttribute path a bytes) p r e = cc
+reply_of-not_refused t (UnsetAttribute path a) p r e = cc
+reply_of-not_refused t (GetAttribute path a) p r e = cc
+reply_of-not_refused t (ListAttributes path) p r e = cc
 
 -- of two steps that keep the tree where they refuse, the one that a test picks does so
 picked_keeps : (b : Bool) (x y : Step) (t : Tree) (r : Refusal) → (x.reply ≡ Refused r → x.tree ≡ t) → (y.reply ≡ Refused r → y.tree ≡ t)
@@ -45,7 +49,7 @@ step_by_keeps t c p None r e = step_to_keeps t c p (next_tree t c) r e
 -- a command that is refused leaves the tree
 pub refused_step_keeps : (t : Tree) (c : Command) (p : Parameters) (r : Refusal) → (step t c p).reply ≡ Refused r → (step t c p).tree ≡ t
 unfolding step
-refused_step_keeps t c p r e = step_by_keeps t c p (refusal_of t c) r e
+refused_step_keeps t c p r = picked_keeps (lacks_version c p) _ _ t r (λ e. refl) (step_by_keeps t c p (refusal_of t c) r)
 
 -- so does the answer to a line that was parsed
 answer_by_keeps : (t : Tree) (parsed : Result Command Refusal) (p : Parameters) (r : Refusal) → (answer_by t parsed p).reply ≡ Refused r → (answer_by t parsed p).tree ≡ t
@@ -90,5 +94,5 @@ tree_after-append t a b p = tree_by-append (λ u text. answer u text p) t a b
 
 -- the reply to the line `digest`
 pub digest_of_layout : (t : Tree) (p : Parameters) → (answer t (codes "digest") p).reply ≡ ImageDigest (sha256 (layout t p))
-unfolding answer parse command_of command_of_fields has_short_paths step first_refusal conditions reply_of may_fill
+unfolding answer parse command_of command_of_fields has_short_paths step first_refusal conditions reply_of may_fill is_on_attributes
 digest_of_layout t p = refl

@@ -5,16 +5,16 @@ use Rattle.std.specs.Cmp.{tied_itself}
 use Rattle.std.specs.Cmp.Lexicographic.{nat_list_cmp_total}
 use Rattle.std.specs.List.{AllByRecursion, filter, flat_map, enumerate_from}
 use Rattle.std.specs.List.Sorted.{IsStrictlySortedBy, IsPermutation}
-use Rattle.std.proofs.lemmas.List.{append-nil, append_cancel_left, length-map}
+use Rattle.std.proofs.lemmas.List.{append-nil, append_assoc, append_cancel_left, length-map}
 use Rattle.std.proofs.lemmas.List.Elements.{filter-append}
 use Rattle.std.proofs.lemmas.List.FromFn.{length-enumerate_from}
 use Rattle.std.proofs.lemmas.List.Sorted.{IsPermutation-sym, IsPermutation-trans, Contains-permutation}
 use Rattle.store_model.specs.Lists.{zeros, run_count, runs, numbers_from, numbers_below}
 use Rattle.store_model.specs.Parameters.{Parameters, IsParameters}
-use Rattle.store_model.specs.Paths.{Path, is_path, path_cmp, key, key_cmp}
-use Rattle.store_model.specs.Trees.{Tree, Node, file_limit, IsNode, IsEntry, IsTree}
+use Rattle.store_model.specs.Paths.{Path, Name, is_path, is_place, path_cmp, key, key_cmp, attribute_place, attribute_key}
+use Rattle.store_model.specs.Trees.{Tree, Node, Entry, Attributes, file_limit, IsNode, IsAttribute, IsEntry, IsTree}
 use Rattle.store_model.specs.Trees.Node.{Directory, File}
-use Rattle.store_model.specs.Pairs.{Pair, file_block, file_value, is_inline, file_pairs, node_pairs, pairs}
+use Rattle.store_model.specs.Pairs.{Pair, file_block, file_value, is_inline, file_pairs, node_pairs, attribute_value, attribute_pairs, entry_pairs, pairs}
 use Rattle.store_model.specs.Draws.{Draw, IsLawful, draw_of}
 use Rattle.store_model.specs.Pages.{Cell, Page, cell_on, lead_of, groups, group_pages, level_pages, pages_of_pairs, page_room, Fits, pages}
 use Rattle.store_model.specs.Placement.{place, pages_in, page_cmp}
@@ -22,7 +22,8 @@ use Rattle.store_model.specs.Images.{header, table_bytes, journal_len, layout, r
 use Rattle.store_model.proofs.ListsLemmas.{all_none, all_weaker, all_map, all_flat_map, all_numbers_from, then-Equal, nat_cmp-eq, length-runs}
 use Rattle.store_model.proofs.ListsLemmasOrder.{same_rising}
 use Rattle.store_model.proofs.ListsLemmasCuts.{flat_map-runs}
-use Rattle.store_model.proofs.PathsLemmas.{order_of_keys}
+use Rattle.store_model.proofs.PathsLemmas.{place_of_path, place_of_attribute, order_of_keys}
+use Rattle.store_model.proofs.PathsLemmasPlaces.{same_attribute_place}
 use Rattle.store_model.proofs.PagesLemmas.{cells_of_level_0}
 use Rattle.store_model.proofs.PagesLemmasOrder.{page_of, rising_pages}
 use Rattle.store_model.proofs.PagesLemmasSizes.{keyed, pair_list_of_tree, tree_pages_are_pages}
@@ -103,12 +104,22 @@ pages_tell_pairs d r s h e =
 
 -- ---- the pairs of a tree tell it
 
--- the key of a path tells it
-pub keys_tell_paths : (x y : Path) → IsTrue (is_path x) → IsTrue (is_path y) → key x 0 ≡ key y 0 → x ≡ y
-keys_tell_paths x y hx hy e =
+-- the key of a place tells it
+pub keys_tell_places : (x y : Path) → IsTrue (is_place x) → IsTrue (is_place y) → key x 0 ≡ key y 0 → x ≡ y
+keys_tell_places x y hx hy e =
     same_from_tie x y
     (sym (then-Equal (path_cmp x y)) ∙ ap (ordering_then (path_cmp x y)) (sym (nat_cmp-eq 0)) ∙ sym (order_of_keys x y 0 0 hx hy (omega arith) (omega arith))
     ∙ ap (key_cmp (key x 0)) (sym e) ∙ tied_itself nat_list_cmp_total (key x 0))
+
+-- so that of a path tells it
+pub keys_tell_paths : (x y : Path) → IsTrue (is_path x) → IsTrue (is_path y) → key x 0 ≡ key y 0 → x ≡ y
+keys_tell_paths x y hx hy e = keys_tell_places x y (place_of_path x hx) (place_of_path y hy) e
+
+-- and that of an attribute of a path tells its name
+pub keys_tell_attributes : (x : Path) (a b : Name × List ℕ) → IsTrue (is_path x) → IsAttribute x a → IsAttribute x b → attribute_key x a.0 ≡ attribute_key x b.0 → a.0 ≡ b.0
+keys_tell_attributes x a b h ha hb e =
+    let place = keys_tell_places (attribute_place x a.0) (attribute_place x b.0) (place_of_attribute x a.0 h ha.name ha.fits) (place_of_attribute x b.0 h hb.name hb.fits) e in
+    (same_attribute_place x x a.0 b.0 place).1
 
 -- the pairs of a file's blocks
 abbrev blocks_of : Path → List ℕ → List Pair
@@ -173,22 +184,73 @@ unfolding node_pairs
 some_pair x Directory p u e = cc
 some_pair x (File bytes) p u e = some_file_pair (is_inline p.version (length bytes)) x bytes u e
 
+-- the first pair of a file is not an attribute's
+file_before_attribute : (c : Bool) (x : Path) (bytes : List ℕ) (u : List Pair) (k value : List ℕ) (v : List Pair) → file_pairs c x bytes ++ u ≡ (k, attribute_value value) ∷ v → ⊥
+file_before_attribute true x bytes u k value v e = let first : ◌≡◌ {A = ℕ} 3 4 = heads_same (pair_parts (heads_same e)).1 in omega arith
+file_before_attribute false x bytes u k value v e = let first : ◌≡◌ {A = ℕ} 2 4 = heads_same (pair_parts (heads_same e)).1 in omega arith
+
+-- nor is that of what stands at a path
+node_before_attribute : (x : Path) (a : Node) (p : Parameters) (u : List Pair) (k value : List ℕ) (v : List Pair) → node_pairs x a p ++ u ≡ (k, attribute_value value) ∷ v → ⊥
+unfolding node_pairs
+node_before_attribute x Directory p u k value v e = let first : ◌≡◌ {A = ℕ} 1 4 = heads_same (pair_parts (heads_same e)).1 in omega arith
+node_before_attribute x (File bytes) p u k value v e = file_before_attribute (is_inline p.version (length bytes)) x bytes u k value v e
+
+-- an entry's pairs in front of others: those of what stands there, and behind them those of its attributes
+entry_in_front : (x : Path) (a : Entry) (p : Parameters) (u : List Pair) → entry_pairs x a p ++ u ≡ node_pairs x a.node p ++ (attribute_pairs x a.attributes ++ u)
+entry_in_front x a p u = append_assoc (node_pairs x a.node p) (attribute_pairs x a.attributes) u
+
+-- so no tree's first pair is an attribute's
+tree_before_attribute : (t : Tree) (p : Parameters) (k value : List ℕ) (v : List Pair) → pairs t p ≡ (k, attribute_value value) ∷ v → ⊥
+unfolding pairs
+tree_before_attribute [] p k value v e = cc
+tree_before_attribute (f ∷ t) p k value v e = node_before_attribute f.0 f.1.node p (attribute_pairs f.0 f.1.attributes ++ pairs t p) k value v (sym (entry_in_front f.0 f.1 p (pairs t p)) ∙ e)
+
+-- the pairs of attributes of a path tell them, in front of the pairs of trees
+attributes_same : (x : Path) (ms ns : Attributes) (t u : Tree) (p : Parameters) → IsTrue (is_path x) → AllByRecursion (IsAttribute x) ms → AllByRecursion (IsAttribute x) ns → attribute_pairs x ms ++ pairs t p ≡ attribute_pairs x ns ++ pairs u p
+    → (ms ≡ ns) × (pairs t p ≡ pairs u p)
+unfolding attribute_pairs
+attributes_same x [] [] t u p h g k e = (refl, e)
+attributes_same x [] (n ∷ ns) t u p h g k e = absurd (tree_before_attribute t p (attribute_key x n.0) n.1 (attribute_pairs x ns ++ pairs u p) e)
+attributes_same x (m ∷ ms) [] t u p h g k e = absurd (tree_before_attribute u p (attribute_key x m.0) m.1 (attribute_pairs x ms ++ pairs t p) (sym e))
+attributes_same x (m ∷ ms) (n ∷ ns) t u p h g k e =
+    let first = pair_parts (heads_same e) in
+    let name = keys_tell_attributes x m n h g.0 k.0 first.0 in
+    let value = tails_same first.1 in
+    let rest = attributes_same x ms ns t u p h g.1 k.1 (tails_same e) in
+    let behind = rest.0 in
+    ((λ i. (name i, value i) ∷ behind i), rest.1)
+
+-- what the pairs of an entry need to tell it
+record IsTold (entry : Path × Entry) : Type 0 where
+  path : IsTrue (is_path entry.0)
+  node : IsNode entry.1.node
+  attributes : AllByRecursion (IsAttribute entry.0) entry.1.attributes
+
+-- each entry of a tree has it
+told_entries : (t : Tree) → IsTree t → AllByRecursion IsTold t
+told_entries t h = all_weaker (IsEntry t) IsTold (λ f k. record { path = k.path; node = k.node; attributes = (k.attributes).each }) t h.entries
+
 -- the pairs of entries tell them
-entries_same : (t u : Tree) (p : Parameters) → AllByRecursion (λ e. IsTrue (is_path e.0) × IsNode e.1) t → AllByRecursion (λ e. IsTrue (is_path e.0) × IsNode e.1) u → pairs t p ≡ pairs u p → t ≡ u
+entries_same : (t u : Tree) (p : Parameters) → AllByRecursion IsTold t → AllByRecursion IsTold u → pairs t p ≡ pairs u p → t ≡ u
 unfolding pairs
 entries_same [] [] p h g e = refl
-entries_same [] (f ∷ u) p h g e = absurd (some_pair f.0 f.1 p (pairs u p) e)
-entries_same (f ∷ t) [] p h g e = absurd (some_pair f.0 f.1 p (pairs t p) (sym e))
+entries_same [] (f ∷ u) p h g e = absurd (some_pair f.0 f.1.node p (attribute_pairs f.0 f.1.attributes ++ pairs u p) (e ∙ entry_in_front f.0 f.1 p (pairs u p)))
+entries_same (f ∷ t) [] p h g e = absurd (some_pair f.0 f.1.node p (attribute_pairs f.0 f.1.attributes ++ pairs t p) (sym e ∙ entry_in_front f.0 f.1 p (pairs t p)))
 entries_same (f ∷ t) (k ∷ u) p h g e =
-    let first = nodes_same f.0 k.0 f.1 k.1 p (pairs t p) (pairs u p) (h.0).0 (g.0).0 (h.0).1 (g.0).1 e in
+    let whole = sym (entry_in_front f.0 f.1 p (pairs t p)) ∙ e ∙ entry_in_front k.0 k.1 p (pairs u p) in
+    let first = nodes_same f.0 k.0 f.1.node k.1.node p (attribute_pairs f.0 f.1.attributes ++ pairs t p) (attribute_pairs k.0 k.1.attributes ++ pairs u p) (h.0).path (g.0).path (h.0).node (g.0).node whole in
     let path = first.0 in
     let node = first.1 in
-    let rest = entries_same t u p h.1 g.1 first.2 in
-    λ i. (path i, node i) ∷ rest i
+    let behind : attribute_pairs f.0 f.1.attributes ++ pairs t p ≡ attribute_pairs f.0 k.1.attributes ++ pairs u p = first.2 ∙ ap (λ x. attribute_pairs x k.1.attributes ++ pairs u p) (sym path) in
+    let others : AllByRecursion (IsAttribute f.0) k.1.attributes = subst (λ x. AllByRecursion (IsAttribute x) k.1.attributes) (sym path) (g.0).attributes in
+    let later = attributes_same f.0 f.1.attributes k.1.attributes t u p (h.0).path (h.0).attributes others behind in
+    let attributes = later.0 in
+    let rest = entries_same t u p h.1 g.1 later.1 in
+    λ i. (path i, record { node = node i; attributes = attributes i }) ∷ rest i
 
 -- the pairs of a tree tell it
 pub pairs_tell_trees : (t u : Tree) (p : Parameters) → IsTree t → IsTree u → pairs t p ≡ pairs u p → t ≡ u
-pairs_tell_trees t u p h g e = entries_same t u p (all_weaker (IsEntry t) _ (λ f k. (k.path, k.node)) t h.entries) (all_weaker (IsEntry u) _ (λ f k. (k.path, k.node)) u g.entries) e
+pairs_tell_trees t u p h g e = entries_same t u p (told_entries t h) (told_entries u g) e
 
 -- ---- layouts
 
@@ -200,9 +262,9 @@ same_parameters t u p is ht hu ft fu e =
     let law = IsLawful-draw_of p is in
     let bytes = append_cancel_left (header p ++ zeros (journal_len p.slots)) (table_bytes (place d (pages t p))) (table_bytes (place d (pages u p))) e in
     let table = tables_same (place d (pages t p)) (place d (pages u p))
-    (slots-place d (pages t p) law ft (tree_pages_are_pages t p is ht ft)) (slots-place d (pages u p) law fu (tree_pages_are_pages u p is hu fu))
+    (slots-place d (pages t p) law ft.room (tree_pages_are_pages t p is ht ft)) (slots-place d (pages u p) law fu.room (tree_pages_are_pages u p is hu fu))
     (length-place d (pages t p) ∙ sym (length-place d (pages u p))) bytes in
-    let all = same_placement d (pages t p) (pages u p) law ft fu
+    let all = same_placement d (pages t p) (pages u p) law ft.room fu.room
     (rising_pages d (pairs t p) (keyed (pairs t p) (pair_list_of_tree t p is ht ft))) (rising_pages d (pairs u p) (keyed (pairs u p) (pair_list_of_tree u p is hu fu))) table in
     pairs_tell_trees t u p ht hu (pages_tell_pairs d (pairs t p) (pairs u p) is.some_level all)
 

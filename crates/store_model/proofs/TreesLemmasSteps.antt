@@ -1,24 +1,27 @@
 -- Lemmas on steps: each command keeps a tree.
 use Rattle.std.proofs.Common.{◌≡◌, ℕ, ◌+◌, ◌≤◌, List, [], ◌∷◌, ◌++◌, length, take, drop, Bool, true, false, ◌&&◌, Option, Some, None, Result, Ok, Err, nat_lt, if◌then◌else◌, refl, sym, subst, arith, ltb-false}
 use Rattle.std.specs.List.{AllByRecursion}
-use Rattle.std.proofs.lemmas.Bool.{or_parts, not-false}
+use Rattle.std.proofs.lemmas.Bool.{or_parts, not-false, cond-true, cond-false}
 use Rattle.std.proofs.lemmas.List.{length-append, length-take, length-drop, take-append-drop}
 use Rattle.store_model.specs.declared.refusal.Refusal.{Refusal}
+use Rattle.store_model.specs.declared.refusal.Refusal.TheVariants as refusals
 use Rattle.store_model.specs.Lists.{IsBytes}
 use Rattle.store_model.specs.Parameters.{Parameters}
-use Rattle.store_model.specs.Paths.{Path, is_root}
-use Rattle.store_model.specs.Trees.{Tree, IsNode, IsTree, file_limit, is_directory, contents}
+use Rattle.store_model.specs.Paths.{Path, Name, is_root}
+use Rattle.store_model.specs.Trees.{Tree, IsNode, IsTree, file_limit, attribute_limit, is_directory, contents, attributes_at, with_attribute, without_attribute}
 use Rattle.store_model.specs.Trees.Node.{Directory, File}
 use Rattle.store_model.specs.Pages.{page_count}
 use Rattle.store_model.specs.Commands.{Command, IsCommand}
-use Rattle.store_model.specs.Commands.Command.{Make, Write, Cut, Rename, Remove, Prune, ListChildren, Read, Space, Digest}
-use Rattle.store_model.specs.Steps.{Step, Condition, first_refusal, conditions, refusal_of, next_tree, may_fill, step, step_by}
+use Rattle.store_model.specs.Commands.Command.{Make, Write, Cut, Rename, Remove, Prune, ListChildren, Read, Space, Digest, SetAttribute, UnsetAttribute, GetAttribute, ListAttributes}
+use Rattle.store_model.specs.Commands.Reply.{Refused}
+use Rattle.store_model.specs.Steps.{Step, Condition, first_refusal, conditions, refusal_of, next_tree, may_fill, lacks_version, step, step_by}
 use Rattle.store_model.specs.Lists.{overwrite}
 use Rattle.store_model.specs.Grammar.{parse}
 use Rattle.store_model.specs.Scripts.{line_limit, answer, answer_by, tree_by, tree_after}
 use Rattle.store_model.proofs.ListsLemmas.{all_append, all_front, all_back, bytes_from_all, all_from_bytes}
 use Rattle.store_model.proofs.GrammarLemmas.{IsCommand-parse}
-use Rattle.store_model.proofs.TreesLemmas.{IsTree-with_node, IsTree-make, IsTree-without, IsTree-without_subtree, contents_of_tree, entry_at}
+use Rattle.store_model.proofs.TreesLemmas.{IsTree-with_node, IsTree-make, IsTree-without, IsTree-without_subtree, contents_of_tree, AreAttributes-attributes_at, entry_at}
+use Rattle.store_model.proofs.TreesLemmasAttributes.{AreAttributes-with_attribute, AreAttributes-without_attribute, IsTree-with_attributes}
 use Rattle.store_model.proofs.TreesLemmasMoves.{IsTree-moved}
 
 -- each condition fails, where a command is not refused
@@ -105,6 +108,20 @@ removed : (t : Tree) (p : Path) → IsTree t → AllFail (conditions t (Remove p
 unfolding conditions next_tree
 removed t p h fail = IsTree-without t p h ((fail.1).1).0
 
+-- `set`
+attribute_set : (t : Tree) (p : Path) (a : Name) (bytes : List ℕ) → IsTree t → IsCommand (SetAttribute p a bytes) → AllFail (conditions t (SetAttribute p a bytes)) → IsTree (next_tree t (SetAttribute p a bytes))
+unfolding conditions next_tree
+attribute_set t p a bytes h is fail =
+    let rest = (fail.1).1 in
+    IsTree-with_attributes t p (with_attribute (attributes_at t p) a bytes) h
+    (AreAttributes-with_attribute p (attributes_at t p) a bytes (AreAttributes-attributes_at t p h)
+    (record { name = is.1; fits = not-false _ (rest.1).0; short = ltb-false attribute_limit (length bytes) rest.0; bytes = is.2 }))
+
+-- `unset`
+attribute_unset : (t : Tree) (p : Path) (a : Name) → IsTree t → IsTree (next_tree t (UnsetAttribute p a))
+unfolding next_tree
+attribute_unset t p a h = IsTree-with_attributes t p (without_attribute (attributes_at t p) a) h (AreAttributes-without_attribute p (attributes_at t p) a (AreAttributes-attributes_at t p h))
+
 -- the tree after a command that is not refused
 pub IsTree-next_tree : (t : Tree) (c : Command) → IsTree t → IsCommand c → refusal_of t c ≡ None → IsTree (next_tree t c)
 unfolding next_tree
@@ -118,6 +135,10 @@ IsTree-next_tree t (ListChildren p) h is e = h
 IsTree-next_tree t (Read p at len) h is e = h
 IsTree-next_tree t Space h is e = h
 IsTree-next_tree t Digest h is e = h
+IsTree-next_tree t (SetAttribute p a bytes) h is e = attribute_set t p a bytes h is (all_fail (conditions t (SetAttribute p a bytes)) e)
+IsTree-next_tree t (UnsetAttribute p a) h is e = attribute_unset t p a h
+IsTree-next_tree t (GetAttribute p a) h is e = h
+IsTree-next_tree t (ListAttributes p) h is e = h
 
 -- ---- steps and answers
 
@@ -131,10 +152,20 @@ stepped : (t : Tree) (c : Command) (p : Parameters) (o : Option Refusal) → IsT
 stepped t c p (Some refusal) h is e = h
 stepped t c p None h is e = picked_tree IsTree (may_fill c && nat_lt p.slots (page_count (next_tree t c) p)) _ _ h (IsTree-next_tree t c h is e)
 
+-- the step of a command that its image's version lacks
+pub step_of_version : (t : Tree) (c : Command) (p : Parameters) → lacks_version c p ≡ true → step t c p ≡ record { reply = Refused refusals.Version; tree = t }
+unfolding step
+step_of_version t c p lacks = cond-true (lacks_version c p) _ _ lacks
+
+-- and of one that it has
+pub step_by_refusal : (t : Tree) (c : Command) (p : Parameters) → lacks_version c p ≡ false → step t c p ≡ step_by t c p (refusal_of t c)
+unfolding step
+step_by_refusal t c p has = cond-false (lacks_version c p) _ _ has
+
 -- a step keeps a tree
 pub IsTree-step : (t : Tree) (c : Command) (p : Parameters) → IsTree t → IsCommand c → IsTree (step t c p).tree
 unfolding step
-IsTree-step t c p h is = stepped t c p (refusal_of t c) h is refl
+IsTree-step t c p h is = picked_tree IsTree (lacks_version c p) _ _ h (stepped t c p (refusal_of t c) h is refl)
 
 -- so does the answer to a line
 answered : (t : Tree) (text : List ℕ) (p : Parameters) (parsed : Result Command Refusal) → IsTree t → parse text ≡ parsed → IsTree (answer_by t parsed p).tree

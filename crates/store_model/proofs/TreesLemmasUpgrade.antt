@@ -1,5 +1,6 @@
 -- Lemmas on a tree under version 2: its pairs are those of any version with some left out, so it needs no more pages.
 use Rattle.std.proofs.Common.{◌≡◌, ℕ, ◌≤◌, List, [], ◌∷◌, map, length, Bool, true, false, inr, refl, sym, subst, arith}
+use Rattle.std.proofs.lemmas.Bool.{false≢true}
 use Rattle.std.specs.List.{enumerate_from}
 use Rattle.std.proofs.lemmas.Bool.{false≢true, le-leb}
 use Rattle.store_model.specs.declared.draw_kind.DrawKind.{DrawKind}
@@ -9,9 +10,9 @@ use Rattle.store_model.specs.declared.version.Version.TheVariants.{Two}
 use Rattle.store_model.specs.Lists.{runs}
 use Rattle.store_model.specs.Parameters.{Parameters, with_version}
 use Rattle.store_model.specs.Paths.{Path, key}
-use Rattle.store_model.specs.Trees.{Tree, Node}
+use Rattle.store_model.specs.Trees.{Tree, Node, Entry}
 use Rattle.store_model.specs.Trees.Node.{Directory, File}
-use Rattle.store_model.specs.Pairs.{file_block, is_inline, file_pairs, node_pairs, pairs}
+use Rattle.store_model.specs.Pairs.{file_block, is_inline, file_pairs, node_pairs, attribute_pairs, entry_pairs, pairs}
 use Rattle.store_model.specs.Draws.{Draw, start_by, level_by, draw_of}
 use Rattle.store_model.specs.Pages.{pages_of_pairs, page_count, Fits, pages}
 use Rattle.store_model.proofs.PairsLemmas.{inline_is_short}
@@ -44,12 +45,18 @@ unfolding node_pairs
 thinned_node path Directory p = thinned_self (keys_of (node_pairs path Directory p))
 thinned_node path (File bytes) p = thinned_forms (is_inline Two (length bytes)) (is_inline p.version (length bytes)) path bytes (inline_in_two p.version (length bytes))
 
+-- and so has it with its attributes
+thinned_entry : (path : Path) (entry : Entry) (p : Parameters) → IsThinned (keys_of (entry_pairs path entry (with_version p Two))) (keys_of (entry_pairs path entry p))
+thinned_entry path entry p =
+    thinned_pairs (node_pairs path entry.node (with_version p Two)) (node_pairs path entry.node p) (attribute_pairs path entry.attributes) (attribute_pairs path entry.attributes)
+    (thinned_node path entry.node p) (thinned_self (keys_of (attribute_pairs path entry.attributes)))
+
 -- and so has a tree
 thinned_tree : (t : Tree) (p : Parameters) → IsThinned (keys_of (pairs t (with_version p Two))) (keys_of (pairs t p))
 unfolding pairs
 thinned_tree [] p = refl
 thinned_tree (e ∷ t) p =
-    thinned_pairs (node_pairs e.0 e.1 (with_version p Two)) (node_pairs e.0 e.1 p) (pairs t (with_version p Two)) (pairs t p) (thinned_node e.0 e.1 p) (thinned_tree t p)
+    thinned_pairs (entry_pairs e.0 e.1 (with_version p Two)) (entry_pairs e.0 e.1 p) (pairs t (with_version p Two)) (pairs t p) (thinned_entry e.0 e.1 p) (thinned_tree t p)
 
 -- so it has no more pages
 pub page_count-upgraded : (t : Tree) (p : Parameters) → page_count t (with_version p Two) ≤ page_count t p
@@ -60,4 +67,7 @@ page_count-upgraded t p =
 
 -- and fits where it did
 pub Fits-upgraded : (t : Tree) (p : Parameters) → Fits t p → Fits t (with_version p Two)
-Fits-upgraded t p fits = let fewer = page_count-upgraded t p in omega arith
+Fits-upgraded t p fits = record {
+  room = (let fewer = page_count-upgraded t p in let room = fits.room in omega arith);
+  bare = λ e. absurd (false≢true (sym e));
+}

@@ -6,7 +6,7 @@ use Rattle.hex.specs.Hex.{encode_lower}
 use Rattle.store_model.specs.declared.refusal.Refusal.{Refusal}
 use Rattle.store_model.specs.declared.refusal.Refusal.TheVariants as refusals
 use Rattle.store_model.specs.Lists.{IsBytes}
-use Rattle.store_model.specs.Paths.{Path, Name, is_path}
+use Rattle.store_model.specs.Paths.{Path, Name, is_path, is_attribute_name}
 
 pub data Command : Type 0 where
   Make : Path → Command
@@ -19,8 +19,12 @@ pub data Command : Type 0 where
   Read : Path → ℕ → ℕ → Command
   Space : Command
   Digest : Command
+  SetAttribute : Path → Name → List ℕ → Command
+  UnsetAttribute : Path → Name → Command
+  GetAttribute : Path → Name → Command
+  ListAttributes : Path → Command
 
--- what a script can ask for: paths that keys can hold, bytes, numbers of 32 bits
+-- what a script can ask for: paths that keys can hold, names of attributes, bytes, numbers of 32 bits
 abbrev pub IsCommand : Command → Type 0
 IsCommand (Make p) = IsTrue (is_path p)
 IsCommand (Write p at bytes) = IsTrue (is_path p) × (at < 2 ^ 32) × IsBytes bytes
@@ -32,15 +36,24 @@ IsCommand (ListChildren p) = IsTrue (is_path p)
 IsCommand (Read p at len) = IsTrue (is_path p) × (at < 2 ^ 32) × (len < 2 ^ 32)
 IsCommand Space = Unit {0}
 IsCommand Digest = Unit {0}
+IsCommand (SetAttribute p a bytes) = IsTrue (is_path p) × IsTrue (is_attribute_name a) × IsBytes bytes
+IsCommand (UnsetAttribute p a) = IsTrue (is_path p) × IsTrue (is_attribute_name a)
+IsCommand (GetAttribute p a) = IsTrue (is_path p) × IsTrue (is_attribute_name a)
+IsCommand (ListAttributes p) = IsTrue (is_path p)
 
 -- a child's name, and for a file its size
 abbrev pub Child : Type 0
 Child = Name × Option ℕ
 
+-- an attribute's name, and how many bytes it has
+abbrev pub AttributeSize : Type 0
+AttributeSize = Name × ℕ
+
 pub data Reply : Type 0 where
   Acknowledged : Reply
   Content : List ℕ → Reply
   Listing : List Child → Reply
+  AttributeListing : List AttributeSize → Reply
   PagesUsed : ℕ → ℕ → Reply
   ImageDigest : List ℕ → Reply
   Refused : Refusal → Reply
@@ -59,6 +72,8 @@ refusal_text refusals.Kind = codes "kind"
 refusal_text refusals.Gap = codes "gap"
 refusal_text refusals.Big = codes "big"
 refusal_text refusals.NotEmpty = codes "notempty"
+refusal_text refusals.Version = codes "version"
+refusal_text refusals.NoAttr = codes "none"
 refusal_text (refusals.Full need slots) = codes "full " ++ decimal need ++ codes " " ++ decimal slots
 
 -- `-` for no bytes, and else two lower-case digits a byte
@@ -78,11 +93,16 @@ child_line child = child_text child.0 child.1
     child_text name None = line (codes "d " ++ name)
     child_text name (Some size) = line (codes "f " ++ name ++ codes " " ++ decimal size)
 
+-- `a NAME SIZE`
+unfoldable pub attribute_line : AttributeSize → List ℕ
+attribute_line attribute = line (codes "a " ++ attribute.0 ++ codes " " ++ decimal attribute.1)
+
 -- the bytes of a reply, each of its lines ended by LF
 unfoldable pub reply_text : Reply → List ℕ
 reply_text Acknowledged = line (codes "ok")
 reply_text (Content bytes) = line (codes "ok " ++ content_text bytes)
 reply_text (Listing children) = flat_map child_line children ++ line (codes "end")
+reply_text (AttributeListing attributes) = flat_map attribute_line attributes ++ line (codes "end")
 reply_text (PagesUsed used slots) = line (codes "space " ++ decimal used ++ codes " " ++ decimal slots)
 reply_text (ImageDigest digest) = line (codes "digest " ++ encode_lower digest)
 reply_text (Refused refusal) = line (codes "no " ++ refusal_text refusal)

@@ -7,9 +7,9 @@ use Rattle.hex.specs.declared.error.FromHexError.{FromHexError}
 use Rattle.store_model.specs.declared.refusal.Refusal.{Refusal}
 use Rattle.store_model.specs.declared.refusal.Refusal.TheVariants as refusals
 use Rattle.store_model.specs.Lists.{same_bytes}
-use Rattle.store_model.specs.Paths.{Path, root, is_name, fits_field}
+use Rattle.store_model.specs.Paths.{Path, Name, root, is_name, is_attribute_name, fits_field}
 use Rattle.store_model.specs.Commands.{Command}
-use Rattle.store_model.specs.Commands.Command.{Make, Write, Cut, Rename, Remove, Prune, ListChildren, Read, Space, Digest}
+use Rattle.store_model.specs.Commands.Command.{Make, Write, Cut, Rename, Remove, Prune, ListChildren, Read, Space, Digest, SetAttribute, UnsetAttribute, GetAttribute, ListAttributes}
 
 -- the greatest number
 abbrev pub number_limit : ℕ
@@ -51,6 +51,10 @@ unfoldable pub content_of : List ℕ → Option (List ℕ)
 content_of [] = None
 content_of (c ∷ text) = if same_bytes (c ∷ text) (codes "-") then Some [] else ok_value (decode_of (c ∷ text))
 
+-- the name of an attribute that a field spells
+abbrev pub attribute_name_of : List ℕ → Option Name
+attribute_name_of text = if is_attribute_name text then Some text else None
+
 -- the next part of a command, where what comes before it is there
 infixl 10 ◌>>=◌
 abbrev pub ◌>>=◌ : {A B : Type 0} → Option A → (A → Option B) → Option B
@@ -70,13 +74,17 @@ command_of_fields (w ∷ a ∷ []) =
     on_word w (codes "make") (option_map Make (path_of a))
     (on_word w (codes "remove") (option_map Remove (path_of a))
     (on_word w (codes "prune") (option_map Prune (path_of a))
-    (on_word w (codes "list") (option_map ListChildren (path_of a)) None)))
+    (on_word w (codes "list") (option_map ListChildren (path_of a))
+    (on_word w (codes "attrs") (option_map ListAttributes (path_of a)) None))))
 command_of_fields (w ∷ a ∷ b ∷ []) =
     on_word w (codes "cut") (path_of a >>= λ p. number_of b >>= λ n. Some (Cut p n))
-    (on_word w (codes "rename") (path_of a >>= λ p. path_of b >>= λ q. Some (Rename p q)) None)
+    (on_word w (codes "rename") (path_of a >>= λ p. path_of b >>= λ q. Some (Rename p q))
+    (on_word w (codes "unset") (path_of a >>= λ p. attribute_name_of b >>= λ n. Some (UnsetAttribute p n))
+    (on_word w (codes "get") (path_of a >>= λ p. attribute_name_of b >>= λ n. Some (GetAttribute p n)) None)))
 command_of_fields (w ∷ a ∷ b ∷ c ∷ []) =
     on_word w (codes "write") (path_of a >>= λ p. number_of b >>= λ n. content_of c >>= λ bytes. Some (Write p n bytes))
-    (on_word w (codes "read") (path_of a >>= λ p. number_of b >>= λ n. number_of c >>= λ m. Some (Read p n m)) None)
+    (on_word w (codes "read") (path_of a >>= λ p. number_of b >>= λ n. number_of c >>= λ m. Some (Read p n m))
+    (on_word w (codes "set") (path_of a >>= λ p. attribute_name_of b >>= λ n. content_of c >>= λ bytes. Some (SetAttribute p n bytes)) None))
 command_of_fields _ = None
 
 -- the command that a line spells, with paths of any length
@@ -95,6 +103,10 @@ has_short_paths (ListChildren p) = fits_field p
 has_short_paths (Read p at len) = fits_field p
 has_short_paths Space = true
 has_short_paths Digest = true
+has_short_paths (SetAttribute p a bytes) = fits_field p
+has_short_paths (UnsetAttribute p a) = fits_field p
+has_short_paths (GetAttribute p a) = fits_field p
+has_short_paths (ListAttributes p) = fits_field p
 
 -- the command of a line that spells one, with paths that keys can hold; else the refusal `syntax` or `path`
 abbrev pub checked_command : Option Command → Result Command Refusal

@@ -5,7 +5,7 @@ use Rattle.std.specs.List.Sorted.{IsStrictlySortedBy}
 use Rattle.store_model.specs.Lists.{IsBytes, runs, cut_before, numbers_below}
 use Rattle.store_model.specs.Parameters.{Parameters}
 use Rattle.store_model.specs.Paths.{key_len, key_cmp}
-use Rattle.store_model.specs.Pairs.{Pair, IsValue, pairs}
+use Rattle.store_model.specs.Pairs.{Pair, IsValue, has_attributes, pairs}
 use Rattle.store_model.specs.Trees.{Tree}
 use Rattle.store_model.specs.Labels.{Lead, Label, IsLabel}
 use Rattle.store_model.specs.Labels.Lead.{Start, Leader}
@@ -76,9 +76,14 @@ pages t p = pages_of_pairs (draw_of p) (pairs t p)
 abbrev pub page_count : Tree → Parameters → ℕ
 page_count t p = length (pages t p)
 
--- a tree fits where its pages are no more than the slots
-abbrev pub Fits : Tree → Parameters → Type 0
-Fits t p = page_count t p ≤ p.slots
+-- no path of the tree has an attribute
+abbrev pub IsBare : Tree → Type 0
+IsBare t = AllByRecursion (λ e. e.1.attributes ≡ []) t
+
+-- a tree fits where its pages are no more than the slots, and under version 1 no path has an attribute
+pub record Fits (t : Tree) (p : Parameters) : Type 0 where
+  pub room : page_count t p ≤ p.slots
+  pub bare : has_attributes p.version ≡ false → IsBare t
 
 -- what the value of a cell may be on a level
 abbrev pub IsCellValue : ℕ → Option (List ℕ) → Type 0

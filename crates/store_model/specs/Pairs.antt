@@ -1,5 +1,5 @@
 -- The list of pairs that spells a tree: the list layer's view of it.
-use Rattle.std.specs.Prelude.{◌≡◌, ℕ, ◌≤◌, nat_le, IsTrue, Bool, true, false, List, [], ◌∷◌, map, length}
+use Rattle.std.specs.Prelude.{◌≡◌, ℕ, ◌≤◌, nat_le, IsTrue, Bool, true, false, List, [], ◌∷◌, ◌++◌, map, length}
 use Rattle.std.specs.Int.{w32, to_be_bytes}
 use Rattle.std.specs.List.{flat_map, enumerate_from, AllByRecursion}
 use Rattle.std.specs.FinMap.{is_sorted}
@@ -7,8 +7,8 @@ use Rattle.store_model.specs.declared.version.Version.{Version}
 use Rattle.store_model.specs.declared.version.Version.TheVariants.{One, Two}
 use Rattle.store_model.specs.Lists.{IsBytes, runs}
 use Rattle.store_model.specs.Parameters.{Parameters}
-use Rattle.store_model.specs.Paths.{Path, key_len, key, key_cmp}
-use Rattle.store_model.specs.Trees.{Tree, Node}
+use Rattle.store_model.specs.Paths.{Path, key_len, key, attribute_key, key_cmp}
+use Rattle.store_model.specs.Trees.{Tree, Node, Entry, Attributes}
 use Rattle.store_model.specs.Trees.Node.{Directory, File}
 
 -- a key of 124 bytes and a value of 1 to 256 bytes
@@ -53,9 +53,27 @@ unfoldable pub node_pairs : Path → Node → Parameters → List Pair
 node_pairs path Directory p = (key path 0, directory_value) ∷ []
 node_pairs path (File bytes) p = file_pairs (is_inline p.version (length bytes)) path bytes
 
--- the pairs of a tree, path after path. They rise by key, since paths and keys have one order
+-- whether a version has attributes
+abbrev pub has_attributes : Version → Bool
+has_attributes One = false
+has_attributes Two = true
+
+-- the value of an attribute's pair
+abbrev pub attribute_value : List ℕ → List ℕ
+attribute_value bytes = 4 ∷ bytes
+
+-- the pairs of a path's attributes
+unfoldable pub attribute_pairs : Path → Attributes → List Pair
+attribute_pairs path attributes = map (λ a. (attribute_key path a.0, attribute_value a.1)) attributes
+
+-- the pairs of an entry: those of what stands at the path, and behind them those of its attributes
+abbrev pub entry_pairs : Path → Entry → Parameters → List Pair
+entry_pairs path entry p = node_pairs path entry.node p ++ attribute_pairs path entry.attributes
+
+-- the pairs of a tree, path after path. They rise by key: a path's attributes stand behind
+-- its blocks and before all paths below it
 unfoldable pub pairs : Tree → Parameters → List Pair
-pairs t p = flat_map (λ e. node_pairs e.0 e.1 p) t
+pairs t p = flat_map (λ e. entry_pairs e.0 e.1 p) t
 
 -- what a value may be: 1 to 256 bytes
 abbrev pub IsValue : List ℕ → Type 0

@@ -1,4 +1,4 @@
--- Paths as lists of names, their text, their order, and the keys that they have.
+-- Paths as lists of names, their text, their order, their attributes' names, and the keys that they have.
 use Rattle.std.specs.Prelude.{ℕ, ◌-◌, List, [], ◌∷◌, ◌++◌, length, take, drop, Bool, true, false, not, ◌&&◌, ◌||◌, nat_le, nat_lt, ◌==◌}
 use Rattle.std.specs.Int.{w32, to_be_bytes}
 use Rattle.std.specs.List.{flat_map, list_all, concat}
@@ -99,3 +99,38 @@ key p block = field p ++ to_be_bytes w32 block
 -- the order of keys: as bytes
 abbrev pub key_cmp : List ℕ → List ℕ → Ordering
 key_cmp = slice_cmp nat_cmp
+
+-- the longest name of an attribute
+abbrev pub attribute_name_limit : ℕ
+attribute_name_limit = 32
+
+-- an attribute's name is a name of at most 32 bytes
+abbrev pub is_attribute_name : Name → Bool
+is_attribute_name n = is_name n && nat_le (length n) attribute_name_limit
+
+-- the byte that stands before an attribute's name in its field: it is below each byte of a name
+abbrev pub attribute_mark : ℕ
+attribute_mark = 1
+
+-- where an attribute of a path stands among paths, as though it were one below the path: its last part is the byte 1
+-- and the attribute's name. So it stands behind the path and before all paths below it. On places, `parent` and
+-- `is_inside` take attributes for children
+abbrev pub attribute_place : Path → Name → Path
+attribute_place p a = p ++ (attribute_mark ∷ a) ∷ []
+
+-- whether the field holds the attribute
+abbrev pub fits_attribute : Path → Name → Bool
+fits_attribute p a = fits_field (attribute_place p a)
+
+-- the 124 bytes of an attribute's key: the path's names, each with a byte 0 behind it, the byte 1, the attribute's name,
+-- zeros, and the block number 0
+abbrev pub attribute_key : Path → Name → List ℕ
+attribute_key p a = key (attribute_place p a) 0
+
+-- what may stand between the bytes 0 of a field: bytes other than 0, one or more
+abbrev pub is_part : Name → Bool
+is_part n = nat_le 1 (length n) && list_all (λ c. nat_le 1 c && nat_le c 0xff) n
+
+-- a place is a list of parts that a field holds; paths and attributes are such
+abbrev pub is_place : Path → Bool
+is_place p = list_all is_part p && fits_field p

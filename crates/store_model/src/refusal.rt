@@ -7,7 +7,8 @@ pub enum Refusal {
     Long,
     /// The line is not in the grammar.
     Syntax,
-    /// The field of a path passes 120 bytes; in a rename also that of a path of the moved subtree.
+    /// The field of a path passes 120 bytes; in a rename also that of a path or an attribute of the moved subtree, and
+    /// where an attribute is set also that of the attribute.
     Path,
     /// The root may not stand here.
     Root,
@@ -23,10 +24,14 @@ pub enum Refusal {
     Kind,
     /// The place or length is greater than the file's length.
     Gap,
-    /// The file would pass 16,777,216 bytes, or a read asks for more than 4,096.
+    /// The file would pass 16,777,216 bytes, a read asks for more than 4,096, or an attribute would pass 255.
     Big,
     /// The directory has a child.
     NotEmpty,
+    /// The image has version 1 of the format, which has no attributes.
+    Version,
+    /// The path has no attribute of this name.
+    NoAttr,
     /// The new tree's pages, `need`, are more than the table's `slots`.
     Full {
         /// The number of pages of the new tree.

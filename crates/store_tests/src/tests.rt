@@ -1,5 +1,6 @@
 //! The tests, a module for each kind, and `support`, which they share.
 
+mod attributes;
 mod failures;
 mod generations;
 mod help;

@@ -6,7 +6,7 @@ use Rattle.std.proofs.lemmas.List.Elements.{filter-append}
 use Rattle.store_model.specs.Parameters.{Parameters}
 use Rattle.store_model.specs.Trees.{Tree}
 use Rattle.store_model.specs.Commands.{Command, Reply}
-use Rattle.store_model.specs.Commands.Reply.{Acknowledged, Content, Listing, PagesUsed, ImageDigest, Refused}
+use Rattle.store_model.specs.Commands.Reply.{Acknowledged, Content, Listing, AttributeListing, PagesUsed, ImageDigest, Refused}
 use Rattle.store_model.specs.Steps.{step}
 use Rattle.store_model.specs.Scripts.{answers_by, state_by, replies_by, tree_by}
 use Rattle.store_model.proofs.ScriptsLemmas.{replies_by-append, tree_by-append}
@@ -104,6 +104,7 @@ counted_all [] = refl
 counted_all (Acknowledged ∷ rs) = omega (arith, counted_all rs)
 counted_all (Content bytes ∷ rs) = omega (arith, counted_all rs)
 counted_all (Listing children ∷ rs) = omega (arith, counted_all rs)
+counted_all (AttributeListing attributes ∷ rs) = omega (arith, counted_all rs)
 counted_all (PagesUsed used slots ∷ rs) = omega (arith, counted_all rs)
 counted_all (ImageDigest digest ∷ rs) = omega (arith, counted_all rs)
 counted_all (Refused refusal ∷ rs) = omega (arith, counted_all rs)

@@ -7,10 +7,10 @@ use Rattle.store_model.specs.Pages.{page_count}
 use Rattle.store_model.specs.Commands as model
 use Rattle.store_model.specs.Commands.{reply_text}
 use Rattle.store_model.specs.Commands.Command.{Space, Digest}
-use Rattle.store_model.specs.Commands.Reply.{Acknowledged, Content, Listing, PagesUsed, ImageDigest, Refused}
+use Rattle.store_model.specs.Commands.Reply.{Acknowledged, Content, Listing, AttributeListing, PagesUsed, ImageDigest, Refused}
 use Rattle.store_model.specs.declared.refusal.Refusal.{Refusal}
 use Rattle.store_model.specs.Scripts.{answer_by}
-use Rattle.store_model.specs.Steps.{Step, step, first_refusal, conditions, next_tree, reply_of as answer_of, may_fill}
+use Rattle.store_model.specs.Steps.{Step, step, first_refusal, conditions, next_tree, reply_of as answer_of, may_fill, is_on_attributes}
 use Rattle.disk_model.specs.DiskState.{DiskState, IsSound}
 use Rattle.disk_model.specs.DiskState as disks
 use Rattle.script_lines.specs.Generated.{state_after, generated}
@@ -47,7 +47,7 @@ put_fails a b text fault put = record { observable = put.observable; faults = pu
 -- ---- what is answered
 
 space_step : (t : Tree) (p : Parameters) → step t Space p ≡ record { reply = PagesUsed (page_count t p) p.slots; tree = t }
-unfolding step conditions first_refusal next_tree answer_of may_fill
+unfolding step conditions first_refusal next_tree answer_of may_fill is_on_attributes
 space_step t p = refl
 
 digest_keeps : (t : Tree) (p : Parameters) → (step t Digest p).tree ≡ t
@@ -57,6 +57,7 @@ one_at_most : (r : model.Reply) → count_refused (r ∷ []) ≤ 1
 one_at_most Acknowledged = omega arith
 one_at_most (Content bytes) = omega arith
 one_at_most (Listing children) = omega arith
+one_at_most (AttributeListing attributes) = omega arith
 one_at_most (PagesUsed used slots) = omega arith
 one_at_most (ImageDigest digest) = omega arith
 one_at_most (Refused refusal) = omega arith

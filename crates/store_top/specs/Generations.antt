@@ -6,7 +6,7 @@ use Rattle.store_model.specs.Parameters.{Parameters}
 use Rattle.store_model.specs.Trees.{Tree}
 use Rattle.store_model.specs.Commands.{Command, Reply, line, reply_text}
 use Rattle.store_model.specs.Commands.Command.{Space, Digest}
-use Rattle.store_model.specs.Commands.Reply.{Acknowledged, Content, Listing, PagesUsed, ImageDigest, Refused}
+use Rattle.store_model.specs.Commands.Reply.{Acknowledged, Content, Listing, AttributeListing, PagesUsed, ImageDigest, Refused}
 use Rattle.store_model.specs.Steps.{Step, step}
 use Rattle.store_model.specs.Scripts.{replies_by, tree_by}
 use Rattle.store_model.specs.declared.refusal.Refusal.{Refusal}
@@ -50,6 +50,7 @@ abbrev pub is_refused : Reply → Bool
 is_refused Acknowledged = false
 is_refused (Content bytes) = false
 is_refused (Listing children) = false
+is_refused (AttributeListing attributes) = false
 is_refused (PagesUsed used slots) = false
 is_refused (ImageDigest digest) = false
 is_refused (Refused refusal) = true

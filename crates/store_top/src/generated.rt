@@ -25,8 +25,12 @@ fn with_reply(refused: u32, reply: &Reply) -> u32
 {
     match reply {
         Reply::No(_) => refused.saturating_add(1),
-        Reply::Ok | Reply::Bytes(_) | Reply::Listing(_) | Reply::Space { .. } | Reply::Digest(_) =>
-            refused,
+        Reply::Ok
+        | Reply::Bytes(_)
+        | Reply::Listing(_)
+        | Reply::Attrs(_)
+        | Reply::Space { .. }
+        | Reply::Digest(_) => refused,
     }
 }
 

@@ -1,42 +1,40 @@
 -- Lemmas on a subtree of which some pairs are moved and others are not yet.
-use Rattle.std.proofs.Common.{◌≡◌, ℕ, ◌+◌, ◌<◌, ◌≤◌, List, [], ◌++◌, length, drop, Bool, true, false, not, cond, ◌&&◌, ◌||◌, IsTrue, Option, Some, None, refl, sym, ap, ap₂, subst, ◌∙◌, arith, nat_cmp}
-use Rattle.std.specs.Prelude.{IsSome, IfSome, MatchOption}
+use Rattle.std.proofs.Common.{◌≡◌, ℕ, ◌+◌, ◌<◌, ◌≤◌, List, [], length, drop, Bool, true, false, cond, ◌&&◌, ◌||◌, IsTrue, Option, Some, None, refl, sym, ap, ap₂, subst, ◌∙◌, arith, nat_cmp}
+use Rattle.std.specs.Prelude.{IsSome}
 use Rattle.std.specs.List.{list_all}
 use Rattle.std.specs.Ordering.{eq_by_cmp}
 use Rattle.std.specs.FinMap.{find, put}
-use Rattle.std.proofs.lemmas.Bool.{both_ways, and_parts, and_from, false_from_ne_true, not-false}
-use Rattle.std.proofs.lemmas.List.{drop_at}
+use Rattle.std.proofs.lemmas.Bool.{both_ways, and_parts, and_from, false_from_ne_true}
 use Rattle.std.proofs.lemmas.List.Folds.{list_all-append}
 use Rattle.store_model.specs.Parameters.{Parameters}
-use Rattle.store_model.specs.Paths.{Path, is_root, is_name, is_path, path_cmp, same_path, is_at_or_inside, fits_field, replanted, key, key_cmp}
+use Rattle.store_model.specs.Paths.{Path, is_root, is_part, is_path, is_place, same_path, is_at_or_inside, fits_field, replanted, key, key_cmp}
 use Rattle.store_model.specs.Pairs.{Pair, pairs}
-use Rattle.store_model.specs.Trees.{Tree, Node, IsTree, IsEntry, moved}
+use Rattle.store_model.specs.Trees.{Tree, IsTree, moved}
 use Rattle.store_model.specs.Commands.Command.{Rename}
-use Rattle.store_model.specs.Steps.{refusal_of, next_tree, outgrows}
-use Rattle.store_model.proofs.TreesLemmasPaths.{same_from_test, same_path-itself, same_path-from_equal, at_or_inside-append, at_or_inside-split, not_root-append}
-use Rattle.store_model.proofs.TreesLemmas.{find_from_all, node_at-find, entry_at}
-use Rattle.store_model.proofs.TreesLemmasMoves.{nothing_below}
+use Rattle.store_model.specs.Steps.{refusal_of, next_tree}
+use Rattle.store_model.proofs.PathsLemmas.{place_of_path}
+use Rattle.store_model.proofs.TreesLemmasPaths.{same_from_test, same_path-itself, same_path-from_equal, at_or_inside-split}
 use Rattle.store_model.proofs.TreesLemmasSteps.{IsTree-next_tree}
 use Rattle.ordered_pairs.specs.PairsState.{without, most_pairs}
 use Rattle.tree_pairs.specs.Blocks.{BlockMap, with_blocks}
-use Rattle.tree_pairs.proofs.TreeBlocks.{block_value, tree_blocks}
+use Rattle.tree_pairs.proofs.TreeBlocks.{tree_blocks}
 use Rattle.tree_pairs.proofs.BlocksLemmas.{blocks_alike, pairs_from_blocks, tied_number, other_numbers, same_numbers}
 use Rattle.tree_pairs.proofs.ChangesLemmas.{put_block}
-use Rattle.dir_tree.specs.declared.subtree.Block.{Block}
-use Rattle.dir_tree.specs.SubtreeCalls.{HasPathBlocks, LacksFrom, IsFirstFrom, IsWithin}
-use Rattle.dir_tree.proofs.OrderLemmas.{top_is_lowest}
+use Rattle.dir_tree.specs.SubtreeCalls.{HasPathBlocks, LacksFrom}
+use Rattle.dir_tree.proofs.OrderLemmas.{le_itself, top_is_lowest}
+use Rattle.dir_tree.proofs.NextLemmas.{IsBlockWithin, first_within, lacks_block, Searched, found_first, found_nothing}
+use Rattle.dir_tree.proofs.OwnerLemmas.{owner_of, owned_place}
 use Rattle.dir_tree.proofs.TakingLemmas.{without_block, take_one, same_split, other_blocks, root_apart}
-use Rattle.dir_tree.proofs.TreeLemmas.{block_stands, found_stands}
 use Rattle.subtree_move.proofs.StretchLemmas.{count, count_le, count_put, count_without, in_stretch, stretch_within, stretch_outside}
-use Rattle.subtree_move.proofs.TestLemmas.{is_long, all_fails}
-use Rattle.subtree_move.proofs.MovedLemmas.{IsMove, new_not_old, tree_blocks-moved}
+use Rattle.subtree_move.proofs.MovedLemmas.{back_again, replanted_within, replanted_below, IsMove, new_not_old, nothing_at, tree_blocks-moved}
+use Rattle.subtree_move.proofs.TestLemmas.{place_fits}
 
 -- ---- one block is put
 
 abbrev pub with_block : Path → ℕ → List ℕ → BlockMap → BlockMap
 with_block y i v blocks = with_blocks y (λ j. cond (eq_by_cmp nat_cmp j i) (Some v) (blocks y j)) blocks
 
-put_one : (blocks : BlockMap) (s : List Pair) (y : Path) (i : ℕ) (v : List ℕ) → IsTrue (is_path y) → is_root y ≡ false → i < 4294967296 → HasPathBlocks blocks s → HasPathBlocks (with_block y i v blocks) (put key_cmp (key y i) v s)
+put_one : (blocks : BlockMap) (s : List Pair) (y : Path) (i : ℕ) (v : List ℕ) → IsTrue (is_place y) → is_root y ≡ false → i < 4294967296 → HasPathBlocks blocks s → HasPathBlocks (with_block y i v blocks) (put key_cmp (key y i) v s)
 put_one blocks s y i v path below l h = record {
   has = put_block y (blocks y) (λ j. cond (eq_by_cmp nat_cmp j i) (Some v) (blocks y j)) blocks i v s path l
       (ap (λ b. cond b (Some v) (blocks y i)) (tied_number i))
@@ -45,27 +43,15 @@ put_one blocks s y i v path below l h = record {
   bare = λ j. other_blocks y [] (λ k. cond (eq_by_cmp nat_cmp k i) (Some v) (blocks y k)) blocks j (root_apart y below) ∙ h.bare j;
 }
 
--- ---- replanted paths
+-- ---- replanted places
 
-back_again : (from to y : Path) → is_at_or_inside y from ≡ true → replanted to from (replanted from to y) ≡ y
-unfolding replanted
-back_again from to y at = ap (λ z. from ++ z) (drop_at to (drop (length from) y) (length to) refl) ∙ sym (at_or_inside-split y from at)
-
-replanted_within : (from to y : Path) → is_at_or_inside (replanted from to y) to ≡ true
-unfolding replanted
-replanted_within from to y = at_or_inside-append to (drop (length from) y)
-
-replanted_below : (from to y : Path) → is_root to ≡ false → is_root (replanted from to y) ≡ false
-unfolding replanted
-replanted_below from to y below = not_root-append to (drop (length from) y) below
-
--- a replanted path is made of names
-replanted_valid : (from to y : Path) → IsTrue (is_path to) → IsTrue (is_path y) → is_at_or_inside y from ≡ true → fits_field (replanted from to y) ≡ true → IsTrue (is_path (replanted from to y))
+-- a replanted place is one
+replanted_valid : (from to y : Path) → IsTrue (is_path to) → IsTrue (is_place y) → is_at_or_inside y from ≡ true → fits_field (replanted from to y) ≡ true → IsTrue (is_place (replanted from to y))
 unfolding replanted
 replanted_valid from to y path valid at fits =
-    let names : list_all is_name to ≡ true = (and_parts (list_all is_name to) (fits_field to) path).0 in
-    let all : (list_all is_name from && list_all is_name (drop (length from) y)) ≡ true = sym (list_all-append is_name from (drop (length from) y)) ∙ ap (list_all is_name) (sym (at_or_inside-split y from at)) ∙ (and_parts (list_all is_name y) (fits_field y) valid).0 in
-    and_from _ _ (list_all-append is_name to (drop (length from) y) ∙ ap₂ (λ a b. a && b) names (and_parts (list_all is_name from) (list_all is_name (drop (length from) y)) all).1) fits
+    let parts : list_all is_part to ≡ true = (and_parts (list_all is_part to) (fits_field to) (place_of_path to path)).0 in
+    let all : (list_all is_part from && list_all is_part (drop (length from) y)) ≡ true = sym (list_all-append is_part from (drop (length from) y)) ∙ ap (list_all is_part) (sym (at_or_inside-split y from at)) ∙ (and_parts (list_all is_part y) (fits_field y) valid).0 in
+    and_from _ _ (list_all-append is_part to (drop (length from) y) ∙ ap₂ (λ a b. a && b) parts (and_parts (list_all is_part from) (list_all is_part (drop (length from) y)) all).1) fits
 
 -- ---- the blocks while some are moved
 
@@ -157,21 +143,20 @@ pub record IsPartMoved (t : Tree) (p : Parameters) (from to : Path) (turns : ℕ
   pub holds : HasPathBlocks (half_moved from to done (tree_blocks t p)) s
   pub counted : turns + count (in_stretch from) s ≤ most_pairs
 
-pub none_moved : (t : Tree) (p : Parameters) (from to : Path) (s : List Pair) → IsTree t → IsMove t from to → HasPathBlocks (tree_blocks t p) s → length s ≤ most_pairs → IsPartMoved t p from to 0 s
-none_moved t p from to s h m has few = record {
+pub none_moved : (t : Tree) (p : Parameters) (from to : Path) (s : List Pair) → IsTree t → IsTrue (is_path to) → IsMove t from to → HasPathBlocks (tree_blocks t p) s → length s ≤ most_pairs → IsPartMoved t p from to 0 s
+none_moved t p from to s h path_to m has few = record {
   done = λ x j. false;
   holds = record { has = blocks_alike (tree_blocks t p) (half_moved from to (λ x j. false) (tree_blocks t p)) s alike has.has; bare = λ j. sym (alike [] j) ∙ has.bare j };
   counted = let l = count_le (in_stretch from) s in omega arith;
 }
   where
     alike : (y : Path) (j : ℕ) → tree_blocks t p y j ≡ half_moved from to (λ x j. false) (tree_blocks t p) y j
-    alike y j = by_tests (is_at_or_inside y from) (is_at_or_inside y to) refl (find path_cmp y t) refl
+    alike y j = by_tests (is_at_or_inside y from) (is_at_or_inside y to) refl
       where
-        by_tests : (a b : Bool) → is_at_or_inside y to ≡ b → (o : Option Node) → find path_cmp y t ≡ o → tree_blocks t p y j ≡ cond a (tree_blocks t p y j) (cond b None (tree_blocks t p y j))
-        by_tests true b g o e = refl
-        by_tests false false g o e = refl
-        by_tests false true g None e = ap (λ o. block_value o p.version j) e
-        by_tests false true g (Some n) e = absurd (both_ways _ (nothing_below t to h m.free y (found_stands t y n e)) g)
+        by_tests : (a b : Bool) → is_at_or_inside y to ≡ b → tree_blocks t p y j ≡ cond a (tree_blocks t p y j) (cond b None (tree_blocks t p y j))
+        by_tests true b g = refl
+        by_tests false false g = refl
+        by_tests false true g = nothing_at t p to y j h path_to m.free g
 
 -- the value of a block that is there
 there_is : (o : Option (List ℕ)) → IsSome o → (v : List ℕ) × (o ≡ Some v)
@@ -183,33 +168,33 @@ not_done : (d : Bool) (o : Option (List ℕ)) (v : List ℕ) → cond d None o �
 not_done true o v e = cc
 not_done false o v e = e
 
-pub short_enough : (t : Tree) (p : Parameters) (from to y : Path) (i : ℕ) → IsTree t → IsMove t from to → IsWithin from y i → IsSome (tree_blocks t p y i) → fits_field (replanted from to y) ≡ true
-unfolding outgrows
-short_enough t p from to y i h m within there =
-    let entry = entry_at t y h within.below_root (block_stands t p y i there) in
-    let found : find path_cmp y t ≡ Some entry.0 = sym (node_at-find t y within.below_root) ∙ entry.1 in
-    let test : (true && not (fits_field (replanted from to y))) ≡ false = ap (λ b. b && not (fits_field (replanted from to y))) (sym within.within) ∙ find_from_all (λ e. is_long from to e ≡ false) y entry.0 t (all_fails (is_long from to) t m.short) found in
-    not-false (fits_field (replanted from to y)) test
+-- what the move of the pair under a key does
+abbrev pub Moves : List ℕ → Path → Path → List Pair → List Pair → Type 0
+Moves k from to s after = (y : Path) (i : ℕ) (v : List ℕ) → IsTrue (is_place y) → is_at_or_inside y from ≡ true → i < 4294967296 → k ≡ key y i → find key_cmp k s ≡ Some v → fits_field (replanted from to y) ≡ true
+    → after ≡ put key_cmp (key (replanted from to y) i) v (without k s)
 
-one_more_moved : (t : Tree) (p : Parameters) (from to y : Path) (i turns : ℕ) (s after : List Pair) (k : List ℕ) → IsTree t → IsMove t from to → IsTrue (is_path from) → IsTrue (is_path to) → (part : IsPartMoved t p from to turns s)
-    → IsWithin from y i → IsFirstFrom k (half_moved from to part.done (tree_blocks t p)) y i
-    → ((v : List ℕ) → find key_cmp (key y i) s ≡ Some v → fits_field (replanted from to y) ≡ true → after ≡ put key_cmp (key (replanted from to y) i) v (without (key y i) s)) → IsPartMoved t p from to (turns + 1) after
-one_more_moved t p from to y i turns s after k h m path path_to part within first moves =
+one_more_moved : (t : Tree) (p : Parameters) (from to : Path) (turns : ℕ) (s after : List Pair) (k : List ℕ) → IsTree t → IsMove t from to → IsTrue (is_path from) → IsTrue (is_path to) → (part : IsPartMoved t p from to turns s)
+    → IsBlockWithin from (half_moved from to part.done (tree_blocks t p)) k → Moves k from to s after → IsPartMoved t p from to (turns + 1) after
+one_more_moved t p from to turns s after k h m path path_to part within moves =
+    let at = within.at in
+    let y = at.place in
+    let i = at.block in
     let half : half_moved from to part.done (tree_blocks t p) y i ≡ cond (part.done y i) None (tree_blocks t p y i) =
     ap (λ b. cond b (cond (part.done y i) None (tree_blocks t p y i)) (cond (is_at_or_inside y to) (cond (part.done (replanted to from y) i) (tree_blocks t p (replanted to from y) i) None) (tree_blocks t p y i))) within.within in
-    let value = there_is (half_moved from to part.done (tree_blocks t p) y i) first.there in
+    let value = there_is (half_moved from to part.done (tree_blocks t p) y i) at.there in
     let in_tree : tree_blocks t p y i ≡ Some value.0 = not_done (part.done y i) (tree_blocks t p y i) value.0 (sym half ∙ value.1) in
-    let found : find key_cmp (key y i) s ≡ Some value.0 = part.holds.has.each y i within.valid within.in_range ∙ value.1 in
-    let fits = short_enough t p from to y i h m within (subst IsSome (sym in_tree) refl) in
+    let found : find key_cmp (key y i) s ≡ Some value.0 = part.holds.has.each y i at.valid at.in_range ∙ value.1 in
+    let fits = place_fits t p from to y i h path m.short (subst IsSome (sym in_tree) refl) within.within in
     let new : Path = replanted from to y in
-    let valid : IsTrue (is_path new) = replanted_valid from to y path_to within.valid within.within fits in
+    let valid : IsTrue (is_place new) = replanted_valid from to y path_to at.valid within.within fits in
     let outside : is_at_or_inside new from ≡ false = new_not_old t from to h m new (replanted_within from to y) in
-    let list : after ≡ put key_cmp (key new i) value.0 (without (key y i) s) = moves value.0 found fits in
-    let taken = take_one (half_moved from to part.done (tree_blocks t p)) s y i within.valid within.below_root within.in_range part.holds in
-    let put_back = put_one (without_block y i (half_moved from to part.done (tree_blocks t p))) (without (key y i) s) new i value.0 valid (replanted_below from to y m.to_below) within.in_range taken in
+    let list : after ≡ put key_cmp (key new i) value.0 (without (key y i) s) =
+    moves y i value.0 at.valid within.within at.in_range at.key_is (ap (λ q. find key_cmp q s) at.key_is ∙ found) fits ∙ ap (λ q. put key_cmp (key new i) value.0 (without q s)) at.key_is in
+    let taken = take_one (half_moved from to part.done (tree_blocks t p)) s y i at.valid within.below_root at.in_range part.holds in
+    let put_back = put_one (without_block y i (half_moved from to part.done (tree_blocks t p))) (without (key y i) s) new i value.0 valid (replanted_below from to y m.to_below) at.in_range taken in
     let alike = λ (z : Path) (j : ℕ). one_more_half from to part.done (tree_blocks t p) y i value.0 within.within outside in_tree z j in
-    let less = count_without (in_stretch from) (key y i) s (stretch_within from y i m.from_below path within.valid within.in_range within.within) (subst IsSome (sym found) refl) in
-    let kept = count_put (in_stretch from) (key new i) value.0 (without (key y i) s) (stretch_outside from new i m.from_below path valid within.in_range outside) in
+    let less = count_without (in_stretch from) (key y i) s (stretch_within from y i m.from_below path at.valid at.in_range within.within) (subst IsSome (sym found) refl) in
+    let kept = count_put (in_stretch from) (key new i) value.0 (without (key y i) s) (stretch_outside from new i path valid at.in_range outside) in
     let counted = part.counted in
     record {
       done = also_done part.done y i;
@@ -220,45 +205,39 @@ one_more_moved t p from to y i turns s after k h m path path_to part within firs
 
 -- nothing is left at the old place
 all_moved : (t : Tree) (p : Parameters) (from to : Path) (turns : ℕ) (s : List Pair) → IsTree t → IsTrue (is_path from) → IsTrue (is_path to) → IsMove t from to → refusal_of t (Rename from to) ≡ None → (part : IsPartMoved t p from to turns s)
-    → LacksFrom (key from 0) from (half_moved from to part.done (tree_blocks t p)) → s ≡ pairs (next_tree t (Rename from to)) p
+    → LacksFrom (key from 0) from s → s ≡ pairs (next_tree t (Rename from to)) p
 unfolding next_tree
 all_moved t p from to turns s h path path_to m none part lacks =
-    pairs_from_blocks (moved t from to) p s (IsTree-next_tree t (Rename from to) h (path, path_to) none)
-    (record { sorted = part.holds.has.sorted; each = λ x j valid l. part.holds.has.each x j valid l ∙ by_tests x j valid l (is_at_or_inside x from) (is_at_or_inside x to) refl refl ∙ tree_blocks-moved t from to h m p x j; only = part.holds.has.only })
+    let next = IsTree-next_tree t (Rename from to) h (path, path_to) none in
+    pairs_from_blocks (moved t from to) p s next
+    (record { sorted = part.holds.has.sorted; each = λ x j valid l. part.holds.has.each x j valid l ∙ by_tests x j valid l (is_at_or_inside x from) (is_at_or_inside x to) refl refl ∙ tree_blocks-moved t from to h m path path_to next p x j; only = part.holds.has.only })
   where
-    gone : (x : Path) (j : ℕ) → IsTrue (is_path x) → j < 4294967296 → is_at_or_inside x from ≡ true → cond (part.done x j) None (tree_blocks t p x j) ≡ None
+    gone : (x : Path) (j : ℕ) → IsTrue (is_place x) → j < 4294967296 → is_at_or_inside x from ≡ true → cond (part.done x j) None (tree_blocks t p x j) ≡ None
     gone x j valid l f =
         sym (ap (λ b. cond b (cond (part.done x j) None (tree_blocks t p x j)) (cond (is_at_or_inside x to) (cond (part.done (replanted to from x) j) (tree_blocks t p (replanted to from x) j) None) (tree_blocks t p x j))) f)
-        ∙ lacks x j valid l f (top_is_lowest from x j path valid l f)
+        ∙ lacks_block (key from 0) from (half_moved from to part.done (tree_blocks t p)) s x j part.holds.has lacks valid l f (top_is_lowest from x j (place_of_path from path) valid l f)
 
-    all_there : (x : Path) (j : ℕ) → j < 4294967296 → is_at_or_inside x from ≡ true → (d : Bool) → part.done x j ≡ d → (o : Option Node) → find path_cmp x t ≡ o → cond d (tree_blocks t p x j) None ≡ tree_blocks t p x j
+    all_there : (x : Path) (j : ℕ) → j < 4294967296 → is_at_or_inside x from ≡ true → (d : Bool) → part.done x j ≡ d → (o : Option (List ℕ)) → tree_blocks t p x j ≡ o → cond d (tree_blocks t p x j) None ≡ tree_blocks t p x j
     all_there x j l f true e o is = refl
-    all_there x j l f false e None is = sym (ap (λ o. block_value o p.version j) is)
-    all_there x j l f false e (Some n) is = sym (ap (λ d. cond d None (tree_blocks t p x j)) (sym e) ∙ gone x j (find_from_all (IsEntry t) x n t h.entries is).path l f)
+    all_there x j l f false e None is = sym is
+    all_there x j l f false e (Some v) is =
+        sym (ap (λ d. cond d None (tree_blocks t p x j)) (sym e) ∙ gone x j (owned_place t x j (owner_of t p x j h (subst IsSome (sym is) refl))) l f)
 
-    by_tests : (x : Path) (j : ℕ) → IsTrue (is_path x) → j < 4294967296 → (a b : Bool) → is_at_or_inside x from ≡ a → is_at_or_inside x to ≡ b
+    by_tests : (x : Path) (j : ℕ) → IsTrue (is_place x) → j < 4294967296 → (a b : Bool) → is_at_or_inside x from ≡ a → is_at_or_inside x to ≡ b
         → cond a (cond (part.done x j) None (tree_blocks t p x j)) (cond b (cond (part.done (replanted to from x) j) (tree_blocks t p (replanted to from x) j) None) (tree_blocks t p x j))
         ≡ cond a None (cond b (tree_blocks t p (replanted to from x) j) (tree_blocks t p x j))
     by_tests x j valid l true b f g = gone x j valid l f
-    by_tests x j valid l false true f g = all_there (replanted to from x) j l (replanted_within to from x) (part.done (replanted to from x) j) refl (find path_cmp (replanted to from x) t) refl
+    by_tests x j valid l false true f g = all_there (replanted to from x) j l (replanted_within to from x) (part.done (replanted to from x) j) refl (tree_blocks t p (replanted to from x) j) refl
     by_tests x j valid l false false f g = refl
 
 -- ---- the same, by what a search answered
 
-abbrev pub Searched : Path → List Pair → Option Block → Type 0
-Searched from s found = (blocks : BlockMap) → HasPathBlocks blocks s → MatchOption found (LacksFrom (key from 0) from blocks) (λ at. IsFirstFrom (key from 0) blocks at.path at.number)
+pub next_moved : (t : Tree) (p : Parameters) (from to : Path) (turns : ℕ) (s between after : List Pair) (found : Option (List ℕ)) (k : List ℕ) → IsTree t → IsMove t from to → IsTrue (is_path from) → IsTrue (is_path to) → IsPartMoved t p from to turns s
+    → found ≡ Some k → Searched (key from 0) from s found → between ≡ s → Moves k from to between after → IsPartMoved t p from to (turns + 1) after
+next_moved t p from to turns s between after found k h m path path_to part is searched kept moves =
+    one_more_moved t p from to turns s after k h m path path_to part (first_within (key from 0) from (half_moved from to part.done (tree_blocks t p)) s k part.holds path (le_itself (key from 0)) (found_first (key from 0) from s found k is searched))
+    (subst (λ (l : List Pair). Moves k from to l after) kept moves)
 
-pub next_moved : (t : Tree) (p : Parameters) (from to : Path) (turns : ℕ) (s between after : List Pair) (found : Option Block) (b : Block) → IsTree t → IsMove t from to → IsTrue (is_path from) → IsTrue (is_path to) → IsPartMoved t p from to turns s
-    → found ≡ Some b → IfSome found (λ at. IsWithin from at.path at.number) → Searched from s found → between ≡ s
-    → ((v : List ℕ) → find key_cmp (key b.path b.number) between ≡ Some v → fits_field (replanted from to b.path) ≡ true → after ≡ put key_cmp (key (replanted from to b.path) b.number) v (without (key b.path b.number) between)) → IsPartMoved t p from to (turns + 1) after
-next_moved t p from to turns s between after None b h m path path_to part is within searched kept moves = cc
-next_moved t p from to turns s between after (Some z) b h m path path_to part is within searched kept moves =
-    let same : z ≡ b = cc in
-    one_more_moved t p from to b.path b.number turns s after (key from 0) h m path path_to part (subst (λ (w : Block). IsWithin from w.path w.number) same within)
-    (subst (λ (w : Block). IsFirstFrom (key from 0) (half_moved from to part.done (tree_blocks t p)) w.path w.number) same (searched (half_moved from to part.done (tree_blocks t p)) part.holds))
-    (λ v found fits. moves v (ap (find key_cmp (key b.path b.number)) kept ∙ found) fits ∙ ap (λ l. put key_cmp (key (replanted from to b.path) b.number) v (without (key b.path b.number) l)) kept)
-
-pub none_left : (t : Tree) (p : Parameters) (from to : Path) (turns : ℕ) (s between : List Pair) (found : Option Block) → IsTree t → IsTrue (is_path from) → IsTrue (is_path to) → IsMove t from to → refusal_of t (Rename from to) ≡ None → IsPartMoved t p from to turns s
-    → ((b : Block) → found ≡ Some b → ⊥) → Searched from s found → between ≡ s → between ≡ pairs (next_tree t (Rename from to)) p
-none_left t p from to turns s between None h path path_to m free part none searched kept = kept ∙ all_moved t p from to turns s h path path_to m free part (searched (half_moved from to part.done (tree_blocks t p)) part.holds)
-none_left t p from to turns s between (Some z) h path path_to m free part none searched kept = absurd (none z refl)
+pub none_left : (t : Tree) (p : Parameters) (from to : Path) (turns : ℕ) (s between : List Pair) (found : Option (List ℕ)) → IsTree t → IsTrue (is_path from) → IsTrue (is_path to) → IsMove t from to → refusal_of t (Rename from to) ≡ None → IsPartMoved t p from to turns s
+    → ((k : List ℕ) → found ≡ Some k → ⊥) → Searched (key from 0) from s found → between ≡ s → between ≡ pairs (next_tree t (Rename from to)) p
+none_left t p from to turns s between found h path path_to m free part none searched kept = kept ∙ all_moved t p from to turns s h path path_to m free part (found_nothing (key from 0) from s found none searched)

@@ -1,18 +1,17 @@
 -- Lemmas on how many pairs of a list stand in the stretch of a subtree, or from a key on.
-use Rattle.std.proofs.Common.{◌≡◌, ℕ, suc, ◌<◌, ◌≤◌, List, [], ◌∷◌, length, Bool, true, false, not, cond, ◌&&◌, IsTrue, Some, refl, sym, ap, ◌∙◌, arith, nat_cmp, Ordering, Less, Equal, Greater}
+use Rattle.std.proofs.Common.{◌≡◌, ℕ, suc, ◌<◌, ◌≤◌, List, [], ◌∷◌, length, Bool, true, false, not, cond, ◌&&◌, IsTrue, Some, refl, sym, ap, ◌∙◌, arith, Ordering, Less, Equal, Greater}
 use Rattle.std.specs.Prelude.{IsSome}
 use Rattle.std.specs.List.{filter}
-use Rattle.std.specs.Ordering.{is_le, is_lt, eq_by_cmp, ordering_then}
+use Rattle.std.specs.Ordering.{is_le, is_lt, eq_by_cmp}
 use Rattle.std.specs.FinMap.{find, put}
 use Rattle.std.specs.FinMap.Entries.{by_order}
-use Rattle.std.proofs.lemmas.Bool.{both_ways, and_from, and_left, and_right}
-use Rattle.store_model.specs.Paths.{Path, is_root, is_path, path_cmp, is_at_or_inside, key, key_cmp}
+use Rattle.std.proofs.lemmas.Bool.{both_ways, and_from, and_parts, false_from_ne_true}
+use Rattle.store_model.specs.Paths.{Path, is_root, is_path, is_place, is_at_or_inside, key, key_cmp}
 use Rattle.store_model.specs.Pairs.{Pair}
-use Rattle.store_model.proofs.PathsLemmas.{order_of_keys}
-use Rattle.store_model.proofs.TreesLemmasPaths.{same_from_tie}
-use Rattle.path_keys.proofs.PastBytes.{past_bytes, subtree_before_past, past_before_later}
+use Rattle.store_model.proofs.PathsLemmas.{place_of_path}
 use Rattle.ordered_pairs.specs.PairsState.{without}
-use Rattle.dir_tree.proofs.OrderLemmas.{same_key_from_test, reversed, at_itself, top_is_lowest}
+use Rattle.dir_tree.specs.SubtreeCalls.{end_of}
+use Rattle.dir_tree.proofs.OrderLemmas.{same_key_from_test, top_is_lowest, before_end, within_stretch}
 
 -- ---- the pairs whose keys pass a test
 
@@ -114,17 +113,20 @@ count_without test k (e ∷ s) h found =
 
 -- ---- the stretch of a subtree
 
--- whether a key stands from the first key of a subtree on, and before the key past it
+-- whether a key stands from the first key of a subtree on, and before its end
 abbrev pub in_stretch : Path → List ℕ → Bool
-in_stretch top k = is_le (key_cmp (key top 0) k) && is_lt (key_cmp k (past_bytes top 0))
+in_stretch top k = is_le (key_cmp (key top 0) k) && is_lt (key_cmp k (end_of top))
 
-pub stretch_within : (top x : Path) (i : ℕ) → is_root top ≡ false → IsTrue (is_path top) → IsTrue (is_path x) → i < 4294967296 → is_at_or_inside x top ≡ true → in_stretch top (key x i) ≡ true
-stretch_within top x i below path valid l inside = and_from _ _ (top_is_lowest top x i path valid l inside) (ap is_lt (subtree_before_past top x 0 i below inside))
+pub stretch_within : (top x : Path) (i : ℕ) → is_root top ≡ false → IsTrue (is_path top) → IsTrue (is_place x) → i < 4294967296 → is_at_or_inside x top ≡ true → in_stretch top (key x i) ≡ true
+stretch_within top x i below path valid l inside = and_from _ _ (top_is_lowest top x i (place_of_path top path) valid l inside) (ap is_lt (before_end top x i inside below))
 
-pub stretch_outside : (top x : Path) (i : ℕ) → is_root top ≡ false → IsTrue (is_path top) → IsTrue (is_path x) → i < 4294967296 → is_at_or_inside x top ≡ false → in_stretch top (key x i) ≡ false
-stretch_outside top x i below path valid l outside = by_order (path_cmp top x) refl
-  where
-    by_order : (o : Ordering) → path_cmp top x ≡ o → in_stretch top (key x i) ≡ false
-    by_order Less e = and_right _ _ (ap is_lt (reversed (past_bytes top 0) (key x i) Less (past_before_later top x 0 i below valid outside e)))
-    by_order Equal e = absurd (both_ways _ outside (ap (λ z. is_at_or_inside z top) (sym (same_from_tie top x e)) ∙ at_itself top))
-    by_order Greater e = and_left _ _ (ap is_le (order_of_keys top x 0 i path valid (omega arith) l ∙ ap (λ o. ordering_then o (nat_cmp 0 i)) e))
+less_from_test : (o : Ordering) → is_lt o ≡ true → o ≡ Less
+less_from_test Less e = refl
+less_from_test Equal e = cc
+less_from_test Greater e = cc
+
+pub stretch_outside : (top x : Path) (i : ℕ) → IsTrue (is_path top) → IsTrue (is_place x) → i < 4294967296 → is_at_or_inside x top ≡ false → in_stretch top (key x i) ≡ false
+stretch_outside top x i path valid l outside =
+    false_from_ne_true _ (λ within.
+    let parts = and_parts (is_le (key_cmp (key top 0) (key x i))) (is_lt (key_cmp (key x i) (end_of top))) within in
+    both_ways _ outside (within_stretch top x i path valid l parts.0 (λ below. less_from_test (key_cmp (key x i) (end_of top)) parts.1)))

@@ -1,8 +1,8 @@
 -- What the inner calls of a move do.
-use Rattle.std.specs.Prelude.{◌≡◌, ℕ, IsTrue, List, Bool, true, Some, None, Result, IfOk, OnOk}
+use Rattle.std.specs.Prelude.{◌≡◌, ◌<◌, ◌^◌, ℕ, IsTrue, List, Bool, true, Some, None, Result, IfOk, OnOk}
 use Rattle.std.specs.FinMap.{find, put}
 use Rattle.store_model.specs.Parameters.{Parameters}
-use Rattle.store_model.specs.Paths.{Path, is_path, fits_field, replanted, key, key_cmp}
+use Rattle.store_model.specs.Paths.{Path, is_path, is_place, is_at_or_inside, fits_field, replanted, key, key_cmp}
 use Rattle.store_model.specs.Pairs.{pairs}
 use Rattle.store_model.specs.Trees.{Tree}
 use Rattle.store_model.specs.Commands.Command.{Rename}
@@ -11,7 +11,6 @@ use Rattle.store_base.specs.declared.store_fault.Fault.{Fault}
 use Rattle.store_base.specs.Faults.{disk_faults_after}
 use Rattle.ordered_pairs.specs.PairsState.{PairsState, IsObservable, without}
 use Rattle.tree_pairs.specs.TreeCalls.{HoldsTree, KeepsPairs}
-use Rattle.dir_tree.specs.declared.subtree.Block.{Block}
 
 -- a call that says whether a moved path would have a longer field than keys have
 pub record TellsGrowth (from to : Path) (old new : PairsState) (result : Result Bool Fault) : Type 0 where
@@ -19,12 +18,13 @@ pub record TellsGrowth (from to : Path) (old new : PairsState) (result : Result 
   pub keeps : KeepsPairs old new
   pub told : IsObservable old → (t : Tree) (p : Parameters) → HoldsTree old t p → IfOk result (λ grows. grows ≡ outgrows t from to)
 
--- a call that moves one pair
-pub record MovesBlock {T : Type 0} (block : Block) (from to : Path) (old new : PairsState) (result : Result T Fault) : Type 0 where
+-- a call that moves one pair of a subtree
+pub record MovesPair {T : Type 0} (k : List ℕ) (from to : Path) (old new : PairsState) (result : Result T Fault) : Type 0 where
   pub faults : new.faults ≡ disk_faults_after old.faults result
   pub observable : IsObservable old → OnOk result (IsObservable new)
-  pub moved : IsObservable old → (value : List ℕ) → find key_cmp (key block.path block.number) old.pairs ≡ Some value → fits_field (replanted from to block.path) ≡ true
-      → OnOk result (new.pairs ≡ put key_cmp (key (replanted from to block.path) block.number) value (without (key block.path block.number) old.pairs))
+  pub moved : IsObservable old → (place : Path) (block : ℕ) (value : List ℕ) → IsTrue (is_place place) → is_at_or_inside place from ≡ true → block < 2 ^ 32 → k ≡ key place block
+      → find key_cmp k old.pairs ≡ Some value → fits_field (replanted from to place) ≡ true
+      → OnOk result (new.pairs ≡ put key_cmp (key (replanted from to place) block) value (without k old.pairs))
 
 -- a call that moves the pairs of a subtree, where nothing refuses it
 pub record MovesSubtree {T : Type 0} (from to : Path) (old new : PairsState) (result : Result T Fault) : Type 0 where

@@ -1,27 +1,27 @@
-//! Moving a path with all that lies below it. Each path is tested before a pair changes.
+//! Moving a path with all that lies below it, attributes among it. Each is tested before a pair changes.
 
 ghost use Rattle.std.specs.Prelude.{IsTrue};
-ghost use Rattle.store_model.specs.Paths.{is_path, is_at_or_inside};
+ghost use Rattle.store_model.specs.Paths.{is_path};
 ghost use Rattle.store_model.specs.Commands.Command.{Rename};
 ghost use Rattle.store_model.specs.Commands.Reply.{Acknowledged};
 ghost use Rattle.tree_pairs.specs.TreeCalls.{CarriesOut};
 ghost use Rattle.dir_tree.specs.RefusalCalls.{TellsRefusal};
-ghost use Rattle.subtree_move.specs.MoveCalls.{TellsGrowth, MovesBlock, MovesSubtree};
+ghost use Rattle.subtree_move.specs.MoveCalls.{TellsGrowth, MovesPair, MovesSubtree};
 
-use dir_tree::{Block, next_within, refusal_to_make};
+use dir_tree::{next_within, refusal_to_make};
 use ordered_pairs::OrderedPairs;
-use path_keys::Path;
-use store_base::{Answer, Fault};
+use path_keys::{Path, last_at, replant};
+use store_base::{Answer, Fault, Key};
 use store_model::Refusal;
 use tree_pairs::kind_of;
 
-/// Moves what stands at `from`, and all that lies below it, to `to`.
+/// Moves what stands at `from`, and all that lies below it, to `to`. Attributes move with their paths.
 ///
 /// It is refused, in this order: `Root` where either is the root, `Missing` where nothing stands at `from`, `Inside`
 /// where `to` lies below `from`, `Parent` where the parent of `to` is neither the root nor a directory, `Exists` where
-/// something stands at `to`, `Path` where a moved path would have more than 120 bytes. Each path is tested before a
-/// pair changes, so a refusal changes nothing. A fault of the pairs is handed on; nothing is promised of the pairs
-/// after it.
+/// something stands at `to`, `Path` where a moved path, or an attribute of one, would have a field of more than 120
+/// bytes. Each is tested before a pair changes, so a refusal changes nothing. A fault of the pairs is handed on; nothing
+/// is promised of the pairs after it.
 pub fn rename<P: OrderedPairs>(pairs: &mut P, from: &Path, to: &Path) -> Result<Answer<()>, Fault>
     ensures call { CarriesOut (λ _. Acknowledged) (Rename from.now to.now) (P.state pairs.old) (P.state pairs.new) result }
     ensures follows { P.follows pairs.old pairs.new }
@@ -58,8 +58,8 @@ fn refusal_to_rename<P: OrderedPairs>(
     Ok(outgrows(pairs, from, to)?.then_some(Refusal::Path))
 }
 
-/// Whether a path at `from` or below it would be too long, were it moved. The walk jumps from path to path, past the
-/// blocks of each.
+/// Whether a path at `from` or below it, or an attribute of one, would be too long, were it moved. The walk jumps past
+/// the blocks of each.
 fn outgrows<P: OrderedPairs>(pairs: &mut P, from: &Path, to: &Path) -> Result<bool, Fault>
     ensures call { TellsGrowth from.now to.now (P.state pairs.old) (P.state pairs.new) result }
     ensures follows { P.follows pairs.old pairs.new }
@@ -69,10 +69,10 @@ fn outgrows<P: OrderedPairs>(pairs: &mut P, from: &Path, to: &Path) -> Result<bo
         let Some(found) = next_within(pairs, &next, from)? else {
             return Ok(false);
         };
-        if found.path.replant(from, to).is_none() {
+        if replant(&found, from, to).is_none() {
             return Ok(true);
         }
-        next = found.path.key(u32::MAX);
+        next = last_at(&found);
     }
     Ok(false)
 }
@@ -87,27 +87,21 @@ fn move_subtree<P: OrderedPairs>(pairs: &mut P, from: &Path, to: &Path) -> Resul
         let Some(found) = next_within(pairs, &first, from)? else {
             break;
         };
-        move_block(pairs, &found, from, to)?;
+        move_pair(pairs, &found, from, to)?;
     }
     Ok(())
 }
 
 /// Moves one pair at `from` or below it.
-fn move_block<P: OrderedPairs>(
-    pairs: &mut P,
-    block: &Block,
-    from: &Path,
-    to: &Path,
-) -> Result<(), Fault>
-    requires within { IsTrue (is_at_or_inside block.now.path from.now) }
-    ensures call { MovesBlock block.now from.now to.now (P.state pairs.old) (P.state pairs.new) result }
+fn move_pair<P: OrderedPairs>(pairs: &mut P, key: &Key, from: &Path, to: &Path) -> Result<(), Fault>
+    ensures call { MovesPair key.now from.now to.now (P.state pairs.old) (P.state pairs.new) result }
     ensures follows { P.follows pairs.old pairs.new }
 {
-    let Some(path) = block.path.replant(from, to) else {
+    let Some(moved) = replant(key, from, to) else {
         return Ok(());
     };
-    if let Some(value) = pairs.take(&block.key())? {
-        pairs.put(path.key(block.number), value)?;
+    if let Some(value) = pairs.take(key)? {
+        pairs.put(moved, value)?;
     }
     Ok(())
 }

@@ -13,7 +13,7 @@ use Rattle.ordered_pairs.specs.PairsState.{PairsState, IsObservable}
 use Rattle.tree_pairs.specs.TreeCalls.{HoldsTree, uncounted_step, CarriesOutUnder}
 use Rattle.tree_commands.specs.Answers.{IsReplyOf, AnswersBy, change_reply}
 
--- a command is carried out on a list of pairs of one version, `full` apart
+-- a command is carried out on a list of pairs of one version, `version` and `full` apart
 pub record AnswersUnder (version : Version) (command : Command) (old new : PairsState) (result : Result Reply Fault) : Type 0 where
   pub faults : new.faults ≡ disk_faults_after old.faults result
   pub observable : IsObservable old → OnOk result (IsObservable new)

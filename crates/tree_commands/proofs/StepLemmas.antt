@@ -1,5 +1,5 @@
 -- Lemmas on the steps of commands, by the replies that they have where pages are not counted.
-use Rattle.std.proofs.Common.{◌≡◌, ◌<◌, ◌≤◌, Bool, true, false, ◌&&◌, nat_lt, if◌then◌else◌, Option, Some, None, refl, sym, ap, ◌∙◌, arith}
+use Rattle.std.proofs.Common.{◌≡◌, ◌<◌, ◌≤◌, Bool, true, false, ◌&&◌, nat_lt, if◌then◌else◌, Option, Some, None, refl, sym, ap, subst, ◌∙◌, arith}
 use Rattle.std.proofs.lemmas.Bool.{le-ltb, lt-ltb}
 use Rattle.store_model.specs.declared.refusal.Refusal.{Refusal}
 use Rattle.store_model.specs.declared.refusal.Refusal.TheVariants as refusals
@@ -9,11 +9,11 @@ use Rattle.store_model.specs.Pages.{Fits, page_count}
 use Rattle.sha2.specs.Sha256.{sha256}
 use Rattle.store_model.specs.Images.{layout}
 use Rattle.store_model.specs.Commands.{Command, Reply, IsCommand}
-use Rattle.store_model.specs.Commands.Command.{Make, Write, Cut, Rename, Remove, Prune, ListChildren, Read, Space, Digest}
+use Rattle.store_model.specs.Commands.Command.{Make, Write, Cut, Rename, Remove, Prune, ListChildren, Read, Space, Digest, SetAttribute, UnsetAttribute, GetAttribute, ListAttributes}
 use Rattle.store_model.specs.Commands.Reply.{Acknowledged, PagesUsed, ImageDigest, Refused}
-use Rattle.store_model.specs.Steps.{Step, step, step_by, conditions, first_refusal, refusal_of, next_tree, reply_of, may_fill}
-use Rattle.store_model.proofs.TreesLemmasFits.{needs_no_more}
-use Rattle.store_model.proofs.TreesLemmasSteps.{IsTree-next_tree}
+use Rattle.store_model.specs.Steps.{Step, step, step_by, conditions, first_refusal, refusal_of, next_tree, reply_of, may_fill, is_on_attributes, lacks_version}
+use Rattle.store_model.proofs.TreesLemmasFits.{needs_no_more, Fits-step}
+use Rattle.store_model.proofs.TreesLemmasSteps.{IsTree-next_tree, step_by_refusal}
 use Rattle.tree_pairs.specs.TreeCalls.{uncounted_by, uncounted_step}
 use Rattle.tree_pairs.proofs.CallLemmas.{step_where_refused}
 use Rattle.tree_commands.specs.Answers.{is_look}
@@ -22,11 +22,11 @@ use Rattle.tree_commands.specs.Counted.{counted_step}
 -- ---- the digest and the space
 
 pub digest_step : (t : Tree) (p : Parameters) → step t Digest p ≡ record { reply = ImageDigest (sha256 (layout t p)); tree = t }
-unfolding step conditions first_refusal next_tree reply_of may_fill
+unfolding step conditions first_refusal next_tree reply_of may_fill is_on_attributes
 digest_step t p = refl
 
 pub space_step : (t : Tree) (p : Parameters) → step t Space p ≡ record { reply = PagesUsed (page_count t p) p.slots; tree = t }
-unfolding step conditions first_refusal next_tree reply_of may_fill
+unfolding step conditions first_refusal next_tree reply_of may_fill is_on_attributes
 space_step t p = refl
 
 -- ---- trees
@@ -53,9 +53,8 @@ counted_full t next p more =
 abbrev by_test : Tree → Command → Parameters → Bool → Step
 by_test t c p b = if b then (record { reply = Refused (refusals.Full (page_count (next_tree t c) p) p.slots); tree = t }) else (record { reply = reply_of t c p; tree = next_tree t c })
 
-counted : (t : Tree) (c : Command) (p : Parameters) → refusal_of t c ≡ None → step t c p ≡ by_test t c p (may_fill c && nat_lt p.slots (page_count (next_tree t c) p))
-unfolding step
-counted t c p none = ap (step_by t c p) none
+counted : (t : Tree) (c : Command) (p : Parameters) → lacks_version c p ≡ false → refusal_of t c ≡ None → step t c p ≡ by_test t c p (may_fill c && nat_lt p.slots (page_count (next_tree t c) p))
+counted t c p has none = step_by_refusal t c p has ∙ ap (step_by t c p) none
 
 and_false : (a b : Bool) → b ≡ false → (a && b) ≡ false
 and_false true b e = e
@@ -71,7 +70,7 @@ acked_reply : (t : Tree) (c : Command) (p : Parameters) → (uncounted_step t c 
 acked_reply t c p acked = sym (ap (λ (o : Option Refusal). (uncounted_by t c p o).reply) (acked_none t c p (refusal_of t c) acked)) ∙ acked
 
 -- its step is that from its tree to the next, with the pages counted
-module _ (t : Tree) (c : Command) (p : Parameters) (tree : IsTree t) (fits : Fits t p) (acked : (uncounted_step t c p).reply ≡ Acknowledged) where
+module _ (t : Tree) (c : Command) (p : Parameters) (tree : IsTree t) (fits : Fits t p) (has : lacks_version c p ≡ false) (acked : (uncounted_step t c p).reply ≡ Acknowledged) where
   none : refusal_of t c ≡ None
   none = acked_none t c p (refusal_of t c) acked
 
@@ -89,14 +88,18 @@ module _ (t : Tree) (c : Command) (p : Parameters) (tree : IsTree t) (fits : Fit
       sym (ap (λ (b : Bool). if b then (record { reply = Refused (refusals.Full (page_count (next_tree t c) p) p.slots); tree = t }) else (record { reply = Acknowledged; tree = next_tree t c })) full_is)
   by_fill false true is full_is =
       let fewer = needs_no_more t c p tree is none in
-      let test = le-ltb p.slots (page_count (next_tree t c) p) (omega (arith, fewer, fits)) in
+      let test = le-ltb p.slots (page_count (next_tree t c) p) (omega (arith, fewer, fits.room)) in
       let other : true ≡ false = sym full_is ∙ test in
       cc
 
   pub acked_step : step t c p ≡ counted_step t (uncounted_step t c p).tree p
   acked_step =
-      counted t c p none ∙ by_fill (may_fill c) (nat_lt p.slots (page_count (next_tree t c) p)) refl refl
+      counted t c p has none ∙ by_fill (may_fill c) (nat_lt p.slots (page_count (next_tree t c) p)) refl refl
       ∙ ap (λ (s : Step). counted_step t s.tree p) (sym uncounted_is)
+
+  -- and that tree fits where the slots have room for it
+  pub acked_fits : page_count (uncounted_step t c p).tree p ≤ p.slots → Fits (uncounted_step t c p).tree p
+  acked_fits room = subst (λ (s : Step). Fits s.tree p) (acked_step ∙ counted_fits t (uncounted_step t c p).tree p room) (Fits-step t c p tree fits)
 
 -- ---- a command that is not
 
@@ -113,19 +116,23 @@ still_command t (ListChildren q) p other = (refl, refl)
 still_command t (Read q at len) p other = (refl, refl)
 still_command t Space p other = (refl, refl)
 still_command t Digest p other = (refl, refl)
+still_command t (SetAttribute q a bytes) p other = absurd (other refl)
+still_command t (UnsetAttribute q a) p other = absurd (other refl)
+still_command t (GetAttribute q a) p other = (refl, refl)
+still_command t (ListAttributes q) p other = (refl, refl)
 
 -- its step is its reply, and the tree stays
-pub answered_step : (t : Tree) (c : Command) (p : Parameters) (reply : Reply) → reply ≡ (uncounted_step t c p).reply → (reply ≡ Acknowledged → ⊥) → step t c p ≡ record { reply = reply; tree = t }
-answered_step t c p reply is other = by_option (refusal_of t c) refl
+pub answered_step : (t : Tree) (c : Command) (p : Parameters) (reply : Reply) → lacks_version c p ≡ false → reply ≡ (uncounted_step t c p).reply → (reply ≡ Acknowledged → ⊥) → step t c p ≡ record { reply = reply; tree = t }
+answered_step t c p reply has is other = by_option (refusal_of t c) refl
   where
     by_option : (o : Option Refusal) → refusal_of t c ≡ o → step t c p ≡ record { reply = reply; tree = t }
     by_option (Some refusal) so =
         let same = ap (uncounted_by t c p) so in
-        step_where_refused t c p refusal so ∙ same ∙ ap (λ (r : Reply). record { reply = r; tree = t }) (sym (is ∙ ap (λ (s : Step). s.reply) same))
+        step_where_refused t c p refusal has so ∙ same ∙ ap (λ (r : Reply). record { reply = r; tree = t }) (sym (is ∙ ap (λ (s : Step). s.reply) same))
     by_option None so =
         let same : reply ≡ reply_of t c p = is ∙ ap (λ (o : Option Refusal). (uncounted_by t c p o).reply) so in
         let still = still_command t c p (λ e. other (same ∙ e)) in
-        counted t c p so ∙ ap (λ (b : Bool). by_test t c p (b && nat_lt p.slots (page_count (next_tree t c) p))) still.0
+        counted t c p has so ∙ ap (λ (b : Bool). by_test t c p (b && nat_lt p.slots (page_count (next_tree t c) p))) still.0
         ∙ (λ i. record { reply = sym same i; tree = still.1 i })
 
 -- and the tree stays where the pages are not counted
@@ -150,6 +157,10 @@ look_reply t (ListChildren q) p looks is = cc
 look_reply t (Read q at len) p looks is = cc
 look_reply t Space p looks is = cc
 look_reply t Digest p looks is = cc
+look_reply t (SetAttribute q a bytes) p looks is = cc
+look_reply t (UnsetAttribute q a) p looks is = cc
+look_reply t (GetAttribute q a) p looks is = cc
+look_reply t (ListAttributes q) p looks is = cc
 
 -- it is not acknowledged
 look_step : (t : Tree) (c : Command) (p : Parameters) → is_look c ≡ true → (uncounted_step t c p).reply ≡ Acknowledged → ⊥

@@ -5,7 +5,7 @@ use Rattle.store_model.specs.Parameters.{Parameters}
 use Rattle.store_model.specs.Trees.{Tree}
 use Rattle.store_model.specs.Pairs.{pairs}
 use Rattle.store_model.specs.Commands.{Command}
-use Rattle.store_model.specs.Commands.Command.{Make, Write, Cut, Rename, Remove, Prune, ListChildren, Read, Space, Digest}
+use Rattle.store_model.specs.Commands.Command.{Make, Write, Cut, Rename, Remove, Prune, ListChildren, Read, Space, Digest, SetAttribute, UnsetAttribute, GetAttribute, ListAttributes}
 use Rattle.store_model.specs.Steps.{Step}
 use Rattle.store_base.specs.declared.store_fault.Fault.{Fault}
 use Rattle.store_base.specs.Faults.{disk_faults_after}
@@ -27,6 +27,10 @@ is_change (ListChildren p) = false
 is_change (Read p at len) = false
 is_change Space = false
 is_change Digest = false
+is_change (SetAttribute p a bytes) = true
+is_change (UnsetAttribute p a) = true
+is_change (GetAttribute p a) = false
+is_change (ListAttributes p) = false
 
 -- whether a command only looks at the pairs of the tree
 abbrev pub is_look : Command → Bool
@@ -40,6 +44,10 @@ is_look (ListChildren p) = true
 is_look (Read p at len) = true
 is_look Space = false
 is_look Digest = false
+is_look (SetAttribute p a bytes) = false
+is_look (UnsetAttribute p a) = false
+is_look (GetAttribute p a) = true
+is_look (ListAttributes p) = true
 
 -- how a change that ended so is answered
 abbrev pub change_reply : {T F : Type 0} → Result (Result T Refusal) F → Result Reply F
@@ -52,7 +60,8 @@ pub record IsReplyOf (to : Step) (p : Parameters) (new : PairsState) (reply : Re
   pub reply_is : reply_of reply ≡ to.reply
   pub pairs_are : new.pairs ≡ pairs to.tree p
 
--- A command is carried out on a list of pairs, `full` apart. After a fault nothing is promised of the pairs.
+-- A command is carried out on a list of pairs, `version` and `full` apart. After a fault nothing is promised of the
+-- pairs.
 pub record AnswersBy (command : Command) (old new : PairsState) (result : Result Reply Fault) : Type 0 where
   pub faults : new.faults ≡ disk_faults_after old.faults result
   pub observable : IsObservable old → OnOk result (IsObservable new)

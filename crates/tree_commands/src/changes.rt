@@ -7,7 +7,7 @@ ghost use Rattle.script_lines.specs.Parsing.{command_of};
 ghost use Rattle.tree_pairs.specs.TreeCalls.{CarriesOutUnder, HasRoom};
 ghost use Rattle.tree_commands.specs.Answers.{is_change};
 
-use dir_tree::{make, remove};
+use dir_tree::{make, remove, set_attr, unset_attr};
 use file_blocks::{cut, write_at};
 use ordered_pairs::OrderedPairs;
 use path_keys::Path;
@@ -17,8 +17,8 @@ use store_model::{Refusal, Version};
 use subtree_move::{prune, rename};
 use tree_pairs::{Kind, kind_of};
 
-/// Carries out a command that changes the tree, `full` apart, on the pairs that the tree has under the version. A refusal
-/// changes nothing. A fault of the pairs is handed on; nothing is promised of the pairs after it.
+/// Carries out a command that changes the tree, `version` and `full` apart, on the pairs that the tree has under the
+/// version. A refusal changes nothing. A fault of the pairs is handed on; nothing is promised of the pairs after it.
 pub fn change<P: OrderedPairs>(
     pairs: &mut P,
     version: Version,
@@ -36,7 +36,14 @@ pub fn change<P: OrderedPairs>(
         Command::Rename(from, to) => rename(pairs, from, to),
         Command::Remove(path) => remove(pairs, path),
         Command::Prune(path) => prune(pairs, path),
-        Command::List(_) | Command::Read(..) | Command::Space | Command::Digest => unreachable!(),
+        Command::Set(path, name, bytes) => set_attr(pairs, path, name, bytes),
+        Command::Unset(path, name) => unset_attr(pairs, path, name),
+        Command::List(_)
+        | Command::Read(..)
+        | Command::Get(..)
+        | Command::Attrs(_)
+        | Command::Space
+        | Command::Digest => unreachable!(),
     }
 }
 

@@ -1,9 +1,9 @@
--- Lemmas on lists of pairs as functions of path and block: which list has the blocks of a tree, and what changes them.
-use Rattle.std.proofs.Common.{◌≡◌, ℕ, zero, suc, ◌+◌, ◌-◌, ◌*◌, ◌<◌, ◌≤◌, List, [], ◌∷◌, ◌++◌, map, length, Bool, true, false, cond, ◌&&◌, IsTrue, T, Option, Some, None, refl, sym, ap, ap₂, subst, ◌∙◌, arith, Ordering, Less, Equal, Greater, nat_cmp, nat_lt, min, ltb-true, ltb-false}
+-- Lemmas on lists of pairs as functions of place and block: which list has the blocks of a tree, and what changes them.
+use Rattle.std.proofs.Common.{◌≡◌, ℕ, zero, suc, ◌+◌, ◌-◌, ◌*◌, ◌<◌, ◌≤◌, List, [], ◌∷◌, ◌++◌, map, length, Bool, true, false, cond, ◌&&◌, ◌⊎◌, inl, inr, IsTrue, T, Option, Some, None, refl, sym, ap, ap₂, subst, ◌∙◌, arith, Ordering, Less, Equal, Greater, nat_cmp, nat_lt, min, ltb-true, ltb-false}
 use Rattle.std.specs.List.Sorted.{IsStrictlySortedBy}
 use Rattle.std.proofs.lemmas.List.{length-take, length-drop}
 use Rattle.std.specs.Ordering.{is_eq, eq_by_cmp, ordering_then}
-use Rattle.std.specs.Option.{option_or}
+use Rattle.std.specs.Option.{option_map, option_or}
 use Rattle.std.specs.Cmp.Lexicographic.{nat_list_cmp_total}
 use Rattle.std.specs.List.{AllByRecursion, enumerate_from}
 use Rattle.std.specs.FinMap.{find, slice_cmp-IsAntisymmetric, nat_cmp-IsAntisymmetric}
@@ -11,16 +11,18 @@ use Rattle.std.specs.FinMap.Entries.{same_entries}
 use Rattle.std.proofs.lemmas.Bool.{both_ways}
 use Rattle.store_model.specs.Lists.{runs, run_at, run_count, numbers_from}
 use Rattle.store_model.specs.Parameters.{Parameters}
-use Rattle.store_model.specs.Paths.{Path, is_path, path_cmp, same_path, key, key_cmp}
-use Rattle.store_model.specs.Pairs.{Pair, file_block, directory_value, file_value, inline_value, is_inline, file_pairs, node_pairs, pairs}
-use Rattle.store_model.specs.Trees.{Tree, Node, IsNode, IsEntry, IsTree, file_limit}
+use Rattle.store_model.specs.Paths.{Path, Name, is_path, is_place, attribute_mark, attribute_place, name_cmp, path_cmp, same_path, key, key_cmp}
+use Rattle.store_model.specs.Pairs.{Pair, file_block, directory_value, file_value, inline_value, attribute_value, is_inline, file_pairs, node_pairs, attribute_pairs, entry_pairs, pairs}
+use Rattle.store_model.specs.Trees.{Tree, Node, Attributes, IsNode, IsAttribute, IsEntry, IsTree, node_of, attributes_of, attributes_at, file_limit}
 use Rattle.store_model.specs.Trees.Node.{Directory, File}
-use Rattle.store_model.proofs.ListsLemmas.{all_weaker, all_map, all_flat_map, numbers_in_range, length-runs, nat_cmp-eq, rising_from_is_sorted, rising_head, rising_tail}
-use Rattle.store_model.proofs.PathsLemmas.{order_of_keys}
-use Rattle.store_model.proofs.PairsLemmas.{is_sorted-pairs}
+use Rattle.store_model.proofs.ListsLemmas.{all_weaker, all_flat_map, nat_cmp-eq, rising_from_is_sorted, rising_head, rising_tail}
+use Rattle.store_model.proofs.PathsLemmas.{place_of_path, place_of_attribute, order_of_keys}
+use Rattle.store_model.proofs.PathsLemmasPlaces.{order_of_attributes}
+use Rattle.store_model.proofs.PairsLemmas.{IsOfNode, IsOfAttribute, IsOfPath, node_pairs_of_node, attribute_pairs_of_attributes, pairs_of_entry, is_sorted-pairs}
 use Rattle.store_model.proofs.TreesLemmasPaths.{same_from_test, same_path-itself, tie_from_test}
 use Rattle.tree_pairs.specs.Blocks.{BlockMap, run_value, IsBlockPair, HasBlocks}
-use Rattle.tree_pairs.proofs.TreeBlocks.{file_block_value, block_value, tree_blocks}
+use Rattle.tree_pairs.proofs.TreeBlocks.{file_block_value, block_value, attribute_block, tree_blocks}
+use Rattle.tree_pairs.proofs.PlaceLemmas.{IsAttributePlace, IsPlain, form_of, attribute_apart, attributes_apart, no_attributes, or_none, plain_blocks, attribute_blocks}
 
 -- ---- keys that tie
 
@@ -30,18 +32,18 @@ tie_of_both Less b = refl
 tie_of_both Equal b = refl
 tie_of_both Greater b = refl
 
--- keys tie where path and block do
-pub tie_of_keys : (x y : Path) (i j : ℕ) → IsTrue (is_path x) → IsTrue (is_path y) → i < 4294967296 → j < 4294967296
+-- keys tie where place and block do
+pub tie_of_keys : (x y : Path) (i j : ℕ) → IsTrue (is_place x) → IsTrue (is_place y) → i < 4294967296 → j < 4294967296
     → eq_by_cmp key_cmp (key x i) (key y j) ≡ (same_path x y && eq_by_cmp nat_cmp i j)
 tie_of_keys x y i j hx hy hi hj = ap is_eq (order_of_keys x y i j hx hy hi hj) ∙ tie_of_both (path_cmp x y) (nat_cmp i j)
 
--- keys of other paths are others
-pub no_tie_of_paths : (x y : Path) (i j : ℕ) → IsTrue (is_path x) → IsTrue (is_path y) → i < 4294967296 → j < 4294967296 → same_path x y ≡ false
+-- keys of other places are others
+pub no_tie_of_places : (x y : Path) (i j : ℕ) → IsTrue (is_place x) → IsTrue (is_place y) → i < 4294967296 → j < 4294967296 → same_path x y ≡ false
     → eq_by_cmp key_cmp (key x i) (key y j) ≡ false
-no_tie_of_paths x y i j hx hy hi hj e = tie_of_keys x y i j hx hy hi hj ∙ ap (λ b. b && eq_by_cmp nat_cmp i j) e
+no_tie_of_places x y i j hx hy hi hj e = tie_of_keys x y i j hx hy hi hj ∙ ap (λ b. b && eq_by_cmp nat_cmp i j) e
 
--- at one path the blocks decide
-pub tie_of_blocks : (x : Path) (i j : ℕ) → IsTrue (is_path x) → i < 4294967296 → j < 4294967296 → eq_by_cmp key_cmp (key x i) (key x j) ≡ eq_by_cmp nat_cmp i j
+-- at one place the blocks decide
+pub tie_of_blocks : (x : Path) (i j : ℕ) → IsTrue (is_place x) → i < 4294967296 → j < 4294967296 → eq_by_cmp key_cmp (key x i) (key x j) ≡ eq_by_cmp nat_cmp i j
 tie_of_blocks x i j h hi hj = tie_of_keys x x i j h h hi hj ∙ ap (λ b. b && eq_by_cmp nat_cmp i j) (same_path-itself x)
 
 -- numbers that tie are the same
@@ -100,7 +102,7 @@ abbrev run_pairs : Path → List ℕ → ℕ → ℕ → ℕ → List Pair
 run_pairs x bytes number first count = map (run_pair x) (enumerate_from number (map (run_at file_block bytes) (numbers_from first count)))
 
 -- a run is found by its number
-find_run : (x : Path) (bytes : List ℕ) (i number first count : ℕ) → IsTrue (is_path x) → number ≡ suc first → first + count < 4294967295 → first ≤ i → i < first + count
+find_run : (x : Path) (bytes : List ℕ) (i number first count : ℕ) → IsTrue (is_place x) → number ≡ suc first → first + count < 4294967295 → first ≤ i → i < first + count
     → find key_cmp (key x (suc i)) (run_pairs x bytes number first count) ≡ Some (run_at file_block bytes i)
 unfolding numbers_from
 find_run x bytes i number first zero h e few l g = absurd (omega arith)
@@ -119,7 +121,7 @@ find_run x bytes i number first (suc count) h e few l g =
     ]) refl
 
 -- a number behind them all is not
-find_no_run : (x : Path) (bytes : List ℕ) (i number first count : ℕ) → IsTrue (is_path x) → number ≡ suc first → first + count < 4294967295 → i < 4294967295 → first + count ≤ i
+find_no_run : (x : Path) (bytes : List ℕ) (i number first count : ℕ) → IsTrue (is_place x) → number ≡ suc first → first + count < 4294967295 → i < 4294967295 → first + count ≤ i
     → find key_cmp (key x (suc i)) (run_pairs x bytes number first count) ≡ None
 unfolding numbers_from
 find_no_run x bytes i number first zero h e few hi l = refl
@@ -128,7 +130,7 @@ find_no_run x bytes i number first (suc count) h e few hi l =
     ∙ find_no_run x bytes i (number + 1) (suc first) count h (omega arith) (omega arith) hi (omega arith)
 
 -- nor is block 0 among them
-find_no_first : (x : Path) (bytes : List ℕ) (number first count : ℕ) → IsTrue (is_path x) → number ≡ suc first → first + count < 4294967295
+find_no_first : (x : Path) (bytes : List ℕ) (number first count : ℕ) → IsTrue (is_place x) → number ≡ suc first → first + count < 4294967295
     → find key_cmp (key x 0) (run_pairs x bytes number first count) ≡ None
 unfolding numbers_from
 find_no_first x bytes number first zero h e few = refl
@@ -137,7 +139,7 @@ find_no_first x bytes number first (suc count) h e few =
     ∙ find_no_first x bytes (number + 1) (suc first) count h (omega arith) (omega arith)
 
 -- the blocks of a file, found by their numbers
-find_block : (x : Path) (bytes : List ℕ) (i : ℕ) → IsTrue (is_path x) → i < 4294967295 → length bytes ≤ file_limit
+find_block : (x : Path) (bytes : List ℕ) (i : ℕ) → IsTrue (is_place x) → i < 4294967295 → length bytes ≤ file_limit
     → find key_cmp (key x (suc i)) (run_pairs x bytes 1 0 (run_count file_block (length bytes))) ≡ run_value (run_at file_block bytes i)
 find_block x bytes i h hi few =
     let long = length-run_at file_block bytes i in
@@ -149,7 +151,7 @@ find_block x bytes i h hi few =
 -- ---- the pairs of what stands at a path have its blocks
 
 -- those of a file have the blocks of the file
-find-file_pairs : (inline : Bool) (x : Path) (bytes : List ℕ) (i : ℕ) → IsTrue (is_path x) → length bytes ≤ file_limit → i < 4294967296
+find-file_pairs : (inline : Bool) (x : Path) (bytes : List ℕ) (i : ℕ) → IsTrue (is_place x) → length bytes ≤ file_limit → i < 4294967296
     → find key_cmp (key x i) (file_pairs inline x bytes) ≡ file_block_value inline bytes i
 unfolding runs
 find-file_pairs true x bytes zero h few l = ap (λ b. cond b (Some (inline_value bytes)) None) (tie_of_blocks x 0 0 h (omega arith) (omega arith))
@@ -159,33 +161,53 @@ find-file_pairs false x bytes (suc i) h few l =
     ap (λ b. cond b (Some (file_value (length bytes))) (find key_cmp (key x (suc i)) (run_pairs x bytes 1 0 (run_count file_block (length bytes))))) (tie_of_blocks x (suc i) 0 h l (omega arith) ∙ other_numbers (suc i) 0 (λ is. absurd (omega arith)))
     ∙ find_block x bytes i h (omega arith) few
 
-pub find-node_pairs : (x : Path) (node : Node) (p : Parameters) (i : ℕ) → IsTrue (is_path x) → IsNode node → i < 4294967296
+pub find-node_pairs : (x : Path) (node : Node) (p : Parameters) (i : ℕ) → IsTrue (is_place x) → IsNode node → i < 4294967296
     → find key_cmp (key x i) (node_pairs x node p) ≡ block_value (Some node) p.version i
 unfolding node_pairs
 find-node_pairs x Directory p zero h g l = ap (λ b. cond b (Some directory_value) None) (tie_of_blocks x 0 0 h (omega arith) (omega arith))
 find-node_pairs x Directory p (suc i) h g l = ap (λ b. cond b (Some directory_value) None) (tie_of_blocks x (suc i) 0 h l (omega arith) ∙ other_numbers (suc i) 0 (λ is. absurd (omega arith)))
 find-node_pairs x (File bytes) p i h g l = find-file_pairs (is_inline p.version (length bytes)) x bytes i h g.0 l
 
--- each pair is of a block of the path
-abbrev IsOf : Path → Pair → Type 0
-IsOf x pair = (i : ℕ) × (i < 4294967296) × (pair.0 ≡ key x i)
-
-file_pairs_of_path : (inline : Bool) (x : Path) (bytes : List ℕ) → length bytes ≤ file_limit → AllByRecursion (IsOf x) (file_pairs inline x bytes)
-file_pairs_of_path true x bytes fits = ((0, omega arith, refl), tt)
-file_pairs_of_path false x bytes fits =
-    let few = length-runs file_block bytes in
-    ((0, omega arith, refl), all_map (λ b. (1 ≤ b.0) × (b.0 < 1 + length (runs file_block bytes))) (IsOf x) (run_pair x) (λ b r. (b.0, omega arith, refl)) (enumerate_from 1 (runs file_block bytes)) (numbers_in_range 1 (runs file_block bytes)))
-
-node_pairs_of_path : (x : Path) (node : Node) (p : Parameters) → IsNode node → AllByRecursion (IsOf x) (node_pairs x node p)
-unfolding node_pairs
-node_pairs_of_path x Directory p g = ((0, omega arith, refl), tt)
-node_pairs_of_path x (File bytes) p g = file_pairs_of_path (is_inline p.version (length bytes)) x bytes g.0
-
--- at another path nothing of it is found
-pub find-other_pairs : (x y : Path) (node : Node) (p : Parameters) (i : ℕ) → IsTrue (is_path x) → IsTrue (is_path y) → IsNode node → i < 4294967296 → same_path x y ≡ false
+-- at another place nothing of it is found
+pub find-other_pairs : (x y : Path) (node : Node) (p : Parameters) (i : ℕ) → IsTrue (is_place x) → IsTrue (is_path y) → IsNode node → i < 4294967296 → same_path x y ≡ false
     → find key_cmp (key x i) (node_pairs y node p) ≡ None
 find-other_pairs x y node p i hx hy g l e =
-    find_missing (key x i) (node_pairs y node p) (all_weaker (IsOf y) _ (λ pair of. ap (eq_by_cmp key_cmp (key x i)) of.2 ∙ no_tie_of_paths x y i of.0 hx hy l of.1 e) (node_pairs y node p) (node_pairs_of_path y node p g))
+    find_missing (key x i) (node_pairs y node p)
+    (all_weaker (IsOfNode y) _ (λ pair of. ap (eq_by_cmp key_cmp (key x i)) of.2 ∙ no_tie_of_places x y i of.0 hx (place_of_path y hy) l of.1 e) (node_pairs y node p) (node_pairs_of_node y node p g))
+
+-- ---- the pairs of attributes
+
+-- at another place none of them is found
+find-other_attributes : (x q : Path) (attributes : Attributes) (i : ℕ) → IsTrue (is_place x) → IsTrue (is_path q) → AllByRecursion (IsAttribute q) attributes → i < 4294967296 → ((a : Name) → same_path x (attribute_place q a) ≡ false)
+    → find key_cmp (key x i) (attribute_pairs q attributes) ≡ None
+find-other_attributes x q attributes i hx hq each l other =
+    find_missing (key x i) (attribute_pairs q attributes)
+    (all_weaker (IsOfAttribute q) _ (λ pair of. ap (eq_by_cmp key_cmp (key x i)) of.2 ∙ no_tie_of_places x (attribute_place q of.0) i 0 hx of.1 l (omega arith) (other of.0)) (attribute_pairs q attributes) (attribute_pairs_of_attributes q attributes hq each))
+
+-- at its own place an attribute is found by its name
+find-own_attribute : (q : Path) (a : Name) (attributes : Attributes) (i : ℕ) → IsTrue (is_place (attribute_place q a)) → IsTrue (is_path q) → AllByRecursion (IsAttribute q) attributes → i < 4294967296
+    → find key_cmp (key (attribute_place q a) i) (attribute_pairs q attributes) ≡ attribute_block attributes (attribute_mark ∷ a) i
+unfolding attribute_pairs
+find-own_attribute q a [] i place h each l = sym (no_attributes (attribute_mark ∷ a) i)
+find-own_attribute q a (b ∷ attributes) zero place h each l =
+    let there = place_of_attribute q b.0 h (each.0).name (each.0).fits in
+    let tie = tie_of_keys (attribute_place q a) (attribute_place q b.0) 0 0 place there (omega arith) (omega arith) ∙ ap₂ (λ o c. is_eq o && c) (order_of_attributes q a b.0) (tied_number 0) in
+    ap (λ c. cond c (Some (attribute_value b.1)) (find key_cmp (key (attribute_place q a) 0) (attribute_pairs q attributes))) tie
+    ∙ picked (eq_by_cmp name_cmp a b.0) (find-own_attribute q a attributes zero place h each.1 l)
+  where
+    picked : (c : Bool) → find key_cmp (key (attribute_place q a) 0) (attribute_pairs q attributes) ≡ option_map attribute_value (find name_cmp a attributes)
+        → cond (c && true) (Some (attribute_value b.1)) (find key_cmp (key (attribute_place q a) 0) (attribute_pairs q attributes)) ≡ option_map attribute_value (cond c (Some b.1) (find name_cmp a attributes))
+    picked true rest = refl
+    picked false rest = rest
+find-own_attribute q a (b ∷ attributes) (suc i) place h each l =
+    let there = place_of_attribute q b.0 h (each.0).name (each.0).fits in
+    let tie = tie_of_keys (attribute_place q a) (attribute_place q b.0) (suc i) 0 place there l (omega arith) ∙ ap (λ c. same_path (attribute_place q a) (attribute_place q b.0) && c) (other_numbers (suc i) 0 (λ is. absurd (omega arith))) in
+    ap (λ c. cond c (Some (attribute_value b.1)) (find key_cmp (key (attribute_place q a) (suc i)) (attribute_pairs q attributes))) (tie ∙ and_none (same_path (attribute_place q a) (attribute_place q b.0)))
+    ∙ find-own_attribute q a attributes (suc i) place h each.1 l
+  where
+    and_none : (c : Bool) → (c && false) ≡ false
+    and_none true = refl
+    and_none false = refl
 
 -- ---- the pairs of a tree have its blocks
 
@@ -194,40 +216,77 @@ not_found_before : (x : Path) (t : Tree) → AllByRecursion (λ e. path_cmp x e.
 not_found_before x [] h = refl
 not_found_before x (e ∷ t) h = ap (λ o. cond (is_eq o) (Some e.1) (find path_cmp x t)) h.0 ∙ not_found_before x t h.1
 
-find-pairs : (x : Path) (i : ℕ) (t u : Tree) (p : Parameters) → IsTrue (is_path x) → i < 4294967296 → AllByRecursion (IsEntry u) t → IsStrictlySortedBy (λ a b. path_cmp a.0 b.0) t
-    → find key_cmp (key x i) (pairs t p) ≡ block_value (find path_cmp x t) p.version i
+-- at a plain place what stands there is found
+find-plain : (x : Path) (i : ℕ) (t u : Tree) (p : Parameters) → IsPlain x → IsTrue (is_place x) → i < 4294967296 → AllByRecursion (IsEntry u) t → IsStrictlySortedBy (λ a b. path_cmp a.0 b.0) t
+    → find key_cmp (key x i) (pairs t p) ≡ block_value (node_of (find path_cmp x t)) p.version i
 unfolding pairs
-find-pairs x i [] u p h l es rise = refl
-find-pairs x i (e ∷ t) u p h l es rise =
+find-plain x i [] u p plain h l es rise = refl
+find-plain x i (e ∷ t) u p plain h l es rise =
     let first = es.0 in
-    let rest = find-pairs x i t u p h l es.1 (rising_tail _ e t rise) in
-    find-append (key x i) (node_pairs e.0 e.1 p) (pairs t p)
-    ∙ (elim (same_path x e.0) as (λ b. same_path x e.0 ≡ b → option_or (find key_cmp (key x i) (node_pairs e.0 e.1 p)) (find key_cmp (key x i) (pairs t p)) ≡ block_value (cond b (Some e.1) (find path_cmp x t)) p.version i) [
+    let rest = find-plain x i t u p plain h l es.1 (rising_tail _ e t rise) in
+    let bare = find-other_attributes x e.0 e.1.attributes i h first.path first.attributes.each l (plain.other e.0) in
+    let entry : find key_cmp (key x i) (entry_pairs e.0 e.1 p) ≡ find key_cmp (key x i) (node_pairs e.0 e.1.node p) =
+    find-append (key x i) (node_pairs e.0 e.1.node p) (attribute_pairs e.0 e.1.attributes) ∙ ap (option_or (find key_cmp (key x i) (node_pairs e.0 e.1.node p))) bare ∙ or_none _ in
+    find-append (key x i) (entry_pairs e.0 e.1 p) (pairs t p) ∙ ap (λ o. option_or o (find key_cmp (key x i) (pairs t p))) entry
+    ∙ (elim (same_path x e.0) as (λ b. same_path x e.0 ≡ b → option_or (find key_cmp (key x i) (node_pairs e.0 e.1.node p)) (find key_cmp (key x i) (pairs t p)) ≡ block_value (node_of (cond b (Some e.1) (find path_cmp x t))) p.version i) [
       | true ↦ λ s.
           let same : x ≡ e.0 = same_from_test x e.0 s in
-          let here : find key_cmp (key x i) (node_pairs e.0 e.1 p) ≡ block_value (Some e.1) p.version i = ap (λ y. find key_cmp (key y i) (node_pairs e.0 e.1 p)) same ∙ find-node_pairs e.0 e.1 p i first.path first.node l in
-          let none : find key_cmp (key x i) (pairs t p) ≡ None = rest ∙ ap (λ o. block_value o p.version i) (not_found_before x t (subst (λ (y : Path). AllByRecursion (λ f. path_cmp y f.0 ≡ Less) t) (sym same) (rising_head _ e t rise))) in
-          ap₂ option_or here none ∙ or_none (block_value (Some e.1) p.version i)
-      | false ↦ λ s. ap (λ o. option_or o (find key_cmp (key x i) (pairs t p))) (find-other_pairs x e.0 e.1 p i h first.path first.node l s) ∙ rest
+          let here : find key_cmp (key x i) (node_pairs e.0 e.1.node p) ≡ block_value (Some e.1.node) p.version i = ap (λ y. find key_cmp (key y i) (node_pairs e.0 e.1.node p)) same ∙ find-node_pairs e.0 e.1.node p i (place_of_path e.0 first.path) first.node l in
+          let none : find key_cmp (key x i) (pairs t p) ≡ None = rest ∙ ap (λ o. block_value (node_of o) p.version i) (not_found_before x t (subst (λ (y : Path). AllByRecursion (λ f. path_cmp y f.0 ≡ Less) t) (sym same) (rising_head _ e t rise))) in
+          ap₂ option_or here none ∙ or_none (block_value (Some e.1.node) p.version i)
+      | false ↦ λ s. ap (λ o. option_or o (find key_cmp (key x i) (pairs t p))) (find-other_pairs x e.0 e.1.node p i h first.path first.node l s) ∙ rest
     ]) refl
-  where
-    or_none : (o : Option (List ℕ)) → option_or o None ≡ o
-    or_none None = refl
-    or_none (Some v) = refl
+
+-- at an attribute's place the attribute is
+find-attribute : (q : Path) (a : Name) (i : ℕ) (t u : Tree) (p : Parameters) → IsTrue (is_place (attribute_place q a)) → i < 4294967296 → AllByRecursion (IsEntry u) t → IsStrictlySortedBy (λ a b. path_cmp a.0 b.0) t
+    → find key_cmp (key (attribute_place q a) i) (pairs t p) ≡ attribute_block (attributes_at t q) (attribute_mark ∷ a) i
+unfolding pairs
+find-attribute q a i [] u p h l es rise = sym (no_attributes (attribute_mark ∷ a) i)
+find-attribute q a i (e ∷ t) u p h l es rise =
+    let first = es.0 in
+    let k = key (attribute_place q a) i in
+    let rest = find-attribute q a i t u p h l es.1 (rising_tail _ e t rise) in
+    let node = find-other_pairs (attribute_place q a) e.0 e.1.node p i h first.path first.node l (attribute_apart q a e.0 first.path) in
+    let entry : find key_cmp k (entry_pairs e.0 e.1 p) ≡ find key_cmp k (attribute_pairs e.0 e.1.attributes) =
+    find-append k (node_pairs e.0 e.1.node p) (attribute_pairs e.0 e.1.attributes) ∙ ap (λ o. option_or o (find key_cmp k (attribute_pairs e.0 e.1.attributes))) node in
+    find-append k (entry_pairs e.0 e.1 p) (pairs t p) ∙ ap (λ o. option_or o (find key_cmp k (pairs t p))) entry
+    ∙ (elim (same_path q e.0) as (λ b. same_path q e.0 ≡ b → option_or (find key_cmp k (attribute_pairs e.0 e.1.attributes)) (find key_cmp k (pairs t p)) ≡ attribute_block (attributes_of (cond b (Some e.1) (find path_cmp q t))) (attribute_mark ∷ a) i) [
+      | true ↦ λ s.
+          let same : q ≡ e.0 = same_from_test q e.0 s in
+          let here : find key_cmp k (attribute_pairs e.0 e.1.attributes) ≡ attribute_block e.1.attributes (attribute_mark ∷ a) i =
+          ap (λ y. find key_cmp (key (attribute_place y a) i) (attribute_pairs e.0 e.1.attributes)) same
+          ∙ find-own_attribute e.0 a e.1.attributes i (subst (λ (y : Path). IsTrue (is_place (attribute_place y a))) same h) first.path first.attributes.each l in
+          let none : find key_cmp k (pairs t p) ≡ None =
+          rest ∙ ap (λ o. attribute_block (attributes_of o) (attribute_mark ∷ a) i) (not_found_before q t (subst (λ (y : Path). AllByRecursion (λ f. path_cmp y f.0 ≡ Less) t) (sym same) (rising_head _ e t rise))) ∙ no_attributes (attribute_mark ∷ a) i in
+          ap₂ option_or here none ∙ or_none (attribute_block e.1.attributes (attribute_mark ∷ a) i)
+      | false ↦ λ s.
+          ap (λ o. option_or o (find key_cmp k (pairs t p))) (find-other_attributes (attribute_place q a) e.0 e.1.attributes i h first.path first.attributes.each l (λ b. attributes_apart q e.0 a b s)) ∙ rest
+    ]) refl
 
 -- each pair is of a block
+block_pair_of_path : (y : Path) (pair : Pair) → IsTrue (is_path y) → IsOfPath y pair → IsBlockPair pair
+block_pair_of_path y pair h (inl of) = record { path = y; block = of.0; valid = place_of_path y h; in_range = of.1; key_is = of.2 }
+block_pair_of_path y pair h (inr of) = record { path = attribute_place y of.0; block = 0; valid = of.1; in_range = omega arith; key_is = of.2 }
+
 block_pairs_of_tree : (t u : Tree) (p : Parameters) → AllByRecursion (IsEntry u) t → AllByRecursion IsBlockPair (pairs t p)
 unfolding pairs
 block_pairs_of_tree t u p h =
-    all_flat_map (IsEntry u) IsBlockPair (λ e. node_pairs e.0 e.1 p) (λ e g. all_weaker (IsOf e.0) IsBlockPair (λ pair of. record { path = e.0; block = of.0; valid = g.path; in_range = of.1; key_is = of.2 }) (node_pairs e.0 e.1 p) (node_pairs_of_path e.0 e.1 p g.node)) t h
+    all_flat_map (IsEntry u) IsBlockPair (λ e. entry_pairs e.0 e.1 p) (λ e g. all_weaker (IsOfPath e.0) IsBlockPair (λ pair of. block_pair_of_path e.0 pair g.path of) (entry_pairs e.0 e.1 p) (pairs_of_entry u e p g)) t h
 
 -- the pairs of a tree have its blocks
 pub pairs_have_blocks : (t : Tree) (p : Parameters) → IsTree t → HasBlocks (tree_blocks t p) (pairs t p)
 pairs_have_blocks t p h = record {
   sorted = is_sorted-pairs t p h;
-  each = λ x i path l. find-pairs x i t t p path l h.entries (rising_from_is_sorted path_cmp t h.sorted);
+  each = λ x i place l. by_form x i place l (form_of x);
   only = block_pairs_of_tree t t p h.entries;
 }
+  where
+    by_form : (x : Path) (i : ℕ) → IsTrue (is_place x) → i < 4294967296 → IsAttributePlace x ⊎ IsPlain x → find key_cmp (key x i) (pairs t p) ≡ tree_blocks t p x i
+    by_form x i place l (inl at) =
+        ap (λ y. find key_cmp (key y i) (pairs t p)) at.place_is
+        ∙ find-attribute at.path at.name i t t p (subst (λ (y : Path). IsTrue (is_place y)) at.place_is place) l h.entries (rising_from_is_sorted path_cmp t h.sorted)
+        ∙ sym (attribute_blocks t p.version at.path at.name i h) ∙ ap (λ y. tree_blocks t p y i) (sym at.place_is)
+    by_form x i place l (inr plain) = find-plain x i t t p plain place l h.entries (rising_from_is_sorted path_cmp t h.sorted) ∙ sym (plain_blocks t p.version x i plain)
 
 -- ---- lists with the same blocks are the same
 

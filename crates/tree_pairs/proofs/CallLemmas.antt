@@ -9,7 +9,8 @@ use Rattle.store_model.specs.Pairs.{pairs}
 use Rattle.store_model.specs.Commands.{Command, Reply}
 use Rattle.store_model.specs.Commands.Reply.{Refused}
 use Rattle.store_model.specs.Pages.{page_count}
-use Rattle.store_model.specs.Steps.{refusal_of, next_tree, reply_of, may_fill, step, step_by}
+use Rattle.store_model.specs.Steps.{refusal_of, next_tree, reply_of, may_fill, lacks_version, step, step_by}
+use Rattle.store_model.proofs.TreesLemmasSteps.{step_by_refusal}
 use Rattle.store_base.specs.declared.store_fault.Fault.{Fault}
 use Rattle.ordered_pairs.specs.PairsState.{PairsState}
 use Rattle.tree_pairs.specs.TreeCalls.{uncounted_by, uncounted_step, IsStepOf, CarriesOut, CarriesOutUnder}
@@ -30,20 +31,18 @@ step_refused see refusal t command p new e pairs_are = record {
   pairs_are = pairs_are ∙ sym (ap (λ o. pairs (uncounted_by t command p o).tree p) e);
 }
 
--- the definitions' step, where what follows fits
+-- the definitions' step, where the version has the command and what follows fits
 uncounted_by_fits : (t : Tree) (command : Command) (p : Parameters) (o : Option Refusal) → (may_fill command && nat_lt p.slots (page_count (next_tree t command) p)) ≡ false → step_by t command p o ≡ uncounted_by t command p o
 uncounted_by_fits t command p (Some refusal) e = refl
 uncounted_by_fits t command p None e =
     ap (λ b. if b then (record { reply = Refused (refusals.Full (page_count (next_tree t command) p) p.slots); tree = t }) else (record { reply = reply_of t command p; tree = next_tree t command })) e
 
-pub step_where_it_fits : (t : Tree) (command : Command) (p : Parameters) → (may_fill command && nat_lt p.slots (page_count (next_tree t command) p)) ≡ false → step t command p ≡ uncounted_step t command p
-unfolding step
-step_where_it_fits t command p e = uncounted_by_fits t command p (refusal_of t command) e
+pub step_where_it_fits : (t : Tree) (command : Command) (p : Parameters) → lacks_version command p ≡ false → (may_fill command && nat_lt p.slots (page_count (next_tree t command) p)) ≡ false → step t command p ≡ uncounted_step t command p
+step_where_it_fits t command p has e = step_by_refusal t command p has ∙ uncounted_by_fits t command p (refusal_of t command) e
 
 -- and where it is refused for another cause
-pub step_where_refused : (t : Tree) (command : Command) (p : Parameters) (refusal : Refusal) → refusal_of t command ≡ Some refusal → step t command p ≡ uncounted_step t command p
-unfolding step
-step_where_refused t command p refusal e = ap (step_by t command p) e ∙ sym (ap (uncounted_by t command p) e)
+pub step_where_refused : (t : Tree) (command : Command) (p : Parameters) (refusal : Refusal) → lacks_version command p ≡ false → refusal_of t command ≡ Some refusal → step t command p ≡ uncounted_step t command p
+step_where_refused t command p refusal has e = step_by_refusal t command p has ∙ ap (step_by t command p) e ∙ sym (ap (uncounted_by t command p) e)
 
 -- a call that carries out a command under each version does so under one
 pub carries_under : {T : Type 0} (version : Version) (see : T → Reply) (command : Command) (old new : PairsState) (result : Result (Result T Refusal) Fault) → CarriesOut see command old new result → CarriesOutUnder version see command old new result

@@ -4,22 +4,24 @@ use Rattle.std.specs.Prelude.{Result, Err, IfOk}
 use Rattle.std.specs.FinMap.{find}
 use Rattle.store_model.specs.declared.version.Version.{Version}
 use Rattle.store_model.specs.Parameters.{Parameters}
-use Rattle.store_model.specs.Paths.{Path, is_root, is_path, path_cmp, key, key_cmp}
+use Rattle.store_model.specs.Paths.{Path, is_root, is_path, is_place, path_cmp, key, key_cmp}
 use Rattle.store_model.specs.Pairs.{is_inline}
-use Rattle.store_model.specs.Trees.{Tree, Node, node_at, contents_of, file_limit}
+use Rattle.store_model.specs.Trees.{Tree, Node, node_of, node_at, contents_of, file_limit}
 use Rattle.store_model.specs.Trees.Node.{Directory, File}
+use Rattle.store_model.proofs.PathsLemmas.{place_of_path}
 use Rattle.store_model.proofs.TreesLemmas.{node_at-find, contents_of_tree}
 use Rattle.store_base.specs.declared.store_fault.Fault.{Fault}
 use Rattle.ordered_pairs.specs.PairsState.{PairsState, IsPairGet}
 use Rattle.tree_pairs.specs.declared.kind.Kind.{Kind}
 use Rattle.tree_pairs.specs.Kinds.{kind_of, kind_of_node, IsFileValue, IsValueOf, Says, file_first, first_value, IsKind}
 use Rattle.tree_pairs.proofs.TreeBlocks.{file_block_value, block_value, tree_blocks}
+use Rattle.tree_pairs.proofs.PlaceLemmas.{path_blocks}
 use Rattle.tree_pairs.specs.TreeCalls.{HoldsTree, TellsKind, TellsFirst}
 use Rattle.tree_pairs.proofs.BlocksLemmas.{pairs_have_blocks}
 
 -- what is found at a key of a list that holds a tree
-pub find_in_held : (state : PairsState) (t : Tree) (p : Parameters) (x : Path) (i : ℕ) → HoldsTree state t p → IsTrue (is_path x) → i < 4294967296 → find key_cmp (key x i) state.pairs ≡ tree_blocks t p x i
-find_in_held state t p x i h path l = ap (find key_cmp (key x i)) h.pairs_are ∙ (pairs_have_blocks t p h.tree).each x i path l
+pub find_in_held : (state : PairsState) (t : Tree) (p : Parameters) (x : Path) (i : ℕ) → HoldsTree state t p → IsTrue (is_place x) → i < 4294967296 → find key_cmp (key x i) state.pairs ≡ tree_blocks t p x i
+find_in_held state t p x i h place l = ap (find key_cmp (key x i)) h.pairs_are ∙ (pairs_have_blocks t p h.tree).each x i place l
 
 -- ---- the first pair of what stands at a path
 
@@ -75,7 +77,8 @@ kind_of_some (Some node) version v found l e only = only (kind_of node) (kind_is
 -- the first pair of a path below the root
 pub first_in_held : (state : PairsState) (t : Tree) (p : Parameters) (x : Path) → HoldsTree state t p → IsTrue (is_path x) → is_root x ≡ false → find key_cmp (key x 0) state.pairs ≡ first_value (node_at t x) p.version
 first_in_held state t p x h path below =
-    find_in_held state t p x 0 h path (omega arith) ∙ first_is_block (find path_cmp x t) p.version ∙ ap (λ o. first_value o p.version) (sym (node_at-find t x below))
+    find_in_held state t p x 0 h (place_of_path x path) (omega arith) ∙ path_blocks t p.version x 0 path
+    ∙ first_is_block (node_of (find path_cmp x t)) p.version ∙ ap (λ o. first_value o p.version) (sym (node_at-find t x below))
 
 -- what follows from a fact on the value of Ok
 if_ok : {T E : Type 0} (P Q : T → Type 0) (result : Result T E) → ((value : T) → P value → Q value) → IfOk result P → IfOk result Q

@@ -1,12 +1,13 @@
--- A tree's pairs as a function of path and block.
-use Rattle.std.proofs.Common.{ℕ, zero, suc, List, length, Bool, true, false, Option, Some, None}
+-- A tree's pairs as a function of place and block.
+use Rattle.std.proofs.Common.{ℕ, zero, suc, List, [], ◌∷◌, ◌==◌, length, Bool, true, false, cond, Option, Some, None}
+use Rattle.std.specs.Option.{option_map, option_or}
 use Rattle.std.specs.FinMap.{find}
 use Rattle.store_model.specs.declared.version.Version.{Version}
 use Rattle.store_model.specs.Lists.{run_at}
 use Rattle.store_model.specs.Parameters.{Parameters}
-use Rattle.store_model.specs.Paths.{path_cmp}
-use Rattle.store_model.specs.Pairs.{file_block, directory_value, file_value, inline_value, is_inline}
-use Rattle.store_model.specs.Trees.{Tree, Node}
+use Rattle.store_model.specs.Paths.{Name, attribute_mark, name_cmp, path_cmp, parent, last_name}
+use Rattle.store_model.specs.Pairs.{file_block, directory_value, file_value, inline_value, is_inline, attribute_value}
+use Rattle.store_model.specs.Trees.{Tree, Node, Attributes, node_of, attributes_at}
 use Rattle.store_model.specs.Trees.Node.{Directory, File}
 use Rattle.tree_pairs.specs.Blocks.{BlockMap, run_value}
 
@@ -24,6 +25,17 @@ block_value (Some Directory) version zero = Some directory_value
 block_value (Some Directory) version (suc i) = None
 block_value (Some (File bytes)) version block = file_block_value (is_inline version (length bytes)) bytes block
 
+-- the value of a block where attributes stand, by the last name of the place: block 0 has the bytes of the attribute
+-- that is named behind the mark
+abbrev pub attribute_block : Attributes → Name → ℕ → Option (List ℕ)
+attribute_block attributes [] block = None
+attribute_block attributes (c ∷ a) zero = cond (c == attribute_mark) (option_map attribute_value (find name_cmp a attributes)) None
+attribute_block attributes (c ∷ a) (suc i) = None
+
+-- the blocks that a tree has under a version: those of what stands at a path, and those of its attributes
+abbrev pub version_blocks : Tree → Version → BlockMap
+version_blocks t version place block = option_or (block_value (node_of (find path_cmp place t)) version block) (attribute_block (attributes_at t (parent place)) (last_name place) block)
+
 -- the blocks of a tree
 abbrev pub tree_blocks : Tree → Parameters → BlockMap
-tree_blocks t p path block = block_value (find path_cmp path t) p.version block
+tree_blocks t p place block = version_blocks t p.version place block

@@ -1,8 +1,8 @@
--- What stands at a path, as the program says it, and the values that say so.
+-- What stands at a path, as the program says it, the values that say so, and the values of attributes.
 use Rattle.std.specs.Prelude.{◌≡◌, ◌≤◌, ℕ, Bool, true, false, List, length, Option, Some, None}
 use Rattle.store_model.specs.declared.version.Version.{Version}
-use Rattle.store_model.specs.Pairs.{directory_value, file_value, inline_value, is_inline}
-use Rattle.store_model.specs.Trees.{Node, file_limit}
+use Rattle.store_model.specs.Pairs.{directory_value, file_value, inline_value, attribute_value, is_inline}
+use Rattle.store_model.specs.Trees.{Node, file_limit, attribute_limit}
 use Rattle.store_model.specs.Trees.Node.{Directory, File}
 use Rattle.tree_pairs.specs.declared.kind.Kind.{Kind}
 use Rattle.tree_pairs.specs.declared.kind.Kind.TheVariants as kinds
@@ -45,6 +45,10 @@ first_value (Some (File bytes)) version = Some (file_first (is_inline version (l
 -- the first pair, if there is one, has no bytes of a file in it
 abbrev pub LacksBytes : Option (List ℕ) → Type 0
 LacksBytes first = (bytes : List ℕ) → first ≡ Some (inline_value bytes) → ⊥
+
+-- the value is that of no attribute
+abbrev pub IsNoAttribute : List ℕ → Type 0
+IsNoAttribute value = (bytes : List ℕ) → length bytes ≤ attribute_limit → value ≡ attribute_value bytes → ⊥
 
 -- no file is longer than one may be
 abbrev pub IsKind : Kind → Type 0

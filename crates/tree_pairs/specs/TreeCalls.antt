@@ -32,7 +32,8 @@ HasRoom state = IsObservable state → length state.pairs < pairs_limit
 abbrev pub HasParent : PairsState → Path → Type 0
 HasParent state path = IsObservable state → (t : Tree) (p : Parameters) → HoldsTree state t p → is_directory t (parent path) ≡ true
 
--- a command's reply and the tree after it, where the pages of that tree are not counted: no command is full
+-- a command's reply and the tree after it, where neither the pages of that tree nor the image's version count: no command
+-- is refused as `full` or `version`
 abbrev pub uncounted_by : Tree → Command → Parameters → Option Refusal → Step
 uncounted_by t command p (Some refusal) = record { reply = Refused refusal; tree = t }
 uncounted_by t command p None = record { reply = reply_of t command p; tree = next_tree t command }
@@ -54,8 +55,8 @@ pub record IsStepOf {T : Type 0} (see : T → Reply) (step : Step) (p : Paramete
 abbrev pub IsCarriedOut : {T : Type 0} → (T → Reply) → Command → PairsState → Result (Result T Refusal) Fault → Tree → Parameters → Type 0
 IsCarriedOut see command new result t p = IfOk result (λ answer. IsStepOf see (uncounted_step t command p) p new answer)
 
--- A call that carries out a command on the tree that the list holds, `full` apart; a refusal changes nothing.
--- After a fault nothing is promised of the pairs.
+-- A call that carries out a command on the tree that the list holds, `version` and `full` apart; a refusal changes
+-- nothing. After a fault nothing is promised of the pairs.
 pub record CarriesOut {T : Type 0} (see : T → Reply) (command : Command) (old new : PairsState) (result : Result (Result T Refusal) Fault) : Type 0 where
   pub faults : new.faults ≡ disk_faults_after old.faults result
   pub observable : IsObservable old → OnOk result (IsObservable new)

@@ -1,11 +1,13 @@
-//! What stands at a path, and the value that says it in the path's first pair. Here alone stand the byte that begins
-//! each kind of value, and how long a file, its blocks and a file in one pair are.
+//! What stands at a path, and the value that says it in the path's first pair; and the values of attributes. Here alone
+//! stand the byte that begins each kind of value, and how long a file, its blocks, a file in one pair and an attribute
+//! are.
 
-ghost use Rattle.std.specs.Prelude.{◌≡◌, ◌<◌, ◌≤◌, List, ℕ, length, Option, IfSome, MatchOption, Some};
-ghost use Rattle.store_model.specs.Trees.{Node, contents_of, file_limit};
+ghost use Rattle.std.specs.Prelude.{◌≡◌, ◌<◌, ◌≤◌, List, ◌∷◌, ℕ, length, Option, IfSome, MatchOption, Some, IsTrue};
+ghost use Rattle.store_model.specs.Paths.{is_path};
+ghost use Rattle.store_model.specs.Trees.{Node, contents_of, file_limit, attribute_limit};
 ghost use Rattle.store_model.specs.Pairs as model;
 ghost use Rattle.ordered_pairs.specs.PairsState.{IsObservable};
-ghost use Rattle.tree_pairs.specs.Kinds.{IsKind, IsValueOf, Says, LacksBytes, kind_of_node, first_value};
+ghost use Rattle.tree_pairs.specs.Kinds.{IsKind, IsValueOf, Says, LacksBytes, IsNoAttribute, kind_of_node, first_value};
 ghost use Rattle.tree_pairs.specs.TreeCalls.{TellsKind, TellsFirst};
 
 use byteorder::{BigEndian, ByteOrder};
@@ -23,6 +25,9 @@ pub const FILE_BLOCK: u32 = Value::MAX_LEN as u32;
 /// The most bytes of a file that stands in its first pair alone.
 pub const INLINE_LIMIT: u32 = 200;
 
+/// The most bytes of an attribute.
+pub const ATTRIBUTE_LIMIT: usize = 255;
+
 /// The byte that a directory's value has.
 const DIRECTORY: u8 = 1;
 
@@ -32,7 +37,10 @@ const FILE: u8 = 2;
 /// The byte that begins the value of a file in one pair; its bytes follow.
 const INLINE: u8 = 3;
 
-/// The place in that value at which the file's bytes begin.
+/// The byte that begins the value of an attribute; its bytes follow.
+const ATTRIBUTE: u8 = 4;
+
+/// The place in the value of a file in one pair at which the file's bytes begin.
 pub const INLINE_START: usize = 1;
 
 /// What stands at a path.
@@ -66,9 +74,36 @@ pub fn inline_value(bytes: &[u8]) -> Value
     requires { length bytes.now ≤ model.inline_limit }
     ensures { result ≡ model.inline_value bytes.now }
 {
-    let mut value = [INLINE; Value::MAX_LEN];
+    value_behind(INLINE, bytes)
+}
+
+/// The value of the pair of an attribute with these bytes: the byte 4, and the bytes.
+pub fn attribute_value(bytes: &[u8]) -> Value
+    requires { length bytes.now ≤ attribute_limit }
+    ensures { result ≡ model.attribute_value bytes.now }
+{
+    value_behind(ATTRIBUTE, bytes)
+}
+
+/// The value of a byte that tells its kind, and these bytes behind it.
+fn value_behind(first: u8, bytes: &[u8]) -> Value
+    requires { length bytes.now < Value.MAX_LEN }
+    ensures { result ≡ first ∷ bytes.now }
+{
+    let mut value = [first; Value::MAX_LEN];
     value[1..=bytes.len()].copy_from_slice(bytes);
     Value::new(&value[..=bytes.len()])
+}
+
+/// The bytes of the attribute that has this value; `None` exactly where it is no attribute's.
+pub fn attribute_in(value: &[u8]) -> Option<&[u8]>
+    ensures bytes { MatchOption result (IsNoAttribute value.now) (λ bytes. value.now ≡ model.attribute_value bytes.now) }
+    ensures fits { IfSome result (λ bytes. length bytes.now ≤ attribute_limit) }
+{
+    match value {
+        [ATTRIBUTE, bytes @ ..] if bytes.len() <= ATTRIBUTE_LIMIT => Some(bytes),
+        _ => None,
+    }
 }
 
 /// Whether a version has a file of so many bytes in one pair.
@@ -137,6 +172,7 @@ pub fn kind_told(first: &Option<Value>) -> Option<Kind>
 /// The value of the first pair of what stands at a path, if anything does; the root has a directory's. A fault of the
 /// pairs is handed on.
 pub fn first_of<P: OrderedPairs>(pairs: &mut P, path: &Path) -> Result<Option<Value>, Fault>
+    ensures path { IsTrue (is_path path.now) }
     ensures call { TellsFirst path.now (P.state pairs.old) (P.state pairs.new) result }
     ensures hidden { IsObservable (P.state pairs.new) → IsObservable (P.state pairs.old) }
     ensures follows { P.follows pairs.old pairs.new }

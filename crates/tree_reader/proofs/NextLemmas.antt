@@ -11,17 +11,18 @@ use Rattle.std.proofs.lemmas.Bool.{false≢true, both_ways}
 use Rattle.std.proofs.lemmas.List.{append_assoc, length-drop}
 use Rattle.std.proofs.lemmas.Option.{same_Some}
 use Rattle.store_model.specs.Paths.{Path, Name, is_root, is_path, is_inside, is_at_or_inside, parent, name_cmp, path_cmp}
-use Rattle.store_model.specs.Trees.{Tree, Node, IsNode, IsEntry, IsTree, node_at, exists, is_directory, is_directory_node}
+use Rattle.store_model.specs.Trees.{Tree, Node, Entry, Attributes, IsNode, AreAttributes, IsEntry, IsTree, node_of, node_at, exists, is_directory, is_directory_node, attributed}
 use Rattle.store_model.specs.Trees.Node.{Directory, File}
 use Rattle.store_model.proofs.ListsLemmas.{all_weaker, all_append, all_back, rising_from_is_sorted, rising_head, rising_tail, rising_back}
-use Rattle.store_model.proofs.TreesLemmas.{IsTree-with_node, node_at-find, entry_at, exists_from_directory, find_from_all}
+use Rattle.store_model.proofs.TreesLemmas.{IsTree-put, node_at-find, exists-find, some_entry, entry_at, exists_from_directory, find_from_all}
+use Rattle.store_model.proofs.TreesLemmasAttributes.{IsTree-with_attributes}
 use Rattle.store_model.proofs.TreesLemmasMoves.{nothing_below}
 use Rattle.store_model.proofs.TreesLemmasPaths.{path_cmp_total, same_from_tie, same_path-itself, last_step, inside-append, at_or_inside-append, not_root-push, parent-push}
 use Rattle.path_keys.proofs.InsideBytes.{inside_split}
 use Rattle.tree_pairs.specs.declared.kind.Kind.{Kind}
 use Rattle.tree_pairs.specs.declared.kind.Kind.TheVariants as kinds
 use Rattle.tree_pairs.specs.Kinds.{kind_of, kind_of_node}
-use Rattle.tree_reader.specs.Seen.{IsLast, MayStandNext, MayFollow}
+use Rattle.tree_reader.specs.Seen.{IsLast, MayStandNext, MayFollow, bare_entry}
 
 -- ---- the order of paths
 
@@ -71,38 +72,56 @@ between (a ∷ q) (b ∷ last) n behind before = by_order (between q last n) (na
 -- ---- an entry behind all others
 
 -- put at a path behind all others it stands at the end
-put_last : (x : Path) (node : Node) (t : Tree) → AllByRecursion (λ e. path_cmp e.0 x ≡ Less) t → put path_cmp x node t ≡ t ++ (x, node) ∷ []
-put_last x node [] below = refl
-put_last x node (e ∷ t) below =
-    ap (λ o. by_order o ((x, node) ∷ e ∷ t) ((e.0, node) ∷ t) (e ∷ put path_cmp x node t)) (above x e.0 below.0) ∙ ap (λ rest. e ∷ rest) (put_last x node t below.1)
+put_last : (x : Path) (entry : Entry) (t : Tree) → AllByRecursion (λ e. path_cmp e.0 x ≡ Less) t → put path_cmp x entry t ≡ t ++ (x, entry) ∷ []
+put_last x entry [] below = refl
+put_last x entry (e ∷ t) below =
+    ap (λ o. by_order o ((x, entry) ∷ e ∷ t) ((e.0, entry) ∷ t) (e ∷ put path_cmp x entry t)) (above x e.0 below.0) ∙ ap (λ rest. e ∷ rest) (put_last x entry t below.1)
+
+-- so does what is put in its place
+put_again : (x : Path) (old new : Entry) (t : Tree) → AllByRecursion (λ e. path_cmp e.0 x ≡ Less) t → put path_cmp x new (t ++ (x, old) ∷ []) ≡ t ++ (x, new) ∷ []
+put_again x old new [] below = ap (λ o. by_order o ((x, new) ∷ (x, old) ∷ []) ((x, new) ∷ []) ((x, old) ∷ put path_cmp x new [])) (tied_itself path_cmp_total x)
+put_again x old new (e ∷ t) below =
+    ap (λ o. by_order o ((x, new) ∷ e ∷ (t ++ (x, old) ∷ [])) ((e.0, new) ∷ (t ++ (x, old) ∷ [])) (e ∷ put path_cmp x new (t ++ (x, old) ∷ []))) (above x e.0 below.0) ∙ ap (λ rest. e ∷ rest) (put_again x old new t below.1)
 
 -- and nothing stood there before
-find_last : (x : Path) (t : Tree) → AllByRecursion (λ e. path_cmp e.0 x ≡ Less) t → find path_cmp x t ≡ None
+pub find_last : (x : Path) (t : Tree) → AllByRecursion (λ e. path_cmp e.0 x ≡ Less) t → find path_cmp x t ≡ None
 find_last x [] below = refl
 find_last x (e ∷ t) below = ap (λ o. cond (is_eq o) (Some e.1) (find path_cmp x t)) (above x e.0 below.0) ∙ find_last x t below.1
 
+-- it is found there
+pub find_at_last : (x : Path) (entry : Entry) (t : Tree) → AllByRecursion (λ e. path_cmp e.0 x ≡ Less) t → find path_cmp x (t ++ (x, entry) ∷ []) ≡ Some entry
+find_at_last x entry t below =
+    ap (find path_cmp x) (sym (put_last x entry t below)) ∙ find-put path_cmp path_cmp_total x x entry t ∙ ap (λ b. cond b (Some entry) (find path_cmp x t)) (same_path-itself x)
+
 -- so a tree with it is a tree
-pub tree_more : (t : Tree) (x : Path) (node : Node) → IsTree t → MayStandNext t x → IsNode node → IsTree (t ++ (x, node) ∷ [])
-tree_more t x node tree next is =
-    let free : is_directory t x ≡ false = ap is_directory_node (node_at-find t x next.below_root ∙ find_last x t next.behind) in
-    subst IsTree (put_last x node t next.behind) (IsTree-with_node t x node tree next.valid next.below_root next.parent_directory is (λ there. absurd (false≢true (sym free ∙ there))))
+pub tree_more : (t : Tree) (x : Path) (entry : Entry) → IsTree t → MayStandNext t x → IsNode entry.node → AreAttributes x entry.attributes → IsTree (t ++ (x, entry) ∷ [])
+tree_more t x entry tree next is are =
+    let free : is_directory t x ≡ false = ap is_directory_node (node_at-find t x next.below_root ∙ ap node_of (find_last x t next.behind)) in
+    subst IsTree (put_last x entry t next.behind) (IsTree-put t x entry tree next.valid next.below_root next.parent_directory is are (λ there. absurd (false≢true (sym free ∙ there))))
+
+-- also without attributes
+pub bare_tree_more : (t : Tree) (x : Path) (node : Node) → IsTree t → MayStandNext t x → IsNode node → IsTree (t ++ (x, bare_entry node) ∷ [])
+bare_tree_more t x node tree next is = tree_more t x (bare_entry node) tree next is (record { sorted = refl; each = tt })
 
 -- and it is the last entry
-pub last_more : (t : Tree) (x : Path) (node : Node) → MayStandNext t x → IsLast x (kind_of node) (t ++ (x, node) ∷ [])
-last_more t x node next =
-    let found : find path_cmp x (t ++ (x, node) ∷ []) ≡ Some node =
-    ap (find path_cmp x) (sym (put_last x node t next.behind)) ∙ find-put path_cmp path_cmp_total x x node t ∙ ap (λ b. cond b (Some node) (find path_cmp x t)) (same_path-itself x) in
-    record {
-      none_behind = all_append (λ e. is_le (path_cmp e.0 x) ≡ true) t ((x, node) ∷ [])
-          (all_weaker (λ e. path_cmp e.0 x ≡ Less) (λ e. is_le (path_cmp e.0 x) ≡ true) (λ e less. ap is_le less) t next.behind)
-          (ap is_le (tied_itself path_cmp_total x), tt);
-      stands = ap kind_of_node (node_at-find (t ++ (x, node) ∷ []) x next.below_root ∙ found);
-    }
+pub last_more : (t : Tree) (x : Path) (entry : Entry) → MayStandNext t x → IsLast x (kind_of entry.node) (t ++ (x, entry) ∷ [])
+last_more t x entry next = record {
+  none_behind = all_append (λ e. is_le (path_cmp e.0 x) ≡ true) t ((x, entry) ∷ [])
+      (all_weaker (λ e. path_cmp e.0 x ≡ Less) (λ e. is_le (path_cmp e.0 x) ≡ true) (λ e less. ap is_le less) t next.behind)
+      (ap is_le (tied_itself path_cmp_total x), tt);
+  stands = ap kind_of_node (node_at-find (t ++ (x, entry) ∷ []) x next.below_root ∙ ap node_of (find_at_last x entry t next.behind));
+}
+
+-- with other attributes for it a tree stays one
+pub tree_again : (t : Tree) (x : Path) (node : Node) (old new : Attributes) → IsTree (t ++ (x, record { node = node; attributes = old }) ∷ []) → AllByRecursion (λ e. path_cmp e.0 x ≡ Less) t → AreAttributes x new → IsTree (t ++ (x, record { node = node; attributes = new }) ∷ [])
+tree_again t x node old new tree below are =
+    let entry : Entry = record { node = node; attributes = old } in
+    subst IsTree (ap (attributed (t ++ (x, entry) ∷ []) x new) (find_at_last x entry t below) ∙ put_again x entry (record { node = node; attributes = new }) t below) (IsTree-with_attributes (t ++ (x, entry) ∷ []) x new tree are)
 
 -- ---- an entry of a tree behind the first ones
 
 -- elements before another one are below it
-all_below : {K : Type 0} (c : K → K → Ordering) (xs : List K) (y : K) (ys : List K) → IsStrictlySortedBy c (xs ++ y ∷ ys) → AllByRecursion (λ x. c x y ≡ Less) xs
+pub all_below : {K : Type 0} (c : K → K → Ordering) (xs : List K) (y : K) (ys : List K) → IsStrictlySortedBy c (xs ++ y ∷ ys) → AllByRecursion (λ x. c x y ≡ Less) xs
 all_below c [] y ys rising = tt
 all_below c (x ∷ xs) y ys rising = ((all_back (λ z. c x z ≡ Less) xs (y ∷ ys) (rising_head c x (xs ++ y ∷ ys) rising)).0, all_below c xs y ys (rising_tail c x (xs ++ y ∷ ys) rising))
 
@@ -117,29 +136,29 @@ find_front q [] u later = not_found q u later
 find_front q (e ∷ t) u later = ap (cond (eq_by_cmp path_cmp q e.0) (Some e.1)) (find_front q t u later)
 
 -- each entry of a tree may stand behind those before it
-stands_next : (t others : Tree) (x : Path) (node : Node) → IsTree (t ++ (x, node) ∷ others) → MayStandNext t x
-stands_next t others x node tree =
-    let whole : Tree = t ++ (x, node) ∷ others in
-    let entry : IsEntry whole (x, node) = (all_back (IsEntry whole) t ((x, node) ∷ others) tree.entries).0 in
+pub stands_next : (t others : Tree) (x : Path) (entry : Entry) → IsTree (t ++ (x, entry) ∷ others) → MayStandNext t x
+stands_next t others x entry tree =
+    let whole : Tree = t ++ (x, entry) ∷ others in
+    let is : IsEntry whole (x, entry) = (all_back (IsEntry whole) t ((x, entry) ∷ others) tree.entries).0 in
     let rising = rising_from_is_sorted path_cmp whole tree.sorted in
-    let behind = rising_head (λ (a b : Path × Node). path_cmp a.0 b.0) (x, node) others (rising_back (λ (a b : Path × Node). path_cmp a.0 b.0) t ((x, node) ∷ others) rising) in
-    let before = parent_before x entry.below_root in
-    let later : AllByRecursion (λ (e : Path × Node). path_cmp (parent x) e.0 ≡ Less) ((x, node) ∷ others) =
-    (before, all_weaker (λ (e : Path × Node). path_cmp x e.0 ≡ Less) (λ (e : Path × Node). path_cmp (parent x) e.0 ≡ Less) (λ e less. path_cmp_total.trans (parent x) x e.0 before less) others behind) in
+    let behind = rising_head (λ (a b : Path × Entry). path_cmp a.0 b.0) (x, entry) others (rising_back (λ (a b : Path × Entry). path_cmp a.0 b.0) t ((x, entry) ∷ others) rising) in
+    let before = parent_before x is.below_root in
+    let later : AllByRecursion (λ (e : Path × Entry). path_cmp (parent x) e.0 ≡ Less) ((x, entry) ∷ others) =
+    (before, all_weaker (λ (e : Path × Entry). path_cmp x e.0 ≡ Less) (λ (e : Path × Entry). path_cmp (parent x) e.0 ≡ Less) (λ e less. path_cmp_total.trans (parent x) x e.0 before less) others behind) in
     record {
-      valid = entry.path;
-      below_root = entry.below_root;
-      parent_directory = by_parent (parent x) later entry.parent_directory;
-      behind = all_below (λ (a b : Path × Node). path_cmp a.0 b.0) t (x, node) others rising;
+      valid = is.path;
+      below_root = is.below_root;
+      parent_directory = by_parent (parent x) later is.parent_directory;
+      behind = all_below (λ (a b : Path × Entry). path_cmp a.0 b.0) t (x, entry) others rising;
     }
   where
-    by_parent : (q : Path) → AllByRecursion (λ e. path_cmp q e.0 ≡ Less) ((x, node) ∷ others) → is_directory (t ++ (x, node) ∷ others) q ≡ true → is_directory t q ≡ true
+    by_parent : (q : Path) → AllByRecursion (λ e. path_cmp q e.0 ≡ Less) ((x, entry) ∷ others) → is_directory (t ++ (x, entry) ∷ others) q ≡ true → is_directory t q ≡ true
     by_parent [] later is = refl
-    by_parent (m ∷ q) later is = ap is_directory_node (sym (find_front (m ∷ q) t ((x, node) ∷ others) later)) ∙ is
+    by_parent (m ∷ q) later is = ap is_directory_node (ap node_of (sym (find_front (m ∷ q) t ((x, entry) ∷ others) later))) ∙ is
 
 -- the same of the first entry of those that are left
-pub next_stands : (u t others later : Tree) (x : Path) (node : Node) → IsTree u → u ≡ t ++ others → others ≡ (x, node) ∷ later → MayStandNext t x
-next_stands u t others later x node tree split first = stands_next t later x node (subst IsTree (split ∙ ap (λ (xs : Tree). t ++ xs) first) tree)
+pub next_stands : (u t others later : Tree) (x : Path) (entry : Entry) → IsTree u → u ≡ t ++ others → others ≡ (x, entry) ∷ later → MayStandNext t x
+next_stands u t others later x entry tree split first = stands_next t later x entry (subst IsTree (split ∙ ap (λ (xs : Tree). t ++ xs) first) tree)
 
 -- ---- the last path tells it
 
@@ -157,11 +176,6 @@ kind_from_directory : (o : Option Node) (kind : Kind) → is_directory_node o �
 kind_from_directory None kind is e = cc
 kind_from_directory (Some Directory) kind is e = sym (same_Some kinds.Directory kind e)
 kind_from_directory (Some (File bytes)) kind is e = cc
-
--- something found at a path
-found_node : (o : Option Node) → is_some o ≡ true → (n : Node) × (o ≡ Some n)
-found_node None is = cc
-found_node (Some n) is = (n, refl)
 
 -- what lies strictly below a path has more names
 more_names : (q x : Path) → is_inside x q ≡ true → (m : Name) × (rest : Path) × (x ≡ q ++ m ∷ rest)
@@ -191,7 +205,7 @@ next_from_last t last kind x tree is valid below_root follows = record {
   valid = valid;
   below_root = below_root;
   parent_directory = by_parent follows.1;
-  behind = all_weaker (λ (e : Path × Node). is_le (path_cmp e.0 last) ≡ true) (λ (e : Path × Node). path_cmp e.0 x ≡ Less) (λ e le. before_less e.0 last x le follows.0) t is.none_behind;
+  behind = all_weaker (λ (e : Path × Entry). is_le (path_cmp e.0 last) ≡ true) (λ (e : Path × Entry). path_cmp e.0 x ≡ Less) (λ e le. before_less e.0 last x le follows.0) t is.none_behind;
 }
   where
     by_parent : (parent x ≡ []) ⊎ ((parent x ≡ last) × (kind ≡ kinds.Directory)) ⊎ IsTrue (is_inside last (parent x)) → is_directory t (parent x) ≡ true
@@ -209,7 +223,7 @@ last_from_next t last kind x is next = (before last (kind_stands (node_at t last
 
     before : (last : Path) → exists t last ≡ true → path_cmp last x ≡ Less
     before [] there = root_before x next.below_root
-    before (n ∷ y) there = let node = found_node (node_at t (n ∷ y)) there in find_from_all (λ e. path_cmp e.0 x ≡ Less) (n ∷ y) node.0 t next.behind node.1
+    before (n ∷ y) there = let entry = some_entry (find path_cmp (n ∷ y) t) (sym (exists-find t (n ∷ y) refl) ∙ there) in find_from_all (λ e. path_cmp e.0 x ≡ Less) (n ∷ y) entry.0 t next.behind entry.1
 
     at_parent : (q : Path) → parent x ≡ q → is_directory t q ≡ true → (o : Ordering) → path_cmp q last ≡ o → is_le o ≡ true → ((q ≡ last) × (kind ≡ kinds.Directory)) ⊎ IsTrue (is_inside last q)
     at_parent q up directory Less e le =
@@ -225,6 +239,6 @@ last_from_next t last kind x is next = (before last (kind_stands (node_at t last
     by_parent : (q : Path) → parent x ≡ q → is_directory t q ≡ true → (parent x ≡ []) ⊎ ((parent x ≡ last) × (kind ≡ kinds.Directory)) ⊎ IsTrue (is_inside last (parent x))
     by_parent [] up directory = inl up
     by_parent (m ∷ q) up directory =
-        let node = found_node (node_at t (m ∷ q)) (exists_from_directory (node_at t (m ∷ q)) directory) in
-        let le = find_from_all (λ e. is_le (path_cmp e.0 last) ≡ true) (m ∷ q) node.0 t is.none_behind node.1 in
+        let entry = some_entry (find path_cmp (m ∷ q) t) (sym (exists-find t (m ∷ q) refl) ∙ exists_from_directory (node_at t (m ∷ q)) directory) in
+        let le = find_from_all (λ e. is_le (path_cmp e.0 last) ≡ true) (m ∷ q) entry.0 t is.none_behind entry.1 in
         inr (subst (λ (y : Path). ((y ≡ last) × (kind ≡ kinds.Directory)) ⊎ IsTrue (is_inside last y)) (sym up) (at_parent (m ∷ q) up directory (path_cmp (m ∷ q) last) refl le))

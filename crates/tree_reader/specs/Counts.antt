@@ -8,15 +8,15 @@ use Rattle.tree_reader.specs.declared.counts.Counts.{Counts}
 
 -- its directories, without the root
 abbrev pub count_dirs : Tree → ℕ
-count_dirs t = count_by (λ e. is_directory_node (Some e.1)) t
+count_dirs t = count_by (λ e. is_directory_node (Some e.1.node)) t
 
 -- its files
 abbrev pub count_files : Tree → ℕ
-count_files t = count_by (λ e. is_file_node (Some e.1)) t
+count_files t = count_by (λ e. is_file_node (Some e.1.node)) t
 
 -- the bytes of its files
 abbrev pub count_bytes : Tree → ℕ
-count_bytes t = sum_by (λ e. length (contents_of (Some e.1))) t
+count_bytes t = sum_by (λ e. length (contents_of (Some e.1.node))) t
 
 -- the counts are those of the tree
 pub record AreCounts (t : Tree) (counts : Counts) : Type 0 where

@@ -1,9 +1,10 @@
 -- What the calls of a reader promise.
-use Rattle.std.specs.Prelude.{◌≡◌, ◌<◌, IsTrue, ◌↔◌, List, [], ◌∷◌, ◌++◌, length, Bool}
+use Rattle.std.specs.Prelude.{◌≡◌, ◌<◌, IsTrue, ◌↔◌, List, [], ◌∷◌, ◌++◌, length, Bool, false}
 use Rattle.std.specs.Bool.{OnTrue, OnFalse}
 use Rattle.store_model.specs.Parameters.{Parameters}
 use Rattle.store_model.specs.Trees.{Tree, IsTree}
-use Rattle.store_model.specs.Pairs.{Pair, pairs}
+use Rattle.store_model.specs.Pairs.{Pair, has_attributes, pairs}
+use Rattle.store_model.specs.Pages.{IsBare}
 use Rattle.tree_pairs.specs.TreeCalls.{pairs_limit}
 use Rattle.tree_reader.specs.declared.counts.Counts.{Counts}
 use Rattle.tree_reader.specs.declared.reader.TreeReader.{TreeReader}
@@ -30,9 +31,10 @@ abbrev pub TellsCounts : TreeReader → Counts → Type 0
 TellsCounts reader counts = (s : List Pair) (p : Parameters) → HasSeen reader s p
     → (t : Tree) → IsTree t → s ≡ pairs t p → AreCounts t counts
 
--- the pairs are those of a tree, and the counts are that tree's
+-- the pairs are those of a tree, which has no attributes where the version has none, and the counts are that tree's
 pub record AreCounted (s : List Pair) (p : Parameters) (counts : Counts) : Type 0 where
   pub tree : Tree
   pub is_tree : IsTree tree
+  pub bare : has_attributes p.version ≡ false → IsBare tree
   pub pairs_are : s ≡ pairs tree p
   pub counts_are : AreCounts tree counts

@@ -4,9 +4,11 @@
 //! The path of the last entry tells where the next one may stand. All paths above it are directories, and it may be one
 //! itself. Whatever stands in another directory has come already. A file whose bytes stand in its first pair has no other
 //! pair. The blocks of another file follow its first pair at once, so its path, its length and how many of its bytes were
-//! read tell the next one.
+//! read tell the next one. The attributes of an entry follow it, if the version has any: the name of the last one tells
+//! which may be next.
 #![tactic(auto)]
 
+mod attributes;
 mod counts;
 mod first;
 mod reader;

@@ -3,15 +3,18 @@
 ghost use Rattle.std.specs.Prelude.{◌≡◌, ◌↔◌, ◌<◌, ◌≤◌, IsTrue, [], false};
 ghost use Rattle.store_model.specs.Parameters.{Parameters};
 ghost use Rattle.store_model.specs.Paths as paths;
-ghost use Rattle.tree_reader.specs.Seen.{HasSeen, IsNextBlock, MayFollow, size_of};
+ghost use Rattle.path_keys.specs.Reading.{HasNoAttribute};
+ghost use Rattle.tree_reader.specs.Fronts.{MayHaveAttribute};
+ghost use Rattle.tree_reader.specs.Seen.{HasSeen, IsNextBlock, MayFollow, MayBeNext, size_of};
 ghost use Rattle.tree_reader.specs.ReaderCalls.{AddsPair, TellsWhole, TellsCounts};
 
+use crate::attributes::{has_attributes, is_above};
 use crate::counts::{Counts, counted};
 use crate::first::{Entry, first_in, size_in_first};
-use path_keys::Path;
+use path_keys::{AttrName, Path, of_attr_key};
 use store_base::{Key, Value};
 use store_model::Version;
-use tree_pairs::{FILE_BLOCK, Kind};
+use tree_pairs::{FILE_BLOCK, Kind, attribute_in};
 
 /// Reads the pairs of a tree one after another, in the order of their keys. It knows the last entry, and no list.
 #[derive(Clone, Copy, Debug)]
@@ -22,6 +25,8 @@ pub struct TreeReader {
     last: Entry,
     /// How many bytes of it were read, if it is a file. Some stand in its first pair, the others behind it.
     read: u32,
+    /// The name of the last of its attributes that were read, if there is one.
+    attribute: Option<AttrName>,
     /// What was counted, the last entry as a whole.
     counts: Counts,
 }
@@ -39,6 +44,7 @@ impl TreeReader {
                 kind: Kind::Directory,
             },
             read: 0,
+            attribute: None,
             counts: Counts {
                 dirs: 0,
                 files: 0,
@@ -55,7 +61,10 @@ impl TreeReader {
     {
         match self.last.kind {
             Kind::File(len) if self.read < len => self.add_block(len, key, value),
-            _ => self.add_first(key, value),
+            _ => match of_attr_key(key) {
+                Some((path, name)) => self.add_attribute(&path, name, value),
+                None => self.add_first(key, value),
+            },
         }
     }
 
@@ -85,7 +94,8 @@ impl TreeReader {
 
     /// Takes the first pair of an entry behind the last one.
     fn add_first(&mut self, key: &Key, value: &Value) -> bool
-        requires { size_of self.old.last.kind ≤ self.old.read }
+        requires whole { size_of self.old.last.kind ≤ self.old.read }
+        requires no_attribute { HasNoAttribute key.now }
         ensures { AddsPair self.old self.new (key.now, value.now) result }
     {
         let Some(entry) = first_in(key, value.as_slice(), self.version) else {
@@ -100,6 +110,7 @@ impl TreeReader {
         *self = TreeReader {
             last: entry,
             read: size_in_first(entry.kind, self.version),
+            attribute: None,
             counts,
             ..*self
         };
@@ -119,6 +130,30 @@ impl TreeReader {
             && (parent.is_root()
                 || (parent == self.last.path && self.last.kind == Kind::Directory)
                 || self.last.path.is_inside(&parent))
+    }
+
+    /// Takes the pair of an attribute of a path.
+    fn add_attribute(&mut self, path: &Path, name: AttrName, value: &Value) -> bool
+        requires whole { size_of self.old.last.kind ≤ self.old.read }
+        requires attribute { MayHaveAttribute path.now name }
+        ensures { AddsPair self.old self.new (paths.attribute_key path.now name, value.now) result }
+    {
+        if !self.may_be_next(path, &name) {
+            return false;
+        }
+        let Some(_bytes) = attribute_in(value.as_slice()) else {
+            return false;
+        };
+        self.attribute = Some(name);
+        true
+    }
+
+    /// Whether an attribute may stand behind the pairs that were taken: it is one of the last path, and its name is
+    /// above those of the path's attributes before it. Version 1 has none.
+    fn may_be_next(&self, path: &Path, name: &AttrName) -> bool
+        ensures { IsTrue result ↔ MayBeNext self.now.version self.now.last.path self.now.attribute path.now name.now }
+    {
+        has_attributes(self.version) && *path == self.last.path && is_above(&self.attribute, name)
     }
 
     /// Whether the pairs that were taken are all those of a tree, under the reader's version.

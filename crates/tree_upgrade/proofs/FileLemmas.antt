@@ -15,6 +15,7 @@ use Rattle.store_model.specs.Trees.{Node, IsNode, file_limit}
 use Rattle.store_model.specs.Trees.Node.{Directory, File}
 use Rattle.store_model.proofs.ListsLemmasCuts.{length-filter-le}
 use Rattle.store_model.proofs.PairsLemmas.{inline_is_short}
+use Rattle.store_model.proofs.PathsLemmas.{place_of_path}
 use Rattle.store_model.proofs.TreesLemmasBytes.{tails_same, four_bytes_same}
 use Rattle.store_model.proofs.TreesLemmasPaths.{same_path-itself}
 use Rattle.ordered_pairs.specs.PairsState.{PairsState, IsObservable, IsPairTake, without, most_pairs}
@@ -81,11 +82,12 @@ bytes_of_block bytes found few is =
 file_inlined : (y : Path) (bytes : List ℕ) (rest : BlockMap) (s : List Pair) → IsTrue (is_path y) → length bytes ≤ 200 → HasBlocks (with_blocks y (λ j. file_block_value false bytes j) rest) s
     → HasBlocks (with_blocks y (λ j. file_block_value true bytes j) rest) (inlined y s)
 file_inlined y bytes rest s path few h =
-    let found : find key_cmp (key y 1) s ≡ file_block_value false bytes 1 = h.each y 1 path (omega arith) ∙ ap (λ b. cond b (file_block_value false bytes 1) (rest y 1)) (same_path-itself y) in
+    let place = place_of_path y path in
+    let found : find key_cmp (key y 1) s ≡ file_block_value false bytes 1 = h.each y 1 place (omega arith) ∙ ap (λ b. cond b (file_block_value false bytes 1) (rest y 1)) (same_path-itself y) in
     let value = bytes_of_block bytes (find key_cmp (key y 1) s) few found in
-    put_block y (first_alone (Some (file_value (length bytes)))) (λ j. file_block_value true bytes j) rest 0 (inline_value (take 200 (block_bytes (find key_cmp (key y 1) s)))) (without (key y 1) s) path (omega arith)
+    put_block y (first_alone (Some (file_value (length bytes)))) (λ j. file_block_value true bytes j) rest 0 (inline_value (take 200 (block_bytes (find key_cmp (key y 1) s)))) (without (key y 1) s) place (omega arith)
     (ap (λ b. Some (inline_value b)) (sym value)) (inline_alone bytes (Some (file_value (length bytes))))
-    (take_block y (λ j. file_block_value false bytes j) (first_alone (Some (file_value (length bytes)))) rest 1 s path (omega arith) refl (no_more_blocks bytes few) h)
+    (take_block y (λ j. file_block_value false bytes j) (first_alone (Some (file_value (length bytes)))) rest 1 s place (omega arith) refl (no_more_blocks bytes few) h)
 
 -- so a short file in blocks has version 2's
 pub node_inlined : (y : Path) (node : Node) (version : Version) (first : List ℕ) (rest : BlockMap) (s : List Pair) → IsTrue (is_path y) → IsNode node → block_value (Some node) version 0 ≡ Some first → IsShortInBlocks first
@@ -104,7 +106,7 @@ found_without : (y : Path) (s : List Pair) → IsTrue (is_path y) → find key_c
 found_without y s path =
     let keep : List ℕ → Bool = λ k. not (eq_by_cmp key_cmp (key y 1) k) in
     find-where_key key_cmp keep (key y 0) (λ k t. ap keep (sym (slice_cmp-IsAntisymmetric nat_cmp-IsAntisymmetric (key y 0) k t))) s
-    ∙ ap (λ b. cond (not b) (find key_cmp (key y 0) s) None) (tie_of_blocks y 1 0 path (omega arith) (omega arith))
+    ∙ ap (λ b. cond (not b) (find key_cmp (key y 0) s) None) (tie_of_blocks y 1 0 (place_of_path y path) (omega arith) (omega arith))
 
 -- a file is made inline with no pair more
 length-inlined : (y : Path) (first : List ℕ) (s : List Pair) → IsTrue (is_path y) → IsPairs s → find key_cmp (key y 0) s ≡ Some first → length (inlined y s) ≤ length s

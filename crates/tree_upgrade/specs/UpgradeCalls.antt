@@ -4,7 +4,7 @@ use Rattle.std.specs.FinMap.{find, put}
 use Rattle.std.specs.declared.cmp.Ordering.TheVariants.{Less}
 use Rattle.store_model.specs.declared.version.Version.TheVariants.{Two}
 use Rattle.store_model.specs.Parameters.{Parameters, with_version}
-use Rattle.store_model.specs.Paths.{Path, is_root, is_path, path_cmp, key, key_cmp}
+use Rattle.store_model.specs.Paths.{Path, Name, is_root, is_path, is_attribute_name, fits_attribute, attribute_place, path_cmp, key, key_cmp}
 use Rattle.store_model.specs.Pairs.{Pair, file_value, inline_limit, inline_value}
 use Rattle.store_model.specs.Trees.{Tree}
 use Rattle.store_base.specs.declared.store_fault.Fault.{Fault}
@@ -29,10 +29,22 @@ pub record InlinesShortFiles {T : Type 0} (old new : PairsState) (result : Resul
 abbrev pub last_block : ℕ
 last_block = 4294967295
 
--- the blocks are those of entries: each path with a block has the first one, and none has the last that there could be
+-- the place is an attribute of a path that has a first block
+pub record IsAttributeOf (blocks : BlockMap) (place : Path) : Type 0 where
+  pub path : Path
+  pub name : Name
+  pub valid : IsTrue (is_path path)
+  pub named : IsTrue (is_attribute_name name)
+  pub fits : IsTrue (fits_attribute path name)
+  pub place_is : place ≡ attribute_place path name
+  pub there : IsSome (blocks path 0)
+
+-- the blocks are those of entries and of their attributes: each place with a block has the first one, none has the last
+-- that there could be, and each is a path or an attribute of one
 pub record AreOfEntries (blocks : BlockMap) : Type 0 where
-  pub first : (path : Path) (block : ℕ) → IsSome (blocks path block) → IsSome (blocks path 0)
-  pub few : (path : Path) → blocks path last_block ≡ None
+  pub first : (place : Path) (block : ℕ) → IsSome (blocks place block) → IsSome (blocks place 0)
+  pub few : (place : Path) → blocks place last_block ≡ None
+  pub owned : (place : Path) → IsSome (blocks place 0) → IsTrue (is_path place) ⊎ IsAttributeOf blocks place
 
 -- there is no entry behind a path
 abbrev pub LacksBehind : Path → BlockMap → Type 0

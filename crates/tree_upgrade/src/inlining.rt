@@ -16,7 +16,7 @@ use tree_pairs::{INLINE_LIMIT, Kind, inline_value, is_inline, kind_under};
 /// The first pair of each file of at most 200 bytes gets the bytes, and their block is taken away. Empty files have no
 /// block, and their first pair changes too. No other pair changes and no key is added, so an upgrade is never full. A
 /// list that has version 2's pairs already is only read. The walk goes from entry to entry: a longer file costs one
-/// search, however many blocks it has.
+/// search, however many blocks it has, and a path's attributes cost none.
 ///
 /// It takes no memory of its own. The list takes what it needs for the pairs that change: where it lies in pages that
 /// are staged, that is a page for each page that changes.
@@ -47,13 +47,13 @@ struct Entry {
     first: Value,
 }
 
-/// The first entry behind a path. The search passes all blocks of that path. The pairs stay as they were, also after a
-/// fault, which is handed on.
+/// The first entry behind a path. The search passes all blocks of that path, and its attributes. The pairs stay as they
+/// were, also after a fault, which is handed on.
 fn next_entry<P: OrderedPairs>(pairs: &mut P, last: &Path) -> Result<Option<Entry>, Fault>
     ensures call { FindsEntry last.now (P.state pairs.old) (P.state pairs.new) result }
     ensures follows { P.follows pairs.old pairs.new }
 {
-    match pairs.next_from(&last.key(u32::MAX))? {
+    match pairs.next_from(&last.below())? {
         Some(pair) => Ok(entry_of(pair)),
         None => Ok(None),
     }

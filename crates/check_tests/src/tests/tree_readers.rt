@@ -24,13 +24,15 @@ enum Says {
     Block(usize),
     /// A file of so many bytes stands at the path, at most 255, and they stand in this pair.
     Inline(usize),
+    /// An attribute has so many bytes, at most 255.
+    Attribute(usize),
     /// Two bytes.
     Two([u8; 2]),
     /// Five bytes, as a file's first value has.
     Five([u8; 5]),
 }
 
-/// A pair: its path, the number of its block, and its value.
+/// A pair: its path, or else the bytes of its key's field; the number of its block; and its value.
 type Row = (&'static str, u32, Says);
 
 /// What comes of pairs.
@@ -236,19 +238,208 @@ static WRONG_FORMS: [(&[Row], Outcome); 6] = [
     ),
 ];
 
+/// Pairs of trees with attributes, under version 2.
+static ATTRIBUTES: [(&[Row], Outcome); 3] = [
+    // a file in blocks and attributes, a path that is longer by a byte, a directory with an attribute and a child
+    (
+        &[
+            ("d", 0, Says::File(300)),
+            ("d", 1, Says::Block(256)),
+            ("d", 2, Says::Block(44)),
+            ("d\0\x01K!", 0, Says::Attribute(255)),
+            ("d\0\x01U", 0, Says::Attribute(0)),
+            ("d\0\x01k", 0, Says::Two([4, 0x41])),
+            ("d!", 0, Says::Directory),
+            ("e", 0, Says::Directory),
+            ("e\0\x01~", 0, Says::Two([4, 1])),
+            ("e\0f", 0, Says::Inline(0)),
+            (
+                "e\0f\0\x01nnnnnnnnnnnnnnnnnnnnnnnnnnnnnnnn",
+                0,
+                Says::Attribute(2),
+            ),
+        ],
+        Outcome::Tree(2, 2, 300),
+    ),
+    // the same name at two paths, and names of which one begins the other
+    (
+        &[
+            ("d", 0, Says::Directory),
+            ("d\0\x01k", 0, Says::Attribute(1)),
+            ("d\0\x01kk", 0, Says::Attribute(1)),
+            ("d\0f", 0, Says::Inline(200)),
+            ("d\0f\0\x01k", 0, Says::Attribute(1)),
+        ],
+        Outcome::Tree(1, 1, 200),
+    ),
+    // a file that lacks blocks has no attribute yet
+    (
+        &[
+            ("d", 0, Says::File(300)),
+            ("d\0\x01k", 0, Says::Attribute(1)),
+        ],
+        Outcome::Refused(1),
+    ),
+];
+
+/// Attributes that no tree has, under version 2.
+static WRONG_ATTRIBUTES: [(&[Row], Outcome); 18] = [
+    // of a path that is missing, of another path than the last one, and of the root
+    (&[("d\0\x01k", 0, Says::Attribute(1))], Outcome::Refused(0)),
+    (
+        &[
+            ("d", 0, Says::Directory),
+            ("e\0\x01k", 0, Says::Attribute(1)),
+        ],
+        Outcome::Refused(1),
+    ),
+    (
+        &[
+            ("d", 0, Says::Directory),
+            ("d\0f", 0, Says::Inline(0)),
+            ("d\0\x01k", 0, Says::Attribute(1)),
+        ],
+        Outcome::Refused(2),
+    ),
+    (&[("\x01k", 0, Says::Attribute(1))], Outcome::Refused(0)),
+    (
+        &[("d", 0, Says::Directory), ("\x01k", 0, Says::Attribute(1))],
+        Outcome::Refused(1),
+    ),
+    // names of 33 bytes, of none, `.` and `..`, and with a byte out of 21 to 7E
+    (
+        &[
+            ("d", 0, Says::Directory),
+            (
+                "d\0\x01nnnnnnnnnnnnnnnnnnnnnnnnnnnnnnnnn",
+                0,
+                Says::Attribute(1),
+            ),
+        ],
+        Outcome::Refused(1),
+    ),
+    (
+        &[
+            ("d", 0, Says::Directory),
+            ("d\0\x01", 0, Says::Attribute(1)),
+        ],
+        Outcome::Refused(1),
+    ),
+    (
+        &[
+            ("d", 0, Says::Directory),
+            ("d\0\x01.", 0, Says::Attribute(1)),
+        ],
+        Outcome::Refused(1),
+    ),
+    (
+        &[
+            ("d", 0, Says::Directory),
+            ("d\0\x01..", 0, Says::Attribute(1)),
+        ],
+        Outcome::Refused(1),
+    ),
+    (
+        &[
+            ("d", 0, Says::Directory),
+            ("d\0\x01a b", 0, Says::Attribute(1)),
+        ],
+        Outcome::Refused(1),
+    ),
+    (
+        &[
+            ("d", 0, Says::Directory),
+            ("d\0\x01\x7f", 0, Says::Attribute(1)),
+        ],
+        Outcome::Refused(1),
+    ),
+    // block number 1, and two names behind the 01
+    (
+        &[
+            ("d", 0, Says::Directory),
+            ("d\0\x01k", 1, Says::Attribute(1)),
+        ],
+        Outcome::Refused(1),
+    ),
+    (
+        &[
+            ("d", 0, Says::Directory),
+            ("d\0\x01k\0k", 0, Says::Attribute(1)),
+        ],
+        Outcome::Refused(1),
+    ),
+    // values of no attribute, and an attribute's as a first value
+    (
+        &[("d", 0, Says::Directory), ("d\0\x01k", 0, Says::Inline(1))],
+        Outcome::Refused(1),
+    ),
+    (
+        &[("d", 0, Says::Directory), ("d\0\x01k", 0, Says::Directory)],
+        Outcome::Refused(1),
+    ),
+    (&[("d", 0, Says::Attribute(1))], Outcome::Refused(0)),
+    // names that do not rise
+    (
+        &[
+            ("d", 0, Says::Directory),
+            ("d\0\x01k", 0, Says::Attribute(1)),
+            ("d\0\x01k", 0, Says::Attribute(1)),
+        ],
+        Outcome::Refused(2),
+    ),
+    (
+        &[
+            ("d", 0, Says::Directory),
+            ("d\0\x01k", 0, Says::Attribute(1)),
+            ("d\0\x01K", 0, Says::Attribute(1)),
+        ],
+        Outcome::Refused(2),
+    ),
+];
+
+/// An attribute under version 1.
+static OLD_ATTRIBUTES: [(&[Row], Outcome); 1] = [(
+    &[
+        ("d", 0, Says::Directory),
+        ("d\0\x01k", 0, Says::Attribute(1)),
+    ],
+    Outcome::Refused(1),
+)];
+
+/// The value of so many bytes, at most 255, behind the one that says of what.
+fn value_behind(first: u8, len: usize) -> Value {
+    let mut value = [7; 256];
+    value[0] = first;
+    Value::new(&value[..1 + len.min(255)])
+}
+
 /// The value that says so.
 fn value_of(says: Says) -> Value {
     match says {
         Says::Directory => directory_value(),
         Says::File(len) => file_value(len),
         Says::Block(len) => Value::new(&[7; 256][..len.clamp(1, 256)]),
-        Says::Inline(len) => {
-            let mut value = [7; 256];
-            value[0] = 3;
-            Value::new(&value[..1 + len.min(255)])
-        }
+        Says::Inline(len) => value_behind(3, len),
+        Says::Attribute(len) => value_behind(4, len),
         Says::Two(bytes) => Value::new(&bytes),
         Says::Five(bytes) => Value::new(&bytes),
+    }
+}
+
+/// The key with these first bytes of a field, zeros behind them and a block number.
+fn key_of_field(field: &[u8], block: u32) -> Key {
+    let mut bytes = [0; 124];
+    let len = field.len().min(Path::MAX_LEN);
+    bytes[..len].copy_from_slice(&field[..len]);
+    bytes[Path::MAX_LEN..].copy_from_slice(&block.to_be_bytes());
+    Key::new(bytes)
+}
+
+/// The key of a row: its text is a path's, or the bytes of a field.
+fn key_of(rt: &impl Abort, text: &str, block: u32) -> Key {
+    match text.as_bytes() {
+        [b'/', ..] => path(rt, text).key(block),
+        field => key_of_field(field, block),
     }
 }
 
@@ -256,7 +447,7 @@ fn value_of(says: Says) -> Value {
 fn pairs_of(rt: &impl Abort, alloc: Global, rows: &[Row]) -> Result<Vec<(Key, Value)>, AllocError> {
     let mut pairs = Vec::new(alloc);
     for (at, block, says) in rows {
-        pairs.push((path(rt, *at).key(*block), value_of(*says)))?;
+        pairs.push((key_of(rt, *at, *block), value_of(*says)))?;
     }
     Ok(pairs)
 }
@@ -281,7 +472,7 @@ fn come_out(rt: &impl Abort, alloc: Global, version: Version, table: &[(&[Row], 
     for (at, (rows, outcome)) in table.iter().enumerate() {
         let pairs = pairs_of(rt, alloc, *rows).expect(rt, "memory");
         assert!(rt; outcome_of(&pairs, version) == *outcome, "row {at}");
-        assert!(rt; pairs.len() < 10, "few rows");
+        assert!(rt; pairs.len() < 16, "few rows");
         let counts = match *outcome {
             Outcome::Tree(dirs, files, bytes) => Some(Counts { dirs, files, bytes }),
             _ => None,
@@ -306,6 +497,13 @@ fn pairs_of_no_tree_are_refused_at_once(rt: HostRuntime) {
 fn files_in_one_pair_are_read(rt: HostRuntime) {
     come_out(&rt, rt.alloc(), Version::Two, &SHORT_FILES);
     come_out(&rt, rt.alloc(), Version::Two, &WRONG_FORMS);
+}
+
+#[test]
+fn attributes_are_read(rt: HostRuntime) {
+    come_out(&rt, rt.alloc(), Version::Two, &ATTRIBUTES);
+    come_out(&rt, rt.alloc(), Version::Two, &WRONG_ATTRIBUTES);
+    come_out(&rt, rt.alloc(), Version::One, &OLD_ATTRIBUTES);
 }
 
 #[test]

@@ -1,11 +1,46 @@
-//! The order of paths and their keys.
+//! The order of paths and their keys, and the keys of attributes.
 
-use path_keys::Path;
+use path_keys::{AttrName, Path, attr_key, last_at, of_attr_key, replant};
 use std::process::Abort;
+use store_base::Key;
+
+/// Attributes of paths, and the bytes with which their keys begin; zeros follow.
+static KEYS: [(&str, &str, &[u8]); 5] = [
+    ("/d", "K!", b"d\x00\x01K!\x00"),
+    ("/d", "U", b"d\x00\x01U\x00"),
+    ("/d", "k", b"d\x00\x01k\x00"),
+    ("/e", "~", b"e\x00\x01~\x00"),
+    (
+        "/e/f",
+        "nnnnnnnnnnnnnnnnnnnnnnnnnnnnnnnn",
+        b"e\x00f\x00\x01nnnnnnnnnnnnnnnnnnnnnnnnnnnnnnnn\x00",
+    ),
+];
+
+/// The bytes of a path's text and of an attribute's name, and whether a field has room for both.
+static LENGTHS: [(usize, usize, bool); 7] = [
+    (2, 32, true),
+    (86, 32, true),
+    (87, 32, false),
+    (117, 1, true),
+    (118, 1, false),
+    (119, 1, false),
+    (120, 1, false),
+];
 
 /// The path that a text spells.
 pub(crate) fn path(rt: &impl Abort, text: &str) -> Path {
     Path::parse(text.as_bytes()).expect(rt, "a path")
+}
+
+/// The name that a text is.
+fn name(rt: &impl Abort, text: &str) -> AttrName {
+    AttrName::parse(text.as_bytes()).expect(rt, "a name")
+}
+
+/// The key of the attribute.
+fn key_of(rt: &impl Abort, text: &str, attribute: &str) -> Key {
+    attr_key(&path(rt, text), &name(rt, attribute)).expect(rt, "a key")
 }
 
 #[test]
@@ -13,4 +48,47 @@ fn keys_come_in_the_order_of_paths(rt: HostRuntime) {
     let (parent, child, next) = (path(&rt, "/a"), path(&rt, "/a/b"), path(&rt, "/a!"));
     assert!(rt; parent < child && child < next && !parent.is_root());
     assert!(rt; child.key(9) < parent.past() && parent.past() < next.key(0));
+}
+
+#[test]
+fn keys_of_attributes_have_these_bytes(rt: HostRuntime) {
+    for (text, attribute, front) in &KEYS {
+        let key = key_of(&rt, text, attribute);
+        let rest = key.as_bytes().strip_prefix(*front).expect(&rt, "the front");
+        assert!(rt; rest.iter().all(|byte| *byte == 0), "{text} {attribute}");
+        let found = of_attr_key(&key).expect(&rt, "an attribute");
+        assert!(rt; found.0 == path(&rt, text) && found.1.as_bytes() == attribute.as_bytes());
+        assert!(rt; Path::of_key(&key).is_none());
+    }
+}
+
+#[test]
+fn attributes_stand_between_a_path_and_its_children(rt: HostRuntime) {
+    let (parent, child) = (path(&rt, "/d"), path(&rt, "/d/!"));
+    let (first, last) = (key_of(&rt, "/d", "!"), key_of(&rt, "/d", "~"));
+    assert!(rt; !parent.is_root() && last_at(&parent.key(3)) == parent.key(u32::MAX));
+    assert!(rt; last_at(&parent.key(3)) < first && first < last && last_at(&last) < parent.below());
+    assert!(rt; parent.below() < child.key(0) && child.key(9) < parent.past());
+}
+
+#[test]
+fn attributes_are_moved_with_their_path(rt: HostRuntime) {
+    let (old, new) = (path(&rt, "/d"), path(&rt, "/e/f"));
+    let moved = replant(&key_of(&rt, "/d/x", "k"), &old, &new).expect(&rt, "room");
+    assert!(rt; moved == key_of(&rt, "/e/f/x", "k"));
+    assert!(rt; replant(&old.key(7), &old, &new).expect(&rt, "room") == new.key(7));
+}
+
+#[test]
+fn a_field_has_120_bytes_for_path_and_name(rt: HostRuntime) {
+    for (path_len, name_len, has_room) in &LENGTHS {
+        let mut text = [b'a'; 120];
+        text[0] = b'/';
+        let path = Path::parse(&text[..(*path_len).min(120)]).expect(&rt, "a path");
+        let name = AttrName::parse(&[b'n'; 32][..(*name_len).min(32)]).expect(&rt, "a name");
+        assert!(rt;
+            attr_key(&path, &name).is_some() == *has_room,
+            "at {path_len} and {name_len}"
+        );
+    }
 }

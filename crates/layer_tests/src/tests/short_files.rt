@@ -27,7 +27,7 @@ enum Act {
 }
 
 /// A byte, and how often it stands one behind the other.
-type Run = (u8, usize);
+pub(crate) type Run = (u8, usize);
 
 /// The name of a file in the root, the number in the key, and the value.
 type Pair = (u8, u32, &'static [Run]);
@@ -218,7 +218,7 @@ fn command_for(file: Path, act: Act) -> Command
 }
 
 /// Carries out the command on a list of fewer than ten pairs.
-fn change_few(
+pub(crate) fn change_few(
     rt: &impl Abort,
     list: &mut MapPairs,
     version: Version,
@@ -232,7 +232,7 @@ fn change_few(
 }
 
 /// Whether the bytes are those of the runs.
-fn has_runs(bytes: &[u8], runs: &[Run]) -> bool {
+pub(crate) fn has_runs(bytes: &[u8], runs: &[Run]) -> bool {
     let mut rest = bytes;
     for (byte, count) in runs {
         if *count > rest.len() {
@@ -283,7 +283,7 @@ fn reads(rt: &impl Abort, list: &mut MapPairs, name: u8, at: u32, runs: &[Run]) 
 }
 
 /// A list without pairs.
-fn empty_list(rt: &impl Abort, alloc: Global) -> MapPairs {
+pub(crate) fn empty_list(rt: &impl Abort, alloc: Global) -> MapPairs {
     MapPairs::new(alloc).expect(rt, "memory")
 }
 

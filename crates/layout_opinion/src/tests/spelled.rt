@@ -5,7 +5,7 @@ ghost use Rattle.store_model.specs.Pages.{IsCell};
 
 use crate::opinion::TreeSize;
 use node_pages::{Cell, Page};
-use path_keys::Path;
+use path_keys::{AttrName, Path, attr_key};
 use std::alloc::Global;
 use std::process::Abort;
 use store_base::{DrawKind, Key, Label, Lead, Params, Value};
@@ -106,18 +106,28 @@ fn block(len: u32) -> Value {
     Value::new(&[7; 256][..len.clamp(1, 256) as usize])
 }
 
-/// The value of a file of so many bytes, at most 255, that stand in its one pair.
-fn in_one_pair(len: u32) -> Value {
+/// The value of so many bytes, at most 255, behind the one that says of what.
+fn value_behind(first: u8, len: u32) -> Value {
     let mut value = [7; 256];
-    value[0] = 3;
+    value[0] = first;
     Value::new(&value[..=len.min(255) as usize])
 }
 
+/// The key of an attribute of a path.
+fn attribute_key(rt: &impl Abort, text: &str, name: &str) -> Key {
+    let name = AttrName::parse(name.as_bytes()).expect(rt, "a name");
+    attr_key(&path(rt, text), &name).expect(rt, "a key")
+}
+
 /// The pair of `KEY`, a directory; of `PATH=BYTES`, a file of so many in blocks; of `PATH:BYTES`, a file of so many in one
-/// pair; or of `PATH@BLOCK=BYTES`, a block of so many.
+/// pair; of `PATH@BLOCK=BYTES`, a block of so many; or of `PATH~NAME:BYTES`, an attribute of so many.
 fn pair(rt: &impl Abort, word: &str) -> (Key, Value) {
     if let Some((name, len)) = word.split_once(':') {
-        return (key(rt, name), in_one_pair(number(rt, len)));
+        let len = number(rt, len);
+        return match name.split_once('~') {
+            Some((path, name)) => (attribute_key(rt, path, name), value_behind(4, len)),
+            None => (key(rt, name), value_behind(3, len)),
+        };
     }
     match word.split_once('=') {
         Some((name, len)) if name.contains('@') => (key(rt, name), block(number(rt, len))),

@@ -23,31 +23,31 @@ ghost use Rattle.store_model.specs.Steps.{refusal_of};
 ghost use Rattle.store_model.specs.Scripts.{answer, lines};
 ghost use Rattle.store_model.specs.Words.{request_of};
 ghost use Rattle.store_model.specs.Words.Request.{Format, Big};
-ghost use Rattle.model_laws.specs.Examples.{ruler, text, output, tree, table, page_list, start_label, led_label, page, directory_cell, key_cell, key_of};
+ghost use Rattle.model_laws.specs.Examples.{ruler, text, output, tree, table, page_list, bare, start_label, led_label, page, directory_cell, key_cell, key_of};
 
 /// The empty tree has no page, and an empty file has one pair.
 pub fn empty_trees_and_files()
     ensures table { table (ruler 3 2) [] ≡ None ∷ None ∷ None ∷ [] }
     ensures represented { IsParameters (ruler 1 1) → Represents (header (ruler 1 1) ++ zeros 16384) empty_tree (ruler 1 1) }
-    ensures file { pairs ((codes "f" ∷ [], File []) ∷ []) (ruler 1 1) ≡ (key_of (codes "f"), 2 ∷ 0 ∷ 0 ∷ 0 ∷ 0 ∷ []) ∷ [] }
+    ensures file { pairs ((codes "f" ∷ [], bare (File [])) ∷ []) (ruler 1 1) ≡ (key_of (codes "f"), 2 ∷ 0 ∷ 0 ∷ 0 ∷ 0 ∷ []) ∷ [] }
 {}
 
 /// Entries that are a tree, and entries that are none: without their parent, twice, out of order, and with
 /// a path one byte too long.
 pub fn entries_of_trees()
-    ensures tree { IsTree ((codes "a" ∷ [], Directory) ∷ (codes "a" ∷ codes "b" ∷ [], Directory) ∷ (replicate 119 0x61 ∷ [], Directory) ∷ []) }
-    ensures lost_parent { IsTree ((codes "a" ∷ codes "b" ∷ [], Directory) ∷ []) → ⊥ }
-    ensures twice { IsTree ((codes "a" ∷ [], Directory) ∷ (codes "a" ∷ [], Directory) ∷ []) → ⊥ }
-    ensures out_of_order { IsTree ((codes "b" ∷ [], Directory) ∷ (codes "a" ∷ [], Directory) ∷ []) → ⊥ }
-    ensures too_long { IsTree ((replicate 120 0x61 ∷ [], Directory) ∷ []) → ⊥ }
+    ensures tree { IsTree ((codes "a" ∷ [], bare Directory) ∷ (codes "a" ∷ codes "b" ∷ [], bare Directory) ∷ (replicate 119 0x61 ∷ [], bare Directory) ∷ []) }
+    ensures lost_parent { IsTree ((codes "a" ∷ codes "b" ∷ [], bare Directory) ∷ []) → ⊥ }
+    ensures twice { IsTree ((codes "a" ∷ [], bare Directory) ∷ (codes "a" ∷ [], bare Directory) ∷ []) → ⊥ }
+    ensures out_of_order { IsTree ((codes "b" ∷ [], bare Directory) ∷ (codes "a" ∷ [], bare Directory) ∷ []) → ⊥ }
+    ensures too_long { IsTree ((replicate 120 0x61 ∷ [], bare Directory) ∷ []) → ⊥ }
 {}
 
 /// A file of 256 bytes has one block and one of 257 has two, numbered from 1. Keys are in the order of
 /// paths name by name.
 pub fn blocks_and_keys()
-    ensures full_block { pairs ((codes "f" ∷ [], File (replicate 256 7)) ∷ []) (ruler 1 1) ≡
+    ensures full_block { pairs ((codes "f" ∷ [], bare (File (replicate 256 7))) ∷ []) (ruler 1 1) ≡
         (key_of (codes "f"), 2 ∷ 0 ∷ 0 ∷ 1 ∷ 0 ∷ []) ∷ (0x66 ∷ zeros 122 ++ 1 ∷ [], replicate 256 7) ∷ [] }
-    ensures one_byte_more { pairs ((codes "f" ∷ [], File (replicate 256 7 ++ 8 ∷ [])) ∷ []) (ruler 1 1) ≡
+    ensures one_byte_more { pairs ((codes "f" ∷ [], bare (File (replicate 256 7 ++ 8 ∷ []))) ∷ []) (ruler 1 1) ≡
         (key_of (codes "f"), 2 ∷ 0 ∷ 0 ∷ 1 ∷ 1 ∷ []) ∷ (0x66 ∷ zeros 122 ++ 1 ∷ [], replicate 256 7)
         ∷ (0x66 ∷ zeros 122 ++ 2 ∷ [], 8 ∷ []) ∷ [] }
     ensures order { map (λ pair. pair.0) (pairs (tree (ruler 9 1) (text ("make /b" ∷ "make /B" ∷ "make /a.b" ∷ "make /a" ∷ "write /a/z 0 00" ∷ "make /ab" ∷ []))) (ruler 9 1)) ≡
@@ -135,10 +135,10 @@ pub fn first_refusals()
 
 /// A file of the greatest length takes no further byte; its last byte can be written over.
 pub fn full_file()
-    ensures one_byte_more { (old : List ℕ) → length old ≡ 16777216 → refusal_of ((codes "f" ∷ [], File old) ∷ []) (Write (codes "f" ∷ []) 16777216 (7 ∷ [])) ≡ Some refusals.Big }
-    ensures last_byte { (old : List ℕ) → length old ≡ 16777216 → refusal_of ((codes "f" ∷ [], File old) ∷ []) (Write (codes "f" ∷ []) 16777215 (7 ∷ [])) ≡ None }
-    ensures no_bytes { (old : List ℕ) → length old ≡ 16777216 → refusal_of ((codes "f" ∷ [], File old) ∷ []) (Write (codes "f" ∷ []) 16777216 []) ≡ None }
-    ensures past_the_end { (old : List ℕ) → length old ≡ 16777216 → refusal_of ((codes "f" ∷ [], File old) ∷ []) (Write (codes "f" ∷ []) 16777217 (7 ∷ [])) ≡ Some refusals.Gap }
+    ensures one_byte_more { (old : List ℕ) → length old ≡ 16777216 → refusal_of ((codes "f" ∷ [], bare (File old)) ∷ []) (Write (codes "f" ∷ []) 16777216 (7 ∷ [])) ≡ Some refusals.Big }
+    ensures last_byte { (old : List ℕ) → length old ≡ 16777216 → refusal_of ((codes "f" ∷ [], bare (File old)) ∷ []) (Write (codes "f" ∷ []) 16777215 (7 ∷ [])) ≡ None }
+    ensures no_bytes { (old : List ℕ) → length old ≡ 16777216 → refusal_of ((codes "f" ∷ [], bare (File old)) ∷ []) (Write (codes "f" ∷ []) 16777216 []) ≡ None }
+    ensures past_the_end { (old : List ℕ) → length old ≡ 16777216 → refusal_of ((codes "f" ∷ [], bare (File old)) ∷ []) (Write (codes "f" ∷ []) 16777217 (7 ∷ [])) ≡ Some refusals.Gap }
 {}
 
 /// Command lines at the ends of their ranges and past them.

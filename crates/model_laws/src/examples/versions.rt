@@ -8,7 +8,7 @@ ghost use Rattle.store_model.specs.Trees.{empty_tree};
 ghost use Rattle.store_model.specs.Trees.Node.{File};
 ghost use Rattle.store_model.specs.Pairs.{pairs};
 ghost use Rattle.store_model.specs.Images.{header, slot_bytes, layout, viewed_header, recovered};
-ghost use Rattle.model_laws.specs.Examples.{ruler, ruler_two, text, write_line, output, tree, pair_list, table, key_of, block_key, start_label, page};
+ghost use Rattle.model_laws.specs.Examples.{ruler, ruler_two, text, bare, write_line, output, tree, pair_list, table, key_of, block_key, start_label, page};
 
 /// The header of version 2 differs in byte 14 alone.
 pub fn header_of_version_two()
@@ -62,8 +62,8 @@ pub fn recovery_to_version_two()
 
 /// How many pairs a file of 0, 1, 200, 201, 256 and 257 bytes has under each version.
 pub fn pairs_of_short_and_long_files()
-    ensures one { map (λ n. length (pairs ((codes "f" ∷ [], File (replicate n 7)) ∷ []) (ruler 1 1))) (0 ∷ 1 ∷ 200 ∷ 201 ∷ 256 ∷ 257 ∷ []) ≡ 1 ∷ 2 ∷ 2 ∷ 2 ∷ 2 ∷ 3 ∷ [] }
-    ensures two { map (λ n. length (pairs ((codes "f" ∷ [], File (replicate n 7)) ∷ []) (ruler_two 1 1))) (0 ∷ 1 ∷ 200 ∷ 201 ∷ 256 ∷ 257 ∷ []) ≡ 1 ∷ 1 ∷ 1 ∷ 2 ∷ 2 ∷ 3 ∷ [] }
+    ensures one { map (λ n. length (pairs ((codes "f" ∷ [], bare (File (replicate n 7))) ∷ []) (ruler 1 1))) (0 ∷ 1 ∷ 200 ∷ 201 ∷ 256 ∷ 257 ∷ []) ≡ 1 ∷ 2 ∷ 2 ∷ 2 ∷ 2 ∷ 3 ∷ [] }
+    ensures two { map (λ n. length (pairs ((codes "f" ∷ [], bare (File (replicate n 7))) ∷ []) (ruler_two 1 1))) (0 ∷ 1 ∷ 200 ∷ 201 ∷ 256 ∷ 257 ∷ []) ≡ 1 ∷ 1 ∷ 1 ∷ 2 ∷ 2 ∷ 3 ∷ [] }
 {}
 
 /// A file that grows past 200 bytes, is cut back, grows in its middle and is cut to nothing, beside one of whole blocks

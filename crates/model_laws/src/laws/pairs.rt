@@ -6,14 +6,19 @@ ghost use Rattle.std.specs.Ordering.{nat_cmp, ordering_then};
 ghost use Rattle.std.specs.FinMap.{is_sorted};
 ghost use Rattle.std.specs.List.Sorted.{IsStrictlySortedBy};
 ghost use Rattle.store_model.specs.Parameters.{Parameters};
-ghost use Rattle.store_model.specs.Paths.{Path, is_path, key, path_cmp, key_cmp};
+ghost use Rattle.store_model.specs.Paths.{Path, Name, is_path, is_attribute_name, attribute_place, attribute_key, fits_attribute, is_place, key, path_cmp, key_cmp};
 ghost use Rattle.store_model.specs.Trees.{Tree, IsTree};
 ghost use Rattle.store_model.specs.Pairs.{pairs, IsPairs};
 
-/// Keys have the order of their paths, and at one path that of the block numbers.
+/// Keys have the order of their places, and at one place that of the block numbers. A path is a place, and so is
+/// where an attribute stands that its field holds; its key is one of that place.
 pub fn fields_order_as_paths()
-    ensures { (p q : Path) (i j : ℕ) → IsTrue (is_path p) → IsTrue (is_path q) → i < 2 ^ 32 → j < 2 ^ 32
+    ensures order { (p q : Path) (i j : ℕ) → IsTrue (is_place p) → IsTrue (is_place q) → i < 2 ^ 32 → j < 2 ^ 32
         → key_cmp (key p i) (key q j) ≡ ordering_then (path_cmp p q) (nat_cmp i j) }
+    ensures path { (p : Path) → IsTrue (is_path p) → IsTrue (is_place p) }
+    ensures attribute { (p : Path) (a : Name) → IsTrue (is_path p) → IsTrue (is_attribute_name a) → IsTrue (fits_attribute p a) →
+        IsTrue (is_place (attribute_place p a)) }
+    ensures its_key { (p : Path) (a : Name) → attribute_key p a ≡ key (attribute_place p a) 0 }
 {}
 
 /// The pairs of a tree are a finite map: their keys strictly rise, so no key stands twice.

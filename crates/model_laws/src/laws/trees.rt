@@ -9,7 +9,7 @@ ghost use Rattle.store_model.specs.declared.version.Version.{Version};
 ghost use Rattle.store_model.specs.declared.version.Version.TheVariants.{Two};
 ghost use Rattle.store_model.specs.Parameters.{Parameters, IsParameters, with_version};
 ghost use Rattle.store_model.specs.Paths.{Path, is_root, is_path, is_at_or_inside, key_cmp, parent};
-ghost use Rattle.store_model.specs.Trees.{Tree, empty_tree, IsTree, node_at, is_directory, exists};
+ghost use Rattle.store_model.specs.Trees.{Tree, empty_tree, IsTree, node_at, attributes_at, is_directory, exists};
 ghost use Rattle.store_model.specs.Pairs.{Pair, pairs};
 ghost use Rattle.store_model.specs.Draws.{Draw};
 ghost use Rattle.store_model.specs.Pages.{Fits, page_count, pages_of_pairs};
@@ -87,8 +87,8 @@ pub fn answers_keep_fitting()
         Fits (tree_after t texts p) p }
 {}
 
-/// Two layouts with the same bytes are of the same tree and the same parameters. So an image represents one tree
-/// at most, under one list of parameters.
+/// Two layouts with the same bytes are of the same tree, attributes and all, and the same parameters, the version
+/// among them. So an image represents one tree at most, under one list of parameters.
 pub fn layouts_tell_trees_apart()
     ensures layout { (t u : Tree) (p q : Parameters) → IsParameters p → IsParameters q → IsTree t → IsTree u →
         Fits t p → Fits u q → layout t p ≡ layout u q → (t ≡ u) × (p ≡ q) }
@@ -96,14 +96,19 @@ pub fn layouts_tell_trees_apart()
         (t ≡ u) × (p ≡ q) }
 {}
 
-/// A command that works at or below a path changes nothing elsewhere, and neither do lines that ask for such commands, or
-/// are refused.
+/// A command that works at or below a path changes nothing elsewhere, neither what stands there nor attributes. Nor
+/// do lines that ask for such commands, or are refused.
 pub fn commands_change_nothing_elsewhere()
     ensures command { (t : Tree) (c : Command) (p : Parameters) (at other : Path) → works_within at c ≡ true →
         is_at_or_inside other at ≡ false → node_at (step t c p).tree other ≡ node_at t other }
+    ensures command_attributes { (t : Tree) (c : Command) (p : Parameters) (at other : Path) → works_within at c ≡ true →
+        is_at_or_inside other at ≡ false → attributes_at (step t c p).tree other ≡ attributes_at t other }
     ensures lines { (t : Tree) (texts : List (List ℕ)) (p : Parameters) (at other : Path) →
         AllByRecursion (λ text. stays_within at text ≡ true) texts → is_at_or_inside other at ≡ false →
         node_at (tree_after t texts p) other ≡ node_at t other }
+    ensures lines_attributes { (t : Tree) (texts : List (List ℕ)) (p : Parameters) (at other : Path) →
+        AllByRecursion (λ text. stays_within at text ≡ true) texts → is_at_or_inside other at ≡ false →
+        attributes_at (tree_after t texts p) other ≡ attributes_at t other }
 {}
 
 /// Where nothing stands at a path, lines that work at or below it, and then a `prune` of it, leave the tree as it was.

@@ -132,7 +132,8 @@ Answers the script on standard input, with a reply for each line.
 
 Usage: ./hstore IMAGE run
 
-A script's commands are make, write, cut, rename, remove, prune, list, read, space and digest.
+A script's commands are make, write, cut, rename, remove, prune, list, read, set, unset, get, attrs,
+space and digest.
 What a line changes is safe in the file before its reply is printed.
 == check
 Tells what the file is, and changes nothing.

@@ -279,7 +279,7 @@ fn make_tree(rt: &impl Abort, machine: &mut Machine, row: [&str; 9], word: &str)
 }
 
 /// Looks whether the image of the row is what it says.
-fn expect_row(rt: &impl Abort, machine: &mut Machine, row: [&str; 9]) {
+pub fn expect_row(rt: &impl Abort, machine: &mut Machine, row: [&str; 9]) {
     spoil(rt, machine, row);
     let found = machine.copy(rt);
     make_tree(rt, machine, row, row[8]);

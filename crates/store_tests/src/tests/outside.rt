@@ -137,7 +137,11 @@ const OPENING: u64 = 11;
 /// Whether the store answers a listing with the directory `/a`.
 fn lists_a(rt: &impl Abort, store: &mut FailingStore) -> bool {
     let list = parse_command(b"list /").ok().expect(rt, "a command");
-    matches!(store.apply(&list), Ok(Reply::Listing(entries)) if entries.len() == 1 && entries.get(0) == (b"a".as_slice(), None))
+    match store.apply(&list) {
+        Ok(Reply::Listing(entries)) => entries.len() == 1
+            && entries.get(0) == (b"a".as_slice(), None),
+        _ => false,
+    }
 }
 
 // In the image of the directory `/a` the next call of the disk fails, and no other.

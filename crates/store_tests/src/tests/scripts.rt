@@ -180,7 +180,7 @@ fn expect_answers(rt: &impl Abort, ran: &Machine, row: [&str; 9]) {
 
 /// Looks whether the script of the row leads to what the row says. The image that another script leaves is made in a
 /// machine of its own.
-fn expect_row(rt: &impl Abort, ran: &mut Machine, other: &mut Machine, row: [&str; 9]) {
+pub fn expect_row(rt: &impl Abort, ran: &mut Machine, other: &mut Machine, row: [&str; 9]) {
     ran.make(rt, row[1], row[2]);
     expect_answers(rt, ran, row);
     expect(rt, ran.is_reported(rt, row[5]), "report", row[0]);

@@ -1,8 +1,5 @@
-use Rattle.std.proofs.Common.{ℕ, List, subst, ◌∙◌, arith}
-use Rattle.std.specs.Prelude.{MatchOption}
-use Rattle.dir_tree.specs.SubtreeCalls.{LacksFrom, IsFirstFrom}
-use Rattle.dir_tree.proofs.OrderLemmas.{le_at_first}
-use Rattle.dir_tree.proofs.TakingLemmas.{next_taken, none_left}
+use Rattle.std.proofs.Common.{◌∙◌, arith}
+use Rattle.dir_tree.proofs.TakingLemmas.{searched_first, next_taken, none_left}
 use Rattle.dir_tree.proofs.subtree.take_subtree.Goals as goal
 
 pub loop-preserved : goal.loop-preserved
@@ -14,9 +11,9 @@ loop-preserved g c =
     record {
       faults = take.faults ∙ search.call.faults ∙ kept.faults;
       observable = λ seen. (take.observed (search.call.keeps.observable (kept.observable seen))).observable;
-      part = λ seen blocks has. next_taken c.args.top.now blocks c.loop.counter here.pairs (g.P.OrderedPairs.state c.next_within.new.pairs).pairs (g.P.OrderedPairs.state c.take.new.self).pairs c.key-first.result c.key.result c.in_ok-found.field-0 c.in-Some.found
-          (kept.part seen blocks has) c.in-Some.is search.call.within (λ rest holds. search.call.found (kept.observable seen) rest holds c.key-first.ensures.path (le_at_first c.args.top.now c.key-first.result c.key-first.ensures.value))
-          (search.call.keeps.unchanged (kept.observable seen)) c.key.ensures (take.observed (search.call.keeps.observable (kept.observable seen))).changed;
+      part = λ seen blocks has. next_taken c.args.top.now blocks c.loop.counter here.pairs (g.P.OrderedPairs.state c.next_within.new.pairs).pairs (g.P.OrderedPairs.state c.take.new.self).pairs c.in_ok-found.field-0 c.in-Some.found
+          c.key-first.ensures.path (kept.part seen blocks has) c.in-Some.is (searched_first c.key-first.result c.args.top.now here.pairs c.in_ok-found.field-0 c.key-first.ensures.value (search.call.found (kept.observable seen)))
+          (search.call.keeps.unchanged (kept.observable seen)) (take.observed (search.call.keeps.observable (kept.observable seen))).changed;
       follows = g.met.P.OrderedPairs.follows_trans _ _ _ kept.follows (g.met.P.OrderedPairs.follows_trans _ _ _ search.follows c.in_ok-take.ensures.follows);
     }
 
@@ -39,7 +36,7 @@ returns-in_default-clause-call g c =
       valid = c.key-first.ensures.path;
       observable = λ seen. search.call.keeps.observable (kept.observable seen);
       taken = λ seen blocks has. none_left c.args.top.now blocks c.loop.counter (g.P.OrderedPairs.state c.loop.pairs).pairs (g.P.OrderedPairs.state c.next_within.new.pairs).pairs c.in_ok-found.field-0 c.key-first.ensures.path (kept.part seen blocks has) c.in_default.not-Some
-          (λ rest holds. subst (λ (k : List ℕ). MatchOption c.in_ok-found.field-0 (LacksFrom k c.args.top.now rest) (λ at. IsFirstFrom k rest at.path at.number)) c.key-first.ensures.value (search.call.found (kept.observable seen) rest holds c.key-first.ensures.path (le_at_first c.args.top.now c.key-first.result c.key-first.ensures.value)))
+          (searched_first c.key-first.result c.args.top.now (g.P.OrderedPairs.state c.loop.pairs).pairs c.in_ok-found.field-0 c.key-first.ensures.value (search.call.found (kept.observable seen)))
           (search.call.keeps.unchanged (kept.observable seen));
     }
 

@@ -31,7 +31,7 @@ returns-then-size-len-clause-call g c =
       observable = told.keeps.observable;
       carried = λ seen t p under holds.
           let path = c.args.path.now in
-          let cut = cutting path c.in-Ok.size c.args.len c.in_ok-first.first c.kind_told.result old found c.in_ok-first.ensures.call told c.in-Ok.ensures seen t p holds in
+          let cut = cutting path c.in-Ok.size c.args.len c.in_ok-first.first c.kind_told.result old found c.in_ok-first.ensures.path c.in_ok-first.ensures.call told c.in-Ok.ensures seen t p holds in
           step_done (λ _. Acknowledged) tt t (Cut path c.args.len) p found cut.free refl
           (pairs-uncut t p path c.args.len found.pairs holds.tree (omega arith) cut.free (sym cut.size_is ∙ c.if-size-len.true) (told.keeps.unchanged seen ∙ holds.pairs_are));
     }
@@ -54,7 +54,7 @@ returns-then-is_inline-clause-call g c =
           let inline = is_inline p.version (length bytes) in
           let seen_found = told.keeps.observable seen in
           let seen_read = reads.keeps.observable seen_found in
-          let cut = cutting path c.in-Ok.size c.args.len c.in_ok-first.first c.kind_told.result old found c.in_ok-first.ensures.call told c.in-Ok.ensures seen t p holds in
+          let cut = cutting path c.in-Ok.size c.args.len c.in_ok-first.first c.kind_told.result old found c.in_ok-first.ensures.path c.in_ok-first.ensures.call told c.in-Ok.ensures seen t p holds in
           let form : is_inline p.version c.args.len ≡ true = ap (λ version. is_inline version c.args.len) under ∙ sym c.is_inline.ensures ∙ c.if-is_inline.true in
           let front = reads.read seen_found inline bytes (tree_blocks t p) cut.within cut.stands in
           let bare = drops.dropped seen_read inline bytes (tree_blocks t p) (let l = cut.size_is in omega arith) (subst (StandsAs inline path c.in_ok-first.first bytes (tree_blocks t p)) (sym (reads.keeps.unchanged seen_found)) cut.stands) in
@@ -80,7 +80,7 @@ returns-clause-call g c =
       carried = λ seen t p under holds.
           let path = c.args.path.now in
           let seen_found = told.keeps.observable seen in
-          let cut = cutting path c.in-Ok.size c.args.len c.in_ok-first.first c.kind_told.result old found c.in_ok-first.ensures.call told c.in-Ok.ensures seen t p holds in
+          let cut = cutting path c.in-Ok.size c.args.len c.in_ok-first.first c.kind_told.result old found c.in_ok-first.ensures.path c.in_ok-first.ensures.call told c.in-Ok.ensures seen t p holds in
           let form : is_inline p.version c.args.len ≡ false = ap (λ version. is_inline version c.args.len) under ∙ sym c.is_inline.ensures ∙ c.if-is_inline.false in
           let before = long_before t p path c.in-Ok.size c.args.len c.in_ok-first.first found cut form in
           let after = cuts.cut seen_found c.in_ok-first.first (contents t path) (tree_blocks t p) (let l = cut.size_is in omega arith) before in

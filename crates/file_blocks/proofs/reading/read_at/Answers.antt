@@ -36,7 +36,7 @@ returns-in_ok-read_file-in-Ok-clause-call g c =
           let allowed = read_allowed t path c.args.at c.args.len free in
           let within : c.args.at ≤ length (contents t path) = allowed.1 in
           let seen_between = told.keeps.observable seen in
-          let stands = stands_found path c.in_ok-first.first (g.P.OrderedPairs.state c.args.pairs.now) (g.P.OrderedPairs.state c.first_of.new.pairs) t p c.in_ok-first.ensures.call seen holds allowed.0 in
+          let stands = stands_found path c.in_ok-first.first (g.P.OrderedPairs.state c.args.pairs.now) (g.P.OrderedPairs.state c.first_of.new.pairs) t p c.in_ok-first.ensures.path c.in_ok-first.ensures.call seen holds allowed.0 in
           let count_is : c.in-Ok.count ≡ min c.args.len (length (contents t path) - c.args.at) =
           c.in-Ok.ensures.1 ∙ ap (λ m. min c.args.len (m - c.args.at)) (ap size_of kind_is ∙ size_of-node (node_at t path)) in
           step_done Content c.in_ok-read_file-in-Ok.field-0 t (Read path c.args.at c.args.len) p (g.P.OrderedPairs.state c.read_file.new.pairs) free

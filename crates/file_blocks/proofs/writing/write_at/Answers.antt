@@ -42,7 +42,7 @@ returns-then-is_inline-clause-call g c =
       carried = λ seen t p under holds.
           let path = c.args.path.now in
           let fits = subst (λ (z : List ℕ). (first_refusal (write_conditions kind c.args.at (length z)) ≡ None) × (c.in-Ok.len ≡ max (size_of kind) (c.args.at + length z))) c.as_slice.ensures.value c.in-Ok.ensures in
-          let write = writing path c.args.at c.in-Ok.len bytes c.in_ok-first.first kind old found c.requires.parent c.in_ok-first.ensures.call told fits seen t p holds in
+          let write = writing path c.args.at c.in-Ok.len bytes c.in_ok-first.first kind old found c.in_ok-first.ensures.path c.requires.parent c.in_ok-first.ensures.call told fits seen t p holds in
           let form : is_inline p.version c.in-Ok.len ≡ true = ap (λ version. is_inline version c.in-Ok.len) under ∙ sym c.is_inline.ensures ∙ c.if-is_inline.true in
           step_done (λ _. Acknowledged) tt t (Write path c.args.at bytes) p (g.P.OrderedPairs.state c.put.new.self) write.free refl
           (pairs-write_inline t p path c.args.at c.in-Ok.len bytes c.key.result c.inline_written.result c.in_ok-first.first found (g.P.OrderedPairs.state c.put.new.self).pairs write holds.tree c.key.ensures.path (omega arith) c.as_slice.ensures.bytes form c.key.ensures.value
@@ -74,7 +74,7 @@ returns-then-eq-clause-call g c =
       carried = λ seen t p under holds.
           let path = c.args.path.now in
           let fits = subst (λ (z : List ℕ). (first_refusal (write_conditions kind c.args.at (length z)) ≡ None) × (c.in-Ok.len ≡ max (size_of kind) (c.args.at + length z))) c.as_slice.ensures.value c.in-Ok.ensures in
-          let write = writing path c.args.at c.in-Ok.len bytes c.in_ok-first.first kind old found c.requires.parent c.in_ok-first.ensures.call told fits seen t p holds in
+          let write = writing path c.args.at c.in-Ok.len bytes c.in_ok-first.first kind old found c.in_ok-first.ensures.path c.requires.parent c.in_ok-first.ensures.call told fits seen t p holds in
           let form : is_inline p.version c.in-Ok.len ≡ false = ap (λ version. is_inline version c.in-Ok.len) under ∙ sym c.is_inline.ensures ∙ c.if-is_inline.false in
           let written = blocks-write t p path c.args.at c.in-Ok.len bytes c.in_ok-first.first found filled after write (told.keeps.observable seen) fills
           (subst (λ (z : List ℕ). PutsFileBytes {T = Unit {0}} path c.in-Ok.len c.args.at z filled after (Ok (tt {0}))) c.as_slice-2.ensures.value puts) in
@@ -102,7 +102,7 @@ returns-clause-call g c =
           let path = c.args.path.now in
           let seen_filled = fills.observable (told.keeps.observable seen) in
           let fits = subst (λ (z : List ℕ). (first_refusal (write_conditions kind c.args.at (length z)) ≡ None) × (c.in-Ok.len ≡ max (size_of kind) (c.args.at + length z))) c.as_slice.ensures.value c.in-Ok.ensures in
-          let write = writing path c.args.at c.in-Ok.len bytes c.in_ok-first.first kind old found c.requires.parent c.in_ok-first.ensures.call told fits seen t p holds in
+          let write = writing path c.args.at c.in-Ok.len bytes c.in_ok-first.first kind old found c.in_ok-first.ensures.path c.requires.parent c.in_ok-first.ensures.call told fits seen t p holds in
           let form : is_inline p.version c.in-Ok.len ≡ false = ap (λ version. is_inline version c.in-Ok.len) under ∙ sym c.is_inline.ensures ∙ c.if-is_inline.false in
           let written = blocks-write t p path c.args.at c.in-Ok.len bytes c.in_ok-first.first found filled after write (told.keeps.observable seen) fills
           (subst (λ (z : List ℕ). PutsFileBytes {T = Unit {0}} path c.in-Ok.len c.args.at z filled after (Ok (tt {0}))) c.as_slice-2.ensures.value puts) in

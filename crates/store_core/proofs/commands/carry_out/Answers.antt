@@ -1,9 +1,13 @@
-use Rattle.std.proofs.Common.{◌≡◌, Ok, refl, sym, ap, subst}
+use Rattle.std.proofs.Common.{◌≡◌, Ok, refl, sym, ap, subst, ◌∙◌}
+use Rattle.store_model.specs.declared.refusal.Refusal.TheVariants as refusals
 use Rattle.store_model.specs.Commands.{Command}
 use Rattle.store_model.specs.Commands.Command.{Space}
 use Rattle.store_model.specs.Steps.{Step, step}
+use Rattle.store_model.proofs.TreesLemmasSteps.{step_of_version}
 use Rattle.disk_model.specs.DiskState.{IsObservable}
 use Rattle.seeded_draw.specs.AnyDrawn.{any_draw}
+use Rattle.script_lines.specs.declared.reply.Reply.{Reply}
+use Rattle.script_lines.specs.declared.reply.Reply.TheVariants as replies
 use Rattle.script_lines.specs.Parsing.{command_of}
 use Rattle.script_lines.specs.Replies.{reply_of}
 use Rattle.page_store.specs.StagedState.{Follows-refl}
@@ -33,3 +37,19 @@ returns-in-Space-clause-call g c t list =
       none_staged = same_staged state t p staged staged list.pages c.requires.runs still (λ observable. refl);
     } in
     subst (λ (x : Command). EndsStep state t (step t x p) p staged staged (Ok c.tell_space.new.reply)) (sym (ap command_of c.in-Space.is)) ends
+
+-- the version lacks the command
+pub returns-then-lacks_version-clause-call : goal.returns-then-lacks_version-clause-call
+returns-then-lacks_version-clause-call g c t list =
+    let state = g.D.Disk.state in
+    let p = c.args.params.now in
+    let command = command_of c.args.command.now in
+    let staged = c.args.pairs.now.pages in
+    let reply = replies.No refusals.Version in
+    let still = Follows-refl state staged (g.met.D.Disk.sound staged.disk) in
+    let is = step_of_version t command p (sym c.lacks_version.ensures ∙ c.if-lacks_version.true) in
+    let ends : EndsStep state t (step t command p) p staged staged (Ok reply) = record {
+      step = read_step state t (step t command p) p staged staged (Ok reply) list.fitting list.pages c.requires.runs still refl (λ e. cc) (λ observable. ap (λ (s : Step). s.tree) is) (λ observable. sym (ap (λ (s : Step). s.reply) is));
+      none_staged = same_staged state t p staged staged list.pages c.requires.runs still (λ observable. refl);
+    } in
+    subst (λ (r : Reply). EndsStep state t (step t command p) p staged staged (Ok r)) (sym c.put_refusal.ensures) ends

@@ -38,7 +38,7 @@ end_change-requires-clause-staged g c =
     let mid = c.change.new.pairs in
     let command = command_of c.args.command.now in
     let answers = answers_at state some.0 c.args.params.now old some.1 c.requires.runs command mid (Ok replies.Ok) (acknowledged g c) in
-    (some.0, ((uncounted_step some.0 command c.args.params.now).tree, (c.args.params.now, (acked_staged state some.0 command c.args.params.now old.pages mid.pages some.1.fitting some.1.pages c.requires.runs c.requires.command answers, ap any_draw c.in-Ok-Ok.ensures.follows.1 ∙ some.1.draw))))
+    (some.0, ((uncounted_step some.0 command c.args.params.now).tree, (c.args.params.now, (acked_staged state some.0 command c.args.params.now old.pages mid.pages some.1.fitting some.1.pages c.requires.runs c.requires.command c.requires.version answers, ap any_draw c.in-Ok-Ok.ensures.follows.1 ∙ some.1.draw))))
 
 pub returns-in-Ok-Ok-clause-call : goal.returns-in-Ok-Ok-clause-call
 returns-in-Ok-Ok-clause-call g c t list =
@@ -48,7 +48,7 @@ returns-in-Ok-Ok-clause-call g c t list =
     let mid = c.change.new.pairs in
     let command = command_of c.args.command.now in
     let is = changed_list state c.args.params.now c.version.result command old mid (Ok c.in-Ok-Ok.field-0) (Ok replies.Ok) c.version.ensures.value (ap (λ (x : Result (Unit {0}) Refusal). change_reply {F = Fault} (Ok x)) c.in-Ok-Ok.field-0-is) c.in-Ok-Ok.ensures.follows c.in-Ok-Ok.ensures.call in
-    acked state t command p old.pages mid.pages list.fitting list.pages c.requires.runs c.requires.command c.end_change.new.pairs.pages (change_reply c.end_change.result) (answers_at state t p old list c.requires.runs command mid (Ok replies.Ok) is) c.end_change.ensures.call
+    acked state t command p old.pages mid.pages list.fitting list.pages c.requires.runs c.requires.command c.requires.version c.end_change.new.pairs.pages (change_reply c.end_change.result) (answers_at state t p old list c.requires.runs command mid (Ok replies.Ok) is) c.end_change.ensures.call
 
 -- ---- refused
 
@@ -74,7 +74,7 @@ returns-in-Ok-Err-clause-call g c t list =
     let state = g.D.Disk.state in
     let command = command_of c.args.command.now in
     let reply = replies.No c.in-Ok-Err.refusal in
-    answered_at state t command p c.args.pairs.now.pages c.pairs.inside.pages list.fitting list.pages c.requires.runs c.requires.command reply c.discard.new.self (Ok reply) refl c.discard.ensures (λ is other. cc)
+    answered_at state t command p c.args.pairs.now.pages c.pairs.inside.pages list.fitting list.pages c.requires.runs c.requires.command c.requires.version reply c.discard.new.self (Ok reply) refl c.discard.ensures (λ is other. cc)
     (answers_at state t p c.args.pairs.now list c.requires.runs command _ (Ok reply) (refused g c))
 
 pub returns-in-Ok-Err-clause-list : goal.returns-in-Ok-Err-clause-list
@@ -101,5 +101,5 @@ returns-in-Err-clause-call g c t list =
     let state = g.D.Disk.state in
     let command = command_of c.args.command.now in
     let is = changed_list state c.args.params.now c.version.result command c.args.pairs.now c.change.new.pairs (Err c.in-Err.fault) (Err c.in-Err.fault) c.version.ensures.value refl c.in-Err.ensures.follows c.in-Err.ensures.call in
-    failed_at state t command p c.args.pairs.now.pages c.change.new.pairs.pages list.fitting list.pages c.requires.runs c.requires.command c.in-Err.fault c.into.result c.give_up.new.pairs.pages (Err c.in-Err.fault) refl c.give_up.ensures.pages
+    failed_at state t command p c.args.pairs.now.pages c.change.new.pairs.pages list.fitting list.pages c.requires.runs c.requires.command c.requires.version c.in-Err.fault c.into.result c.give_up.new.pairs.pages (Err c.in-Err.fault) refl c.give_up.ensures.pages
     c.into.ensures (answers_at state t p c.args.pairs.now list c.requires.runs command c.change.new.pairs (Err c.in-Err.fault) is)

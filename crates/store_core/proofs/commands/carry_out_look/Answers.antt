@@ -35,10 +35,10 @@ give_up-requires g c =
     table_behind g.D.Disk.state some.0 some.1.0 c.args.pairs.now some.1.1 c.requires.runs c.answer.new.pairs c.in-Err.ensures.follows
 
 pub returns-in-Ok-clause-call : goal.returns-in-Ok-clause-call
-returns-in-Ok-clause-call g c t p list =
+returns-in-Ok-clause-call g c t p has list =
     let state = g.D.Disk.state in
     let command = command_of c.args.command.now in
-    answered_at state t command p c.args.pairs.now.pages c.pairs.inside.pages list.fitting list.pages c.requires.runs c.requires.command c.answer.new.reply c.discard.new.self (Ok c.answer.new.reply) refl c.discard.ensures
+    answered_at state t command p c.args.pairs.now.pages c.pairs.inside.pages list.fitting list.pages c.requires.runs c.requires.command has c.answer.new.reply c.discard.new.self (Ok c.answer.new.reply) refl c.discard.ensures
     (look_other t command p c.requires.looks (reply_of c.answer.new.reply)) (answers_at state t p c.args.pairs.now list c.requires.runs command _ (Ok c.answer.new.reply) (answered g c p.version))
 
 pub returns-in-Ok-clause-list : goal.returns-in-Ok-clause-list
@@ -53,7 +53,7 @@ returns-in-Ok-clause-list g c =
     }
 
 pub returns-in-Err-clause-call : goal.returns-in-Err-clause-call
-returns-in-Err-clause-call g c t p list =
-    failed_at g.D.Disk.state t (command_of c.args.command.now) p c.args.pairs.now.pages c.answer.new.pairs.pages list.fitting list.pages c.requires.runs c.requires.command c.in-Err.fault c.into.result c.give_up.new.pairs.pages (Err c.in-Err.fault) refl c.give_up.ensures.pages
+returns-in-Err-clause-call g c t p has list =
+    failed_at g.D.Disk.state t (command_of c.args.command.now) p c.args.pairs.now.pages c.answer.new.pairs.pages list.fitting list.pages c.requires.runs c.requires.command has c.in-Err.fault c.into.result c.give_up.new.pairs.pages (Err c.in-Err.fault) refl c.give_up.ensures.pages
     c.into.ensures (answers_at g.D.Disk.state t p c.args.pairs.now list c.requires.runs (command_of c.args.command.now) c.answer.new.pairs (Err c.in-Err.fault)
     (looked_list g.D.Disk.state p.version (command_of c.args.command.now) c.args.pairs.now c.answer.new.pairs (Err c.in-Err.fault) c.in-Err.ensures.follows c.in-Err.ensures.call))

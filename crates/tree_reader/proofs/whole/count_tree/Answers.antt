@@ -16,6 +16,7 @@ returns-then-not-add-clause-none c p version whole =
     (record {
       tree = whole.tree;
       is_tree = whole.is_tree;
+      bare = whole.bare;
       rest = drop (k + 1) pairs;
       pairs_are = sym whole.pairs_are ∙ sym (take-append-drop (k + 1) pairs) ∙ ap (λ (front : List Pair). front ++ drop (k + 1) pairs) next;
     })
@@ -41,4 +42,4 @@ returns-clause-tree c p version =
     let all = take_all c.loop-key.key-index pairs c.loop-key-test.false in
     let seen = subst (λ (s : List Pair). HasSeen c.loop-key.reader s p) all (c.loop-key.invariant p version) in
     let whole = (c.if-not-is_whole.ensures pairs p seen).0 refl in
-    record { tree = whole.tree; is_tree = whole.is_tree; pairs_are = whole.pairs_are; counts_are = c.counts.ensures pairs p seen whole.tree whole.is_tree whole.pairs_are }
+    record { tree = whole.tree; is_tree = whole.is_tree; bare = whole.bare; pairs_are = whole.pairs_are; counts_are = c.counts.ensures pairs p seen whole.tree whole.is_tree whole.pairs_are }

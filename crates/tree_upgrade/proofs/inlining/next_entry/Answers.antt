@@ -1,32 +1,32 @@
-use Rattle.std.proofs.Common.{ap, ◌∙◌}
-use Rattle.ordered_pairs.specs.PairsState.{next_pair}
-use Rattle.tree_upgrade.proofs.EntryLemmas.{found_entry, found_no_entry, valid_entry, found_first}
+use Rattle.tree_upgrade.proofs.EntryLemmas.{IsPast, found_entry, found_no_entry, valid_entry, found_first}
 use Rattle.tree_upgrade.proofs.inlining.next_entry.Goals as goal
 
 pub returns-in-Some-clause-call : goal.returns-in-Some-clause-call
 returns-in-Some-clause-call g c =
     let old = g.P.OrderedPairs.state c.args.pairs.now in
     let call = c.in_ok-pair.ensures.call in
+    let bound = c.below.ensures in
+    let past : IsPast c.args.last.now c.below.result = record { blocks = bound.blocks; attributes = bound.attributes; below = bound.below; behind = bound.behind } in
     record {
       faults = call.faults;
       hidden = call.hidden;
       keeps = record { observable = λ seen. (call.observed seen).observable; unchanged = λ seen. (call.observed seen).unchanged };
       valid = valid_entry c.in-Some.pair c.entry_of.result c.entry_of.ensures;
-      there = λ seen. found_first c.key.result old.pairs c.in_ok-pair.field-0 c.in-Some.pair c.entry_of.result (g.met.P.OrderedPairs.valid c.args.pairs.now seen) (call.observed seen).found c.in-Some.is c.entry_of.ensures;
-      found = λ seen blocks has entries. found_entry c.args.last.now blocks old.pairs c.in_ok-pair.field-0 c.in-Some.pair c.entry_of.result c.key.ensures.path has entries
-          ((call.observed seen).found ∙ ap (λ k. next_pair k old.pairs) c.key.ensures.value) c.in-Some.is c.entry_of.ensures;
+      there = λ seen. found_first c.below.result old.pairs c.in_ok-pair.field-0 c.in-Some.pair c.entry_of.result (g.met.P.OrderedPairs.valid c.args.pairs.now seen) (call.observed seen).found c.in-Some.is c.entry_of.ensures;
+      found = λ seen blocks has entries. found_entry c.args.last.now c.below.result blocks old.pairs c.in_ok-pair.field-0 c.in-Some.pair c.entry_of.result bound.path past has entries (call.observed seen).found c.in-Some.is c.entry_of.ensures;
     }
 
 pub returns-in-None-clause-call : goal.returns-in-None-clause-call
 returns-in-None-clause-call g c =
     let old = g.P.OrderedPairs.state c.args.pairs.now in
     let call = c.in_ok-pair.ensures.call in
+    let bound = c.below.ensures in
+    let past : IsPast c.args.last.now c.below.result = record { blocks = bound.blocks; attributes = bound.attributes; below = bound.below; behind = bound.behind } in
     record {
       faults = call.faults;
       hidden = call.hidden;
       keeps = record { observable = λ seen. (call.observed seen).observable; unchanged = λ seen. (call.observed seen).unchanged };
       valid = tt;
       there = λ seen. tt;
-      found = λ seen blocks has entries. found_no_entry c.args.last.now blocks old.pairs c.in_ok-pair.field-0 c.key.ensures.path has
-          ((call.observed seen).found ∙ ap (λ k. next_pair k old.pairs) c.key.ensures.value) c.in-None.is;
+      found = λ seen blocks has entries. found_no_entry c.args.last.now c.below.result blocks old.pairs c.in_ok-pair.field-0 bound.path past has (call.observed seen).found c.in-None.is;
     }

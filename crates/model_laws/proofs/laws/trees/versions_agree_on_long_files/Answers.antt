@@ -1,4 +1,4 @@
-use Rattle.std.proofs.Common.{◌≡◌, ℕ, ◌<◌, [], ◌∷◌, ◌++◌, length, Bool, false, refl, ap, ap₂, ◌∙◌, sym}
+use Rattle.std.proofs.Common.{◌≡◌, ℕ, ◌<◌, List, [], ◌∷◌, ◌++◌, length, Bool, false, refl, ap, ap₂, ◌∙◌, sym}
 use Rattle.std.specs.List.{AllByRecursion}
 use Rattle.std.proofs.lemmas.Bool.{lt-leb}
 use Rattle.store_model.specs.declared.version.Version.{Version}
@@ -7,7 +7,7 @@ use Rattle.store_model.specs.Parameters.{Parameters, with_version}
 use Rattle.store_model.specs.Paths.{Path}
 use Rattle.store_model.specs.Trees.{Tree, Node}
 use Rattle.store_model.specs.Trees.Node.{Directory, File}
-use Rattle.store_model.specs.Pairs.{is_inline, file_pairs, node_pairs, pairs}
+use Rattle.store_model.specs.Pairs.{is_inline, file_pairs, node_pairs, attribute_pairs, pairs}
 use Rattle.model_laws.specs.ShortFiles.{HasNoShortFile}
 use Rattle.model_laws.proofs.laws.trees.versions_agree_on_long_files.Goals as goal
 
@@ -17,7 +17,7 @@ long_is_not_inline One n long = refl
 long_is_not_inline Two n long = lt-leb n 200 long
 
 -- what stands at a path has the same pairs
-same_node : (path : Path) (node : Node) (p : Parameters) (version : Version) → HasNoShortFile (path, node) → node_pairs path node (with_version p version) ≡ node_pairs path node p
+same_node : (path : Path) (node : Node) (p : Parameters) (version : Version) → ((bytes : List ℕ) → node ≡ File bytes → 200 < length bytes) → node_pairs path node (with_version p version) ≡ node_pairs path node p
 unfolding node_pairs
 same_node path Directory p version none = refl
 same_node path (File bytes) p version none =
@@ -28,7 +28,7 @@ same_node path (File bytes) p version none =
 same_pairs : (t : Tree) (p : Parameters) (version : Version) → AllByRecursion HasNoShortFile t → pairs t (with_version p version) ≡ pairs t p
 unfolding pairs
 same_pairs [] p version none = refl
-same_pairs (e ∷ t) p version none = ap₂ ◌++◌ (same_node e.0 e.1 p version none.0) (same_pairs t p version none.1)
+same_pairs (e ∷ t) p version none = ap₂ ◌++◌ (ap (λ node. node ++ attribute_pairs e.0 e.1.attributes) (same_node e.0 e.1.node p version none.0)) (same_pairs t p version none.1)
 
 pub returns : goal.returns
 returns c = same_pairs

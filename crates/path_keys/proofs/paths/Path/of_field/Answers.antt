@@ -9,9 +9,9 @@ pub returns-then-len-ge-FIELD_LEN : goal.returns-then-len-ge-FIELD_LEN
 returns-then-len-ge-FIELD_LEN c =
     elim c.then-len-ge-FIELD_LEN.branch [
       | then-len-ge-FIELD_LEN-via-then-len-ge-FIELD_LEN w ↦
-          full_has_none c.args.field.now c.used_len-len.result c.requires c.used_len-len.ensures.front c.used_len-len.ensures.behind w.if-len-ge-FIELD_LEN.true
+          full_has_none c.args.field.now c.used_len-len.result c.used_len-len.ensures.front c.used_len-len.ensures.behind w.if-len-ge-FIELD_LEN.true
       | then-len-ge-FIELD_LEN-via-else-len-ge-FIELD_LEN+then-not-are_names w ↦
-          other_has_none c.args.field.now c.used_len-len.result c.requires c.used_len-len.ensures.front c.used_len-len.ensures.behind (sym w.are_names.ensures ∙ w.if-not-are_names.true)
+          other_has_none c.args.field.now c.used_len-len.result c.used_len-len.ensures.front c.used_len-len.ensures.behind (sym w.are_names.ensures ∙ w.if-not-are_names.true)
     ]
 
 pub invariant_of-result : goal.invariant_of-result

@@ -1,10 +1,11 @@
 use Rattle.std.proofs.Common.{sym, ◌∙◌, ap, ap₂, take, Some}
+use Rattle.store_model.proofs.PathsLemmas.{place_of_path}
 use Rattle.path_keys.proofs.KeyBytes.{key_again, key_read, take-key}
 use Rattle.path_keys.proofs.paths.Path.of_key.Goals as goal
 
 pub returns-in_err-path-clause-only : goal.returns-in_err-path-clause-only
 returns-in_err-path-clause-only c p block h other small e =
-    absurd (c.in_err-path.ensures p h other (c.split_at.ensures.front ∙ ap (take 120) (c.as_bytes.ensures.value ∙ e) ∙ take-key p block h))
+    absurd (c.in_err-path.ensures p h other (c.split_at.ensures.front ∙ ap (take 120) (c.as_bytes.ensures.value ∙ e) ∙ take-key p block (place_of_path p h)))
 
 pub returns-clause-some : goal.returns-clause-some
 returns-clause-some c =

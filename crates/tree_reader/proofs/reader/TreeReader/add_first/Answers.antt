@@ -1,4 +1,4 @@
-use Rattle.std.proofs.Common.{refl, sym, subst, ◌++◌, ◌∷◌, []}
+use Rattle.std.proofs.Common.{None, refl, sym, subst, ◌++◌, ◌∷◌, []}
 use Rattle.std.proofs.lemmas.Bool.{false≢true}
 use Rattle.std.proofs.lemmas.Option.{none-some, same_Some}
 use Rattle.tree_reader.specs.declared.first.Entry.{Entry}
@@ -10,13 +10,13 @@ use Rattle.tree_reader.proofs.reader.TreeReader.add_first.Goals as goal
 
 pub returns-in_default : goal.returns-in_default
 returns-in_default c =
-    first_refused c.args.self.now c.args.key.now c.args.value.now c.requires
+    first_refused c.args.self.now c.args.key.now c.args.value.now c.requires.whole c.requires.no_attribute
     (λ path kind first follows. none-some _ (c.in_default.ensures.only path kind (subst (IsFirst c.args.self.now.version path kind c.args.key.now) (sym c.as_slice.ensures.value) first)))
 
 pub returns-then-not-may_follow : goal.returns-then-not-may_follow
 returns-then-not-may_follow c =
     let old = c.args.self.now in
-    first_refused old c.args.key.now c.args.value.now c.requires
+    first_refused old c.args.key.now c.args.value.now c.requires.whole c.requires.no_attribute
     (λ path kind first follows.
     let same = same_Some c.in-Some.entry (record { path = path; kind = kind }) (c.in-Some.ensures.only path kind (subst (IsFirst c.args.self.now.version path kind c.args.key.now) (sym c.as_slice.ensures.value) first)) in
     false≢true (c.if-not-may_follow.ensures.1 (subst (λ (entry : Entry). MayFollow old.last.path old.last.kind entry.path) (sym same) follows)))
@@ -26,7 +26,7 @@ returns-in_default-counted c =
     let old = c.args.self.now in
     refused old (c.args.key.now, c.args.value.now)
     (λ s p has few begins.
-    let fit = counts_fit old s p (between old s p has c.requires) few in
+    let fit = counts_fit old s p (between old s p has c.requires.whole) few in
     false≢true (c.in_default-counted.ensures.fits fit.0 fit.1))
 
 pub returns : goal.returns
@@ -36,5 +36,5 @@ returns c =
     let first = subst (IsFirst old.version entry.path entry.kind c.args.key.now) c.as_slice.ensures.value c.in-Some.ensures.found in
     taken old _ (c.args.key.now, c.args.value.now) refl
     (λ s p has.
-    subst (λ read. HasSeen (record old { last = entry; read = read; counts = c.in-Some-counted.counts }) (s ++ (c.args.key.now, c.args.value.now) ∷ []) p) (sym c.size_in_first.ensures)
-    (first_taken old s p entry.path entry.kind c.args.key.now c.args.value.now c.in-Some-counted.counts (between old s p has c.requires) first c.as_slice.ensures.bytes (c.if-not-may_follow.ensures.0 refl) c.in-Some-counted.ensures.more))
+    subst (λ read. HasSeen (record old { last = entry; read = read; attribute = None; counts = c.in-Some-counted.counts }) (s ++ (c.args.key.now, c.args.value.now) ∷ []) p) (sym c.size_in_first.ensures)
+    (first_taken old s p entry.path entry.kind c.args.key.now c.args.value.now c.in-Some-counted.counts (between old s p has c.requires.whole) first c.as_slice.ensures.bytes (c.if-not-may_follow.ensures.0 refl) c.in-Some-counted.ensures.more))
