@@ -2,13 +2,14 @@
 # What a shell completes behind `hstore`: the image as a file, the words, and what is known of their arguments. `hstore
 # --install` puts it where bash looks for it. .ci/person compares the words with those of help.
 _hstore() {
-    local words='format format2 run check scrub wipe upgrade big' choices='' files=''
+    local words='format format2 run check scrub wipe upgrade big mirror' choices='' files=''
     case "$COMP_CWORD ${COMP_WORDS[1]} ${COMP_WORDS[2]-}" in
         '1 '*) choices='help --help --version --install --uninstall' files=-f ;;
         '2 help '*) choices="$words" ;;
         '2 --install '* | '2 --uninstall '*) files=-d ;;
         '2 -h '* | '2 --help '* | '2 --version '*) ;;
         '2 '*) choices="$words" ;;
+        '3 '*' mirror') files=-f ;;
         '3 '*' format' | '3 '*' format2') choices='64 256 1024 4096 16384 65536' ;;
         '4 '*' format' | '4 '*' format2') choices='1 2 3 4 5 6 7 8' ;;
         '5 '*' format' | '5 '*' format2') choices='sha256 ruler' ;;

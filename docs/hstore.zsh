@@ -1,7 +1,7 @@
 #compdef hstore
 # What a shell completes behind `hstore`, as docs/hstore.bash does. `hstore --install` puts it where zsh looks for it.
 # .ci/brought tries it where there is a zsh.
-local -a its=(format format2 run check scrub wipe upgrade big)
+local -a its=(format format2 run check scrub wipe upgrade big mirror)
 case $CURRENT in
     2)
         compadd -- help --help --version --install --uninstall
@@ -15,7 +15,10 @@ case $CURRENT in
             *) compadd -a its ;;
         esac
         ;;
-    4) [[ $words[3] != format(2|) ]] || compadd 64 256 1024 4096 16384 65536 ;;
+    4)
+        [[ $words[3] != format(2|) ]] || compadd 64 256 1024 4096 16384 65536
+        [[ $words[3] != mirror ]] || _files
+        ;;
     5) [[ $words[3] != format(2|) ]] || compadd 1 2 3 4 5 6 7 8 ;;
     6) [[ $words[3] != format(2|) ]] || compadd sha256 ruler ;;
 esac

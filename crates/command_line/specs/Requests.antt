@@ -1,5 +1,5 @@
 -- What the program calls a request, and the file that one needs.
-use Rattle.std.specs.Prelude.{◌≤◌, List, [], ◌∷◌, Option, Some, None, codes}
+use Rattle.std.specs.Prelude.{◌≡◌, ◌≤◌, List, [], ◌∷◌, Option, Some, None, codes}
 use Rattle.clap.specs.Walk.{Text}
 use Rattle.store_model.specs.Parameters.{IsParameters, image_len}
 use Rattle.store_model.specs.Words.{Request, commands_limit}
@@ -51,3 +51,8 @@ wanted_by (Big number count) = Existing
 abbrev pub wanted_of : Option Request → Wanted
 wanted_of None = Usage
 wanted_of (Some request) = wanted_by request
+
+-- The words ask for a mirror: `mirror`, and the path of the other image, whatever it is.
+pub record AskMirror (words : List Text) : Type 0 where
+  pub other : Text
+  pub words_are : words ≡ codes "mirror" ∷ other ∷ []

@@ -5,10 +5,12 @@ mod image_file;
 pub mod laws;
 mod line;
 mod line_read;
+mod pair;
 mod request;
 mod words;
 
 pub use image_file::{Access, FileRequest, Wanted, wanted_file, wanted_len};
 pub use line::{MAX_COMMANDS, Subcommand, command, command_of};
+pub use pair::pair_words;
 pub use request::Request;
 pub use words::Words;

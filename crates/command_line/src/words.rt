@@ -34,7 +34,7 @@ impl Model for Words {
 }
 
 impl Words {
-    ghost use Rattle.std.specs.Prelude.{◌≡◌, ◌++◌, ◌∷◌, [], OnOk, OnErr};
+    ghost use Rattle.std.specs.Prelude.{◌≡◌, ◌++◌, ◌∷◌, [], OnOk, OnErr, length, slice_get, option_copied};
 
     /// No words. It takes no memory.
     pub fn new(alloc: Global) -> Self
@@ -55,6 +55,20 @@ impl Words {
         let word = String::from_str(self.alloc, word)?;
         self.words.push(word)?;
         Ok(())
+    }
+
+    /// How many words there are.
+    pub fn len(&self) -> usize
+        ensures { result ≡ length self.now }
+    {
+        self.words.len()
+    }
+
+    /// The word of this number, counted from 0, where there is one. It takes no memory.
+    pub fn get(&self, at: usize) -> Option<&str>
+        ensures { option_copied result ≡ slice_get self.now at }
+    {
+        self.words.get(at).map(|word| word.as_str())
     }
 
     /// What the words ask for; `None` exactly where they are not well formed.

@@ -1,13 +1,13 @@
 -- The table of statuses, spelled out: what its columns say is that the status is one of a list.
-use Rattle.std.proofs.Common.{◌≡◌, ◌⊎◌, List, [], ◌∷◌, ℕ, false, IsTrue, refl, sym, subst, ◌∙◌, inl, inr, ⊎_elim}
+use Rattle.std.proofs.Common.{◌≡◌, ◌⊎◌, List, [], ◌∷◌, ℕ, false, IsTrue, refl, sym, ap, subst, ◌∙◌, inl, inr, ⊎_elim}
 use Rattle.std.specs.List.{AllByRecursion}
-use Rattle.std.proofs.lemmas.Bool.{false≢true}
+use Rattle.std.proofs.lemmas.Bool.{false≢true, cases_Bool}
 use Rattle.store_model.specs.Words.Request.{Run, Check, Scrub, Wipe, Upgrade}
 use Rattle.image_subcommands.specs.declared.status.Status.{Status}
-use Rattle.image_subcommands.specs.declared.status.Status.TheVariants.{Done, Usage, SourceFault, SinkFault, DiskFault, TooLong, NotImage, Damaged, NoMemory, AlreadyImage, WrongLength}
-use Rattle.image_subcommands.specs.Statuses.{row, IsFormatStatus, IsRunStatus, IsCheckStatus, IsScrubStatus, IsWipeStatus, IsUpgradeStatus, IsBigStatus, IsJudged, IsRefusedImage, IsRefusedDisk, IsPastHeader, IsSummed, IsBetweenLines, MayComeFirst, done_of_work, done_of_verdict}
+use Rattle.image_subcommands.specs.declared.status.Status.TheVariants.{Done, Usage, SourceFault, SinkFault, DiskFault, TooLong, NotImage, Damaged, NoMemory, AlreadyImage, WrongLength, Unequal}
+use Rattle.image_subcommands.specs.Statuses.{row, IsFormatStatus, IsRunStatus, IsCheckStatus, IsScrubStatus, IsWipeStatus, IsUpgradeStatus, IsBigStatus, IsMirrorStatus, IsJudged, IsRefusedImage, IsRefusedDisk, SparesSecond, IsMirrored, IsPastHeader, IsSummed, IsBetweenLines, MayComeFirst, one_if, done_of_work, done_of_verdict, done_of_mirror}
 use Rattle.image_subcommands.specs.Reports.{IsUnreported}
-use Rattle.image_claims.specs.Endings.{IsOneOf, CountsOne, number, endings}
+use Rattle.image_claims.specs.Endings.{IsOneOf, CountsOne, number, endings, mirror_endings}
 
 -- what holds of each status of a list holds of one of them
 pub one_of : (P : Status → Type 0) (statuses : List Status) → AllByRecursion P statuses → (status : Status) → IsOneOf status statuses → P status
@@ -29,6 +29,7 @@ format_ends Damaged h = absurd (false≢true h)
 format_ends NoMemory h = inr (inr (inl refl))
 format_ends AlreadyImage h = inr (inr (inr (inl refl)))
 format_ends WrongLength h = inr (inr (inr (inr (inl refl))))
+format_ends Unequal h = absurd (false≢true h)
 
 -- how `run` may end
 pub run_ends : (status : Status) → IsRunStatus status → IsOneOf status (endings Run)
@@ -43,6 +44,7 @@ run_ends Damaged h = inr (inr (inr (inr (inr (inr (inl refl))))))
 run_ends NoMemory h = inr (inr (inr (inr (inr (inr (inr (inl refl)))))))
 run_ends AlreadyImage h = absurd (false≢true h)
 run_ends WrongLength h = absurd (false≢true h)
+run_ends Unequal h = absurd (false≢true h)
 
 -- how `check` may end
 pub check_ends : (status : Status) → IsCheckStatus status → IsOneOf status (endings Check)
@@ -57,6 +59,7 @@ check_ends Damaged h = inr (inr (inr (inr (inl refl))))
 check_ends NoMemory h = inr (inr (inr (inr (inr (inl refl)))))
 check_ends AlreadyImage h = absurd (false≢true h)
 check_ends WrongLength h = absurd (false≢true h)
+check_ends Unequal h = absurd (false≢true h)
 
 -- how `scrub` may end
 pub scrub_ends : (status : Status) → IsScrubStatus status → IsOneOf status (endings Scrub)
@@ -71,6 +74,7 @@ scrub_ends Damaged h = inr (inr (inr (inr (inl refl))))
 scrub_ends NoMemory h = inr (inr (inr (inr (inr (inl refl)))))
 scrub_ends AlreadyImage h = absurd (false≢true h)
 scrub_ends WrongLength h = absurd (false≢true h)
+scrub_ends Unequal h = absurd (false≢true h)
 
 -- how `wipe` may end
 pub wipe_ends : (status : Status) → IsWipeStatus status → IsOneOf status (endings Wipe)
@@ -85,6 +89,7 @@ wipe_ends Damaged h = absurd (false≢true h)
 wipe_ends NoMemory h = inr (inr (inl refl))
 wipe_ends AlreadyImage h = absurd (false≢true h)
 wipe_ends WrongLength h = absurd (false≢true h)
+wipe_ends Unequal h = absurd (false≢true h)
 
 -- how `upgrade` may end
 pub upgrade_ends : (status : Status) → IsUpgradeStatus status → IsOneOf status (endings Upgrade)
@@ -99,6 +104,7 @@ upgrade_ends Damaged h = inr (inr (inr (inl refl)))
 upgrade_ends NoMemory h = inr (inr (inr (inr (inl refl))))
 upgrade_ends AlreadyImage h = absurd (false≢true h)
 upgrade_ends WrongLength h = absurd (false≢true h)
+upgrade_ends Unequal h = absurd (false≢true h)
 
 -- how `big` may end
 pub big_ends : (status : Status) → IsBigStatus status → IsOneOf status (Done ∷ SinkFault ∷ DiskFault ∷ NotImage ∷ Damaged ∷ NoMemory ∷ [])
@@ -113,6 +119,37 @@ big_ends Damaged h = inr (inr (inr (inr (inl refl))))
 big_ends NoMemory h = inr (inr (inr (inr (inr (inl refl)))))
 big_ends AlreadyImage h = absurd (false≢true h)
 big_ends WrongLength h = absurd (false≢true h)
+big_ends Unequal h = absurd (false≢true h)
+
+-- how a mirror may end
+pub mirror_ends : (status : Status) → IsMirrorStatus status → IsOneOf status mirror_endings
+mirror_ends Done h = inl refl
+mirror_ends Usage h = absurd (false≢true h)
+mirror_ends SourceFault h = absurd (false≢true h)
+mirror_ends SinkFault h = inr (inl refl)
+mirror_ends DiskFault h = inr (inr (inl refl))
+mirror_ends TooLong h = absurd (false≢true h)
+mirror_ends NotImage h = inr (inr (inr (inl refl)))
+mirror_ends Damaged h = inr (inr (inr (inr (inl refl))))
+mirror_ends NoMemory h = inr (inr (inr (inr (inr (inl refl)))))
+mirror_ends AlreadyImage h = absurd (false≢true h)
+mirror_ends WrongLength h = absurd (false≢true h)
+mirror_ends Unequal h = inr (inr (inr (inr (inr (inr (inl refl))))))
+
+-- and where it has made the second image the first
+pub mirrored_ends : (status : Status) → IsMirrored status → IsOneOf status (Done ∷ SinkFault ∷ [])
+mirrored_ends Done h = inl refl
+mirrored_ends Usage h = absurd (false≢true h)
+mirrored_ends SourceFault h = absurd (false≢true h)
+mirrored_ends SinkFault h = inr (inl refl)
+mirrored_ends DiskFault h = absurd (false≢true h)
+mirrored_ends TooLong h = absurd (false≢true h)
+mirrored_ends NotImage h = absurd (false≢true h)
+mirrored_ends Damaged h = absurd (false≢true h)
+mirrored_ends NoMemory h = absurd (false≢true h)
+mirrored_ends AlreadyImage h = absurd (false≢true h)
+mirrored_ends WrongLength h = absurd (false≢true h)
+mirrored_ends Unequal h = absurd (false≢true h)
 
 -- what may come before a disk is judged
 pub comes_first : (status : Status) → MayComeFirst status → IsOneOf status (DiskFault ∷ NoMemory ∷ [])
@@ -127,6 +164,7 @@ comes_first Damaged h = absurd (false≢true h)
 comes_first NoMemory h = inr (inl refl)
 comes_first AlreadyImage h = absurd (false≢true h)
 comes_first WrongLength h = absurd (false≢true h)
+comes_first Unequal h = absurd (false≢true h)
 
 -- a call ends as is expected, or for what may come before
 pub reported : (expected status : Status) → (status ≡ expected) ⊎ IsUnreported status → IsOneOf status (expected ∷ SinkFault ∷ DiskFault ∷ NoMemory ∷ [])
@@ -162,6 +200,9 @@ may_end_upgrade status is = one_of IsUpgradeStatus (Done ∷ DiskFault ∷ NotIm
 pub may_end_big : (status : Status) → IsOneOf status (Done ∷ SinkFault ∷ DiskFault ∷ NotImage ∷ Damaged ∷ NoMemory ∷ []) → IsBigStatus status
 may_end_big status is = one_of IsBigStatus (Done ∷ SinkFault ∷ DiskFault ∷ NotImage ∷ Damaged ∷ NoMemory ∷ []) (refl, (refl, (refl, (refl, (refl, (refl, tt)))))) status is
 
+pub may_end_mirror : (status : Status) → IsOneOf status mirror_endings → IsMirrorStatus status
+may_end_mirror status is = one_of IsMirrorStatus mirror_endings (refl, (refl, (refl, (refl, (refl, (refl, (refl, tt))))))) status is
+
 pub may_come_first : (status : Status) → IsOneOf status (DiskFault ∷ NoMemory ∷ []) → MayComeFirst status
 may_come_first status is = one_of MayComeFirst (DiskFault ∷ NoMemory ∷ []) (refl, (refl, tt)) status is
 
@@ -186,6 +227,12 @@ is_refused_and_summed status is = one_of (λ (s : Status). IsSummed s → ⊥) (
 pub is_refused_disk : (status : Status) → IsOneOf status (AlreadyImage ∷ WrongLength ∷ []) → IsRefusedDisk status
 is_refused_disk status is = one_of IsRefusedDisk (AlreadyImage ∷ WrongLength ∷ []) (refl, (refl, tt)) status is
 
+pub is_mirrored : (status : Status) → IsOneOf status (Done ∷ SinkFault ∷ []) → IsMirrored status
+is_mirrored status is = one_of IsMirrored (Done ∷ SinkFault ∷ []) (refl, (refl, tt)) status is
+
+pub spares_second : (status : Status) → IsOneOf status (NotImage ∷ Damaged ∷ Unequal ∷ NoMemory ∷ []) → SparesSecond status
+spares_second status is = one_of SparesSecond (NotImage ∷ Damaged ∷ Unequal ∷ NoMemory ∷ []) (refl, (refl, (refl, (refl, tt)))) status is
+
 pub is_between_lines : (status : Status) → IsOneOf status (Done ∷ SourceFault ∷ SinkFault ∷ TooLong ∷ []) → IsBetweenLines status
 is_between_lines status is = one_of IsBetweenLines (Done ∷ SourceFault ∷ SinkFault ∷ TooLong ∷ []) (refl, (refl, (refl, (refl, tt)))) status is
 
@@ -203,6 +250,7 @@ numbers Damaged = refl
 numbers NoMemory = refl
 numbers AlreadyImage = refl
 numbers WrongLength = refl
+numbers Unequal = refl
 
 -- ---- the counts
 
@@ -225,6 +273,7 @@ counts_work Damaged done is = record { one = λ so. absurd (no_work Damaged refl
 counts_work NoMemory done is = record { one = λ so. absurd (no_work NoMemory refl so); none = λ other. is }
 counts_work AlreadyImage done is = record { one = λ so. absurd (no_work AlreadyImage refl so); none = λ other. is }
 counts_work WrongLength done is = record { one = λ so. absurd (no_work WrongLength refl so); none = λ other. is }
+counts_work Unequal done is = record { one = λ so. absurd (no_work Unequal refl so); none = λ other. is }
 
 -- that of `check` and `scrub`
 pub counts_verdict : (status : Status) (done : ℕ) → done ≡ done_of_verdict status → CountsOne (Done ∷ SinkFault ∷ NotImage ∷ Damaged ∷ []) status done
@@ -239,3 +288,11 @@ counts_verdict Damaged done is = record { one = λ so. is; none = λ other. absu
 counts_verdict NoMemory done is = record { one = λ so. absurd (no_verdict NoMemory refl so); none = λ other. is }
 counts_verdict AlreadyImage done is = record { one = λ so. absurd (no_verdict AlreadyImage refl so); none = λ other. is }
 counts_verdict WrongLength done is = record { one = λ so. absurd (no_verdict WrongLength refl so); none = λ other. is }
+counts_verdict Unequal done is = record { one = λ so. absurd (no_verdict Unequal refl so); none = λ other. is }
+
+-- that of a mirror
+pub counts_mirror : (status : Status) (done : ℕ) → done ≡ done_of_mirror status → CountsOne (Done ∷ SinkFault ∷ []) status done
+counts_mirror status done is = record {
+  one = λ so. is ∙ ap one_if (is_mirrored status so);
+  none = λ other. elim (cases_Bool (row status).is_mirrored) [ inl so ↦ absurd (other (mirrored_ends status so)) | inr not ↦ is ∙ ap one_if not ];
+}

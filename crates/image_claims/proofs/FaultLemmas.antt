@@ -10,7 +10,7 @@ use Rattle.script_lines.specs.SourceState.{SourceState}
 use Rattle.script_lines.specs.SinkState.{SinkState}
 use Rattle.image_subcommands.specs.declared.outcome.Outcome.{Outcome}
 use Rattle.image_subcommands.specs.declared.status.Status.{Status}
-use Rattle.image_subcommands.specs.declared.status.Status.TheVariants.{Done, Usage, SourceFault, SinkFault, DiskFault, TooLong, NotImage, Damaged, NoMemory, AlreadyImage, WrongLength}
+use Rattle.image_subcommands.specs.declared.status.Status.TheVariants.{Done, Usage, SourceFault, SinkFault, DiskFault, TooLong, NotImage, Damaged, NoMemory, AlreadyImage, WrongLength, Unequal}
 use Rattle.image_subcommands.specs.CheckCall.{IsCheck}
 use Rattle.image_subcommands.specs.FormatCall.{IsFormat}
 use Rattle.image_subcommands.specs.Outside.{Outside, KeepsOutside}
@@ -38,6 +38,7 @@ disk_counts Damaged old new is = record { raised_so = λ e. absurd (cc); same = 
 disk_counts NoMemory old new is = record { raised_so = λ e. absurd (cc); same = λ other. is }
 disk_counts AlreadyImage old new is = record { raised_so = λ e. absurd (cc); same = λ other. is }
 disk_counts WrongLength old new is = record { raised_so = λ e. absurd (cc); same = λ other. is }
+disk_counts Unequal old new is = record { raised_so = λ e. absurd (cc); same = λ other. is }
 
 pub source_counts : (status : Status) (old new : ℕ) → new ≡ source_faults_by status old → CountsFault status SourceFault old new
 source_counts Done old new is = record { raised_so = λ e. absurd (cc); same = λ other. is }
@@ -51,6 +52,7 @@ source_counts Damaged old new is = record { raised_so = λ e. absurd (cc); same 
 source_counts NoMemory old new is = record { raised_so = λ e. absurd (cc); same = λ other. is }
 source_counts AlreadyImage old new is = record { raised_so = λ e. absurd (cc); same = λ other. is }
 source_counts WrongLength old new is = record { raised_so = λ e. absurd (cc); same = λ other. is }
+source_counts Unequal old new is = record { raised_so = λ e. absurd (cc); same = λ other. is }
 
 pub sink_counts : (status : Status) (old new : ℕ) → new ≡ sink_faults_by status old → CountsFault status SinkFault old new
 sink_counts Done old new is = record { raised_so = λ e. absurd (cc); same = λ other. is }
@@ -64,6 +66,7 @@ sink_counts Damaged old new is = record { raised_so = λ e. absurd (cc); same = 
 sink_counts NoMemory old new is = record { raised_so = λ e. absurd (cc); same = λ other. is }
 sink_counts AlreadyImage old new is = record { raised_so = λ e. absurd (cc); same = λ other. is }
 sink_counts WrongLength old new is = record { raised_so = λ e. absurd (cc); same = λ other. is }
+sink_counts Unequal old new is = record { raised_so = λ e. absurd (cc); same = λ other. is }
 
 pub fails_by_status : (status : Status) (disk disk_new : DiskState) (source source_new : SourceState) (sink sink_new : SinkState) → KeepsOutside status disk disk_new source source_new sink sink_new → FailsByStatus status disk disk_new source source_new sink sink_new
 fails_by_status status disk disk_new source source_new sink sink_new is = record {

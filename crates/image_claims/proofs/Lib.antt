@@ -6,6 +6,7 @@ pub mod FaultLemmas
 pub mod Imaging
 pub mod MachineLemmas
 pub mod MadeTrees
+pub mod Mirroring
 pub mod RequestLemmas
 pub mod Upgrading
 pub mod WordLemmas

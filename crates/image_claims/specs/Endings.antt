@@ -3,7 +3,7 @@ use Rattle.std.specs.Prelude.{◌≡◌, ◌⊎◌, ℕ, List, [], ◌∷◌}
 use Rattle.store_model.specs.Words.{Request}
 use Rattle.store_model.specs.Words.Request.{Format, Run, Check, Scrub, Wipe, Upgrade, Big}
 use Rattle.image_subcommands.specs.declared.status.Status.{Status}
-use Rattle.image_subcommands.specs.declared.status.Status.TheVariants.{Done, Usage, SourceFault, SinkFault, DiskFault, TooLong, NotImage, Damaged, NoMemory, AlreadyImage, WrongLength}
+use Rattle.image_subcommands.specs.declared.status.Status.TheVariants.{Done, Usage, SourceFault, SinkFault, DiskFault, TooLong, NotImage, Damaged, NoMemory, AlreadyImage, WrongLength, Unequal}
 
 -- the status is one of these
 abbrev pub IsOneOf : Status → List Status → Type 0
@@ -28,6 +28,7 @@ number Damaged = 8
 number NoMemory = 9
 number AlreadyImage = 10
 number WrongLength = 11
+number Unequal = 13
 
 -- the statuses by which each subcommand may end
 abbrev pub endings : Request → List Status
@@ -38,6 +39,10 @@ endings Scrub = Done ∷ SinkFault ∷ DiskFault ∷ NotImage ∷ Damaged ∷ No
 endings Wipe = Done ∷ DiskFault ∷ NoMemory ∷ []
 endings Upgrade = Done ∷ DiskFault ∷ NotImage ∷ Damaged ∷ NoMemory ∷ []
 endings (Big number count) = Done ∷ SinkFault ∷ DiskFault ∷ NotImage ∷ Damaged ∷ NoMemory ∷ []
+
+-- those by which a mirror may end
+abbrev pub mirror_endings : List Status
+mirror_endings = Done ∷ SinkFault ∷ DiskFault ∷ NotImage ∷ Damaged ∷ NoMemory ∷ Unequal ∷ []
 
 -- the count `done` is 1 with these statuses, and else 0
 pub record CountsOne (statuses : List Status) (status : Status) (done : ℕ) : Type 0 where

@@ -4,4 +4,5 @@ pub mod Crashes
 pub mod Endings
 pub mod Faults
 pub mod Images
+pub mod Mirrors
 pub mod Upgrades

@@ -1,8 +1,10 @@
-//! The mission's sentences on images: what a keeper of ballots is told of `format`, `check`, `scrub`, `wipe` and `upgrade`,
-//! of words that are not well formed, of failed calls, of statuses and of costs. Each is a proved function that calls the program on
-//! disks, sources and sinks in memory, and whose contract says the sentence of bytes, lines, statuses and trees.
+//! The mission's sentences on images: what a keeper of ballots is told of `format`, `check`, `scrub`, `wipe`,
+//! `upgrade` and `mirror`, of words that are not well formed, of failed calls, of statuses and of costs. Each is a
+//! proved function that calls the program on disks, sources and sinks in memory, and whose contract says the sentence
+//! of bytes, lines, statuses and trees.
 //!
-//! All functions come to the program by `script_claims::serve`. All but one do so on one kind of machine.
+//! All functions but the mirror come to the program by `script_claims::serve`, and all of these but one do so on one
+//! kind of machine. The mirror, which has two disks, comes to it by `top_pair`.
 #![tactic(auto)]
 
 mod call;
@@ -11,6 +13,7 @@ mod costs;
 mod crashes;
 mod faults;
 mod images;
+mod mirrors;
 mod runs;
 mod table;
 mod words;
@@ -20,6 +23,7 @@ pub use costs::{check_at_cost, format_at_cost, scrub_at_cost, upgrade_at_cost, w
 pub use crashes::{Scrubs, format_cut_short, scrub_cut_short, upgrade_cut_short, wipe_cut_short};
 pub use faults::call_anything;
 pub use images::{Remade, format, scrub, upgrade, wipe, wipe_then_format};
+pub use mirrors::{Mirrored, mirror};
 pub use runs::check_behind_runs;
 pub use table::{call_counted, number_of, table_is_spelled_out};
 pub use words::call_unserved;

@@ -5,8 +5,8 @@ ghost use Rattle.store_model.specs.Parameters.{Parameters};
 ghost use Rattle.store_model.specs.Words.{Request, request_of};
 ghost use Rattle.store_model.specs.Words.Request.{Format, Run, Check, Scrub, Wipe, Upgrade, Big};
 ghost use Rattle.image_subcommands.specs.declared.status.Status.{Status};
-ghost use Rattle.image_subcommands.specs.Statuses.{row, IsFormatStatus, IsRunStatus, IsCheckStatus, IsScrubStatus, IsWipeStatus, IsUpgradeStatus, IsBigStatus};
-ghost use Rattle.image_claims.specs.Endings.{IsOneOf, endings, number, CountsWork};
+ghost use Rattle.image_subcommands.specs.Statuses.{row, IsFormatStatus, IsRunStatus, IsCheckStatus, IsScrubStatus, IsWipeStatus, IsUpgradeStatus, IsBigStatus, IsMirrorStatus};
+ghost use Rattle.image_claims.specs.Endings.{IsOneOf, endings, mirror_endings, number, CountsWork};
 
 use crate::call::call;
 use script_claims::{Ended, Machine};
@@ -15,7 +15,7 @@ use store_top::{Status, Words};
 
 /// The number that the program ends with: 0 where all is done, 2 for words that are not well formed, 3, 4 and 5 for the source,
 /// the sink and the disk, 6 for a script that is too long, 7 for no image, 8 for a damaged one, 9 for want of memory, 10 for
-/// an image that is there already, 11 for a wrong length.
+/// an image that is there already, 11 for a wrong length, 13 for images of other parameters or versions.
 pub fn number_of(status: Status) -> u8
     ensures { result ≡ number status }
 {
@@ -32,6 +32,7 @@ pub fn table_is_spelled_out()
     ensures wipe { (status : Status) → IsWipeStatus status ↔ IsOneOf status (endings Wipe) }
     ensures upgrade { (status : Status) → IsUpgradeStatus status ↔ IsOneOf status (endings Upgrade) }
     ensures big { (number count : ℕ) (status : Status) → IsBigStatus status ↔ IsOneOf status (endings (Big number count)) }
+    ensures mirror { (status : Status) → IsMirrorStatus status ↔ IsOneOf status mirror_endings }
 {}
 
 /// A call with well-formed words ends by one of the statuses of its subcommand, and counts its piece of work.

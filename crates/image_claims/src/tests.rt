@@ -7,8 +7,8 @@
 
 use crate::{
     Judged, Remade, Scrubs, call_anything, call_counted, call_unserved, check, check_at_cost,
-    check_behind_runs, check_then_run, format, format_at_cost, format_cut_short, number_of, scrub,
-    scrub_at_cost, scrub_cut_short, upgrade, upgrade_at_cost, upgrade_cut_short, wipe,
+    check_behind_runs, check_then_run, format, format_at_cost, format_cut_short, mirror, number_of,
+    scrub, scrub_at_cost, scrub_cut_short, upgrade, upgrade_at_cost, upgrade_cut_short, wipe,
     wipe_at_cost, wipe_cut_short, wipe_then_format,
 };
 use disk_model::{FailingDisk, MemDisk, StopChoice};
@@ -16,7 +16,7 @@ use script_claims::{Machine, Making};
 use script_lines::{MemSink, MemSource};
 use std::alloc::Global;
 use std::process::Abort;
-use store_top::{Status, Words};
+use store_top::{PairOutcome, Status, Words};
 
 /// The bytes of an image of one slot.
 const LEN: usize = 20_480;
@@ -184,6 +184,28 @@ fn an_image_is_upgraded(rt: HostRuntime) {
     assert!(rt; cut.disk.into_disk().stopped(StopChoice::Old).bytes() == image.as_slice());
 }
 
+#[test]
+fn an_image_is_mirrored(rt: HostRuntime) {
+    let alloc = rt.alloc();
+    let (first, second) = (one_directory(&rt, alloc), empty(&rt, alloc));
+    let from = machine(&rt, alloc, &first, NEVER, "").disk;
+    let Machine { disk, sink, .. } = machine(&rt, alloc, &second, NEVER, "");
+    let PairOutcome {
+        status,
+        done,
+        from,
+        to,
+        sink,
+    } = mirror(alloc, from, disk, sink);
+    assert!(rt; (status == Status::Done) & (done == 1));
+    assert!(rt; sink.written() == "mirror 1\n".as_bytes());
+    assert!(rt; from.into_disk().bytes() == first.as_slice());
+    // One slot differs, and nothing is to be recovered.
+    let disk = to.into_disk();
+    assert!(rt; disk.bytes() == first.as_slice());
+    assert!(rt; (disk.write_count() == 7) & (disk.sync_count() == 6));
+}
+
 /// Looks whether a check of these bytes ends so and prints this.
 fn expect_check(rt: &impl Abort, alloc: Global, bytes: &[u8], status: Status, line: &str) {
     let checking = words(rt, alloc, "check");
@@ -275,6 +297,7 @@ fn statuses_are_told(rt: HostRuntime) {
     );
     assert!(rt; (number_of(counted.status) == 0) & (counted.done == 1));
     assert!(rt; (number_of(Status::Usage) == 2) & (number_of(Status::WrongLength) == 11));
+    assert!(rt; number_of(Status::Unequal) == 13);
 }
 
 #[test]

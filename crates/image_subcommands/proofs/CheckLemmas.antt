@@ -78,7 +78,7 @@ module _ (old : DiskState) (observable : IsObservable old) where
   whole_represents : RepresentsSome old → IsDamaged old → ⊥
   whole_represents some broken = broken.no_tree observable some.tree some.params some.represents
 
-  image_damaged : IsNoImage old → IsDamaged old → ⊥
+  pub image_damaged : IsNoImage old → IsDamaged old → ⊥
   image_damaged none broken = none observable broken.params (broken.has_parameters.named observable)
 
 module _ {D R W : Type 0} (disk_of : D → DiskState) (sink_of : W → SinkState) (before : Outside D R W) where

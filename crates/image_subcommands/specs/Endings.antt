@@ -11,6 +11,8 @@ use Rattle.image_check.specs.declared.fault.AttachFault.{AttachFault}
 use Rattle.image_check.specs.declared.fault.AttachFault.TheVariants as attaching
 use Rattle.image_check.specs.declared.fault.ApplyFault.{ApplyFault}
 use Rattle.image_check.specs.declared.fault.ApplyFault.TheVariants as applying
+use Rattle.mirror_copy.specs.declared.fault.MirrorFault.{MirrorFault}
+use Rattle.mirror_copy.specs.declared.fault.MirrorFault.TheVariants as mirroring
 use Rattle.image_subcommands.specs.declared.status.Status.{Status}
 use Rattle.image_subcommands.specs.declared.status.Status.TheVariants as statuses
 
@@ -42,6 +44,16 @@ abbrev pub apply_status : ApplyFault → Status
 apply_status applying.Disk = statuses.DiskFault
 apply_status applying.NoMemory = statuses.NoMemory
 apply_status applying.Stopped = statuses.DiskFault
+
+-- by one of a mirror, of whichever disk
+abbrev pub mirror_status : MirrorFault → Status
+mirror_status mirroring.FromNotImage = statuses.NotImage
+mirror_status mirroring.FromDamaged = statuses.Damaged
+mirror_status mirroring.ToNotImage = statuses.NotImage
+mirror_status (mirroring.Unequal p q) = statuses.Unequal
+mirror_status mirroring.FromDisk = statuses.DiskFault
+mirror_status mirroring.ToDisk = statuses.DiskFault
+mirror_status mirroring.NoMemory = statuses.NoMemory
 
 -- the status of work that may end so
 abbrev pub status_of : {E : Type 0} → (E → Status) → Result (Unit {0}) E → Status

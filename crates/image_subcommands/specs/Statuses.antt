@@ -2,7 +2,7 @@
 use Rattle.std.specs.Prelude.{◌≡◌, ◌⊎◌, ℕ, Bool, true, false, IsTrue, not, ◌&&◌, if◌then◌else◌}
 use Rattle.store_base.specs.Counts.{raised}
 use Rattle.image_subcommands.specs.declared.status.Status.{Status}
-use Rattle.image_subcommands.specs.declared.status.Status.TheVariants.{Done, Usage, SourceFault, SinkFault, DiskFault, TooLong, NotImage, Damaged, NoMemory, AlreadyImage, WrongLength}
+use Rattle.image_subcommands.specs.declared.status.Status.TheVariants.{Done, Usage, SourceFault, SinkFault, DiskFault, TooLong, NotImage, Damaged, NoMemory, AlreadyImage, WrongLength, Unequal}
 
 -- what failed in a call, if anything did
 pub data Failed : Type 0 where
@@ -23,6 +23,7 @@ pub record Row : Type 0 where
   pub of_wipe : Bool
   pub of_upgrade : Bool
   pub of_big : Bool
+  pub of_mirror : Bool
   -- what failed
   pub failed : Failed
   -- the work was carried out
@@ -33,6 +34,10 @@ pub record Row : Type 0 where
   pub refuses_image : Bool
   -- the disk is not to be formatted
   pub refuses_disk : Bool
+  -- a mirror that ends so has only read its second disk
+  pub spares_second : Bool
+  -- a mirror that ends so has made its second image the first
+  pub is_mirrored : Bool
   -- a run came past the header of its image
   pub is_past_header : Bool
   -- it ended between two lines or after the last, with its disk whole
@@ -53,11 +58,14 @@ with_code code = record {
   of_wipe = false;
   of_upgrade = false;
   of_big = false;
+  of_mirror = false;
   failed = Nothing;
   is_done = false;
   is_judged = false;
   refuses_image = false;
   refuses_disk = false;
+  spares_second = false;
+  is_mirrored = false;
   is_past_header = false;
   is_between_lines = false;
   is_cut_short = false;
@@ -65,17 +73,18 @@ with_code code = record {
 }
 
 abbrev pub row : Status → Row
-row Done = record (with_code 0) { of_format = true; of_run = true; of_check = true; of_scrub = true; of_wipe = true; of_upgrade = true; of_big = true; is_done = true; is_judged = true; is_past_header = true; is_between_lines = true }
+row Done = record (with_code 0) { of_format = true; of_run = true; of_check = true; of_scrub = true; of_wipe = true; of_upgrade = true; of_big = true; of_mirror = true; is_done = true; is_judged = true; is_past_header = true; is_between_lines = true; is_mirrored = true }
 row Usage = with_code 2
 row SourceFault = record (with_code 3) { of_run = true; failed = TheSource; is_past_header = true; is_between_lines = true; is_cut_short = true }
-row SinkFault = record (with_code 4) { of_run = true; of_check = true; of_scrub = true; of_big = true; failed = TheSink; is_judged = true; is_past_header = true; is_between_lines = true }
-row DiskFault = record (with_code 5) { of_format = true; of_run = true; of_check = true; of_scrub = true; of_wipe = true; of_upgrade = true; of_big = true; failed = TheDisk; is_cut_short = true; may_come_first = true }
+row SinkFault = record (with_code 4) { of_run = true; of_check = true; of_scrub = true; of_big = true; of_mirror = true; failed = TheSink; is_judged = true; is_past_header = true; is_between_lines = true; is_mirrored = true }
+row DiskFault = record (with_code 5) { of_format = true; of_run = true; of_check = true; of_scrub = true; of_wipe = true; of_upgrade = true; of_big = true; of_mirror = true; failed = TheDisk; is_cut_short = true; may_come_first = true }
 row TooLong = record (with_code 6) { of_run = true; is_past_header = true; is_between_lines = true; is_cut_short = true }
-row NotImage = record (with_code 7) { of_run = true; of_check = true; of_scrub = true; of_upgrade = true; of_big = true; is_judged = true; refuses_image = true }
-row Damaged = record (with_code 8) { of_run = true; of_check = true; of_scrub = true; of_upgrade = true; of_big = true; is_judged = true; refuses_image = true; is_past_header = true }
-row NoMemory = record (with_code 9) { of_format = true; of_run = true; of_check = true; of_scrub = true; of_wipe = true; of_upgrade = true; of_big = true; is_cut_short = true; may_come_first = true }
+row NotImage = record (with_code 7) { of_run = true; of_check = true; of_scrub = true; of_upgrade = true; of_big = true; of_mirror = true; is_judged = true; refuses_image = true; spares_second = true }
+row Damaged = record (with_code 8) { of_run = true; of_check = true; of_scrub = true; of_upgrade = true; of_big = true; of_mirror = true; is_judged = true; refuses_image = true; is_past_header = true; spares_second = true }
+row NoMemory = record (with_code 9) { of_format = true; of_run = true; of_check = true; of_scrub = true; of_wipe = true; of_upgrade = true; of_big = true; of_mirror = true; is_cut_short = true; may_come_first = true; spares_second = true }
 row AlreadyImage = record (with_code 10) { of_format = true; refuses_disk = true }
 row WrongLength = record (with_code 11) { of_format = true; refuses_disk = true }
+row Unequal = record (with_code 13) { of_mirror = true; spares_second = true }
 
 -- ---- what follows from it
 
@@ -101,6 +110,9 @@ IsUpgradeStatus status = IsTrue (row status).of_upgrade
 abbrev pub IsBigStatus : Status → Type 0
 IsBigStatus status = IsTrue (row status).of_big
 
+abbrev pub IsMirrorStatus : Status → Type 0
+IsMirrorStatus status = IsTrue (row status).of_mirror
+
 -- how answering a script may end, once its image was taken
 abbrev pub IsEndOfRun : Status → Type 0
 IsEndOfRun status = IsTrue ((row status).of_run && not (row status).refuses_image)
@@ -121,6 +133,12 @@ IsRefusedImage status = IsTrue (row status).refuses_image
 
 abbrev pub IsRefusedDisk : Status → Type 0
 IsRefusedDisk status = IsTrue (row status).refuses_disk
+
+abbrev pub SparesSecond : Status → Type 0
+SparesSecond status = IsTrue (row status).spares_second
+
+abbrev pub IsMirrored : Status → Type 0
+IsMirrored status = IsTrue (row status).is_mirrored
 
 abbrev pub IsPastHeader : Status → Type 0
 IsPastHeader status = IsTrue (row status).is_past_header
@@ -144,6 +162,10 @@ done_of_work status = one_if (row status).is_done
 
 abbrev pub done_of_verdict : Status → ℕ
 done_of_verdict status = one_if (row status).is_judged
+
+-- and that of a mirror
+abbrev pub done_of_mirror : Status → ℕ
+done_of_mirror status = one_if (row status).is_mirrored
 
 -- a count of failed calls, behind a call in which that failed: the disk's, the source's and the sink's
 abbrev disk_faults_where : Failed → ℕ → ℕ

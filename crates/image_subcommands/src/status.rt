@@ -1,38 +1,41 @@
-//! How a call of `top` ended.
+//! How a call of `top` or `top_pair` ended.
 
 ghost use Rattle.std.specs.Prelude.{◌≡◌};
-ghost use Rattle.image_subcommands.specs.Statuses.{row, done_of_work, done_of_verdict};
-ghost use Rattle.image_subcommands.specs.Endings.{fault_status, journal_status, line_status, attach_status, apply_status};
+ghost use Rattle.image_subcommands.specs.Statuses.{row, done_of_work, done_of_verdict, done_of_mirror};
+ghost use Rattle.image_subcommands.specs.Endings.{fault_status, journal_status, line_status, attach_status, apply_status, mirror_status};
 ghost use Rattle.image_subcommands.specs.declared.status.Status.TheVariants as statuses;
 
 use gate_journal::JournalFault;
 use image_check::{ApplyFault, AttachFault};
+use mirror_copy::MirrorFault;
 use script_lines::{LineFault, SinkFault};
 use store_base::{DiskFault, Fault};
 
-/// How a call of `top` ended. The program ends with its code.
+/// How a call of `top` or `top_pair` ended. The program ends with its code.
 #[derive(Clone, Copy, Debug, PartialEq, Eq)]
 pub enum Status {
-    /// All was done: the image is formatted, or is found clean, or is scrubbed, or is one of version 2, or the disk is
-    /// wiped, or no line of the script is left and every reply is written, or all commands of a number are carried out
-    /// and summed up.
+    /// All was done: the image is formatted, or is found clean, or is scrubbed, or is one of version 2, or the second
+    /// image is the first, or the disk is wiped, or no line of the script is left and every reply is written, or all
+    /// commands of a number are carried out and summed up.
     Done,
     /// The words are not served. Nothing was read, written or printed.
     Usage,
     /// A take from the source failed. The image is the layout of the tree after the answered lines.
     SourceFault,
     /// A put into the sink failed. With `run` the image is the layout of the tree after the answered lines, with `big`
-    /// that of the tree after all commands; with `scrub` it is scrubbed, where scrubbing leaves the layout of a tree.
+    /// that of the tree after all commands; with `scrub` it is scrubbed, where scrubbing leaves the layout of a tree;
+    /// with a mirror the second image is the first.
     SinkFault,
-    /// A read, a write or a sync of the disk failed.
+    /// A read, a write or a sync of a disk failed.
     DiskFault,
     /// As many bytes were taken as a script may have, and one more came. The image is the layout of the tree
     /// after the answered lines.
     TooLong,
-    /// The disk's header, as recovery would leave it, is that of no image of its length. Nothing was written.
+    /// The disk's header, as recovery would leave it, is that of no image of its length; with a mirror, that of either
+    /// disk. Nothing was written.
     NotImage,
-    /// What recovery would leave is the layout of no tree, or for `scrub` what scrubbing would leave. Nothing was
-    /// written.
+    /// What recovery would leave is the layout of no tree, or for `scrub` what scrubbing would leave; with a mirror, so it
+    /// is of the first image. Nothing was written.
     Damaged,
     /// Memory ran out.
     NoMemory,
@@ -40,6 +43,8 @@ pub enum Status {
     AlreadyImage,
     /// The disk has not the length of the image. Nothing was written.
     WrongLength,
+    /// The images of a mirror have other parameters, or are of other versions of the format. Nothing was written.
+    Unequal,
 }
 
 impl Status {
@@ -59,6 +64,7 @@ impl Status {
             Status::NoMemory => 9,
             Status::AlreadyImage => 10,
             Status::WrongLength => 11,
+            Status::Unequal => 13,
         }
     }
 
@@ -78,6 +84,16 @@ impl Status {
     {
         match self {
             Status::Done | Status::NotImage | Status::Damaged | Status::SinkFault => 1,
+            _ => 0,
+        }
+    }
+
+    /// How many images a mirror made equal to another: one or none.
+    pub(crate) fn done_of_mirror(self) -> u64
+        ensures { result ≡ done_of_mirror self }
+    {
+        match self {
+            Status::Done | Status::SinkFault => 1,
             _ => 0,
         }
     }
@@ -154,6 +170,20 @@ impl From<ApplyFault> for Status {
             // what stopped a store was its disk
             ApplyFault::Disk | ApplyFault::Stopped => Status::DiskFault,
             ApplyFault::NoMemory => Status::NoMemory,
+        }
+    }
+}
+
+impl From<MirrorFault> for Status {
+    ghost from_gives = { λ fault status. status ≡ mirror_status fault };
+
+    fn from(fault: MirrorFault) -> Self {
+        match fault {
+            MirrorFault::FromNotImage | MirrorFault::ToNotImage => Status::NotImage,
+            MirrorFault::FromDamaged => Status::Damaged,
+            MirrorFault::Unequal { .. } => Status::Unequal,
+            MirrorFault::FromDisk | MirrorFault::ToDisk => Status::DiskFault,
+            MirrorFault::NoMemory => Status::NoMemory,
         }
     }
 }

@@ -33,6 +33,7 @@ big_way statuses.Damaged runs image whole = absurd (whole refl)
 big_way statuses.NoMemory runs image whole = inr (inr refl)
 big_way statuses.AlreadyImage runs image whole = absurd (false≢true runs)
 big_way statuses.WrongLength runs image whole = absurd (false≢true runs)
+big_way statuses.Unequal runs image whole = absurd (false≢true runs)
 
 between : (status : Status) → IsSummedUp status → IsBetweenLines status
 between status (inl e) = subst IsBetweenLines (sym e) refl

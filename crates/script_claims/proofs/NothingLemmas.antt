@@ -26,6 +26,7 @@ comes_first statuses.Damaged h = absurd (false≢true h)
 comes_first statuses.NoMemory h = inr refl
 comes_first statuses.AlreadyImage h = absurd (false≢true h)
 comes_first statuses.WrongLength h = absurd (false≢true h)
+comes_first statuses.Unequal h = absurd (false≢true h)
 
 refused_run : (status : Status) → IsRunStatus status → (IsBetweenLines status → ⊥) → (status ≡ statuses.NotImage) ⊎ ((status ≡ statuses.Damaged) ⊎ ComesFirst status)
 refused_run statuses.Done runs never = absurd (never refl)
@@ -39,6 +40,7 @@ refused_run statuses.Damaged runs never = inr (inl refl)
 refused_run statuses.NoMemory runs never = inr (inr (inr refl))
 refused_run statuses.AlreadyImage runs never = absurd (false≢true runs)
 refused_run statuses.WrongLength runs never = absurd (false≢true runs)
+refused_run statuses.Unequal runs never = absurd (false≢true runs)
 
 refused_big : (status : Status) → IsBigStatus status → (IsBetweenLines status → ⊥) → (status ≡ statuses.NotImage) ⊎ ((status ≡ statuses.Damaged) ⊎ ComesFirst status)
 refused_big statuses.Done runs never = absurd (never refl)
@@ -52,6 +54,7 @@ refused_big statuses.Damaged runs never = inr (inl refl)
 refused_big statuses.NoMemory runs never = inr (inr (inr refl))
 refused_big statuses.AlreadyImage runs never = absurd (false≢true runs)
 refused_big statuses.WrongLength runs never = absurd (false≢true runs)
+refused_big statuses.Unequal runs never = absurd (false≢true runs)
 
 -- an image that represents no tree is damaged
 damaged_with : (disk : Disk) (p : Parameters) → HasNoTree (bytes_of disk) → IsImageWith (bytes_of disk) p → IsDamaged (meaning disk)

@@ -34,6 +34,7 @@ way_of statuses.Damaged runs image whole = absurd (whole refl)
 way_of statuses.NoMemory runs image whole = inr (inr (inr (inr refl)))
 way_of statuses.AlreadyImage runs image whole = absurd (false≢true runs)
 way_of statuses.WrongLength runs image whole = absurd (false≢true runs)
+way_of statuses.Unequal runs image whole = absurd (false≢true runs)
 
 pub between : (status : Status) → EndsWhole status → IsBetweenLines status
 between status (inl e) = subst IsBetweenLines (sym e) refl

@@ -47,6 +47,7 @@ format_cut statuses.Damaged is other = absurd (false≢true is)
 format_cut statuses.NoMemory is other = inr (inl refl)
 format_cut statuses.AlreadyImage is other = inr (inr (inl refl))
 format_cut statuses.WrongLength is other = inr (inr (inr refl))
+format_cut statuses.Unequal is other = absurd (false≢true is)
 
 -- ---- the counts of failed calls
 

@@ -144,6 +144,7 @@ upgrade_cut statuses.Damaged ends image whole other = absurd (whole refl)
 upgrade_cut statuses.NoMemory ends image whole other = inr refl
 upgrade_cut statuses.AlreadyImage ends image whole other = absurd (false≢true ends)
 upgrade_cut statuses.WrongLength ends image whole other = absurd (false≢true ends)
+upgrade_cut statuses.Unequal ends image whole other = absurd (false≢true ends)
 
 pub upgrade_stops : (t : Tree) (p : Parameters) (disk : Disk) (source : SourceMemory) (sink : SinkMemory) (after : Ended) → IsUpgrade meaning (outside_of disk source sink) after
     → KeepsOutside after.status (meaning disk) (meaning after.disk) (source_state source) (source_state after.source) (sink_state sink) (sink_state after.sink)

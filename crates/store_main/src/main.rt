@@ -1,6 +1,9 @@
 //! The program `hstore IMAGE WORDS..`: opens the image's file, keeps other programs off it, and carries out the words
 //! on it, with standard input as the script and standard output for the replies. It prints nothing else.
 //!
+//! The words `mirror OTHER` need two files: the image's, which is only read, and that at the path OTHER, which becomes
+//! equal to it.
+//!
 //! That a file, its lock, standard input and standard output do what is asked of them is assumed here. All else is
 //! the library's.
 #![tactic(auto)]
@@ -11,12 +14,17 @@ use std::alloc::Global;
 use std::fs::File;
 use std::io::ErrorKind;
 use std::os::fd::AsRawFd;
+use std::os::unix::fs::MetadataExt;
 use std::process::ExitCode;
 use std::{env, fs, io};
 use store_base::NoMemory;
-use store_top::{Access, FileRequest, Outcome, Status, Wanted, Words, top, wanted_file};
+use store_top::{
+    Access, FileRequest, Outcome, PairOutcome, Status, Wanted, Words, pair_words, top, top_pair,
+    wanted_file,
+};
 
-/// The status where the file cannot be opened, made or locked, or what stands at the path is no file.
+/// The status where a file cannot be opened, made or locked, or what stands at a path is no file, or where two paths
+/// lead to one file.
 const NO_FILE: u8 = 12;
 
 /// The descriptor of standard error, the last of the standard streams.
@@ -124,6 +132,59 @@ fn call_top(rt: &HostRuntime, words: &Words, disk: FileDisk) -> Status {
     status
 }
 
+/// The status that the program ends with where the words are for one file, that of the image.
+fn image_code(rt: &HostRuntime, image: &str, words: &Words) -> u8 {
+    let FileRequest { wanted, access } = match wanted_file(words) {
+        Ok(file) => file,
+        Err(NoMemory) => return Status::NoMemory.code(),
+    };
+    let opened = match wanted {
+        Wanted::Usage => return Status::Usage.code(),
+        Wanted::Existing => open(rt, image, access),
+        Wanted::Fresh(len) => open_or_make(rt, image, len),
+    };
+    match opened.and_then(disk_of) {
+        Ok(disk) => call_top(rt, words, disk).code(),
+        Err(_) => NO_FILE,
+    }
+}
+
+/// The path of the other image, where the words ask for a mirror.
+fn other_of(words: &Words) -> Option<&str> {
+    if pair_words(words) {
+        words.get(1)
+    } else {
+        None
+    }
+}
+
+/// Whether two open files are one, by whatever paths they were opened.
+fn are_one(first: &File, second: &File) -> io::Result<bool> {
+    let (first, second) = (first.metadata()?, second.metadata()?);
+    Ok(first.dev() == second.dev() && first.ino() == second.ino())
+}
+
+/// Opens the file of an image, only to be read, and that of the other one, which has to be there. Two paths to one file
+/// are an error. The second lock is refused there already, but where the file's system gives a process both.
+fn open_pair(rt: &HostRuntime, image: &str, other: &str) -> io::Result<(FileDisk, FileDisk)> {
+    let from = open(rt, image, Access::Reading)?;
+    let to = open(rt, other, Access::Writing)?;
+    if are_one(&from, &to)? {
+        return Err(io::Error::from(ErrorKind::InvalidInput));
+    }
+    Ok((disk_of(from)?, disk_of(to)?))
+}
+
+/// The status that the program ends with where the other image is to become equal to the image.
+fn mirror_code(rt: &HostRuntime, image: &str, other: &str) -> u8 {
+    let Ok((from, to)) = open_pair(rt, image, other) else {
+        return NO_FILE;
+    };
+    let sink = StdSink::new(rt.stdout());
+    let PairOutcome { status, .. } = top_pair(rt.alloc(), from, to, sink);
+    status.code()
+}
+
 /// The status that the program ends with.
 fn exit_code(rt: &HostRuntime) -> u8 {
     let CommandLine { image, words } = match command_line(rt) {
@@ -131,18 +192,9 @@ fn exit_code(rt: &HostRuntime) -> u8 {
         Err(BadCommandLine::Usage) => return Status::Usage.code(),
         Err(BadCommandLine::NoMemory) => return Status::NoMemory.code(),
     };
-    let FileRequest { wanted, access } = match wanted_file(&words) {
-        Ok(file) => file,
-        Err(NoMemory) => return Status::NoMemory.code(),
-    };
-    let opened = match wanted {
-        Wanted::Usage => return Status::Usage.code(),
-        Wanted::Existing => open(rt, image.as_str(), access),
-        Wanted::Fresh(len) => open_or_make(rt, image.as_str(), len),
-    };
-    match opened.and_then(disk_of) {
-        Ok(disk) => call_top(rt, &words, disk).code(),
-        Err(_) => NO_FILE,
+    match other_of(&words) {
+        Some(other) => mirror_code(rt, image.as_str(), other),
+        None => image_code(rt, image.as_str(), &words),
     }
 }
 

@@ -290,6 +290,7 @@ all_answered statuses.NotImage done t p disk disk_new source source_new sink sin
 all_answered statuses.Damaged done t p disk disk_new source source_new sink sink_new ends outside limit replies within disk_whole source_whole sink_whole = absurd (false≢true ends)
 all_answered statuses.AlreadyImage done t p disk disk_new source source_new sink sink_new ends outside limit replies within disk_whole source_whole sink_whole = absurd (false≢true ends)
 all_answered statuses.WrongLength done t p disk disk_new source source_new sink sink_new ends outside limit replies within disk_whole source_whole sink_whole = absurd (false≢true ends)
+all_answered statuses.Unequal done t p disk disk_new source source_new sink sink_new ends outside limit replies within disk_whole source_whole sink_whole = absurd (false≢true ends)
 
 -- a reader as it is made
 pub new_reader_is_unread : {R : Type 0} (reader : LineState R) (source : R) → reader ≡ record { source = source; held = []; taken = 0; limit = script_limit; is_ended = false; is_live = true; text = [] } → IsUnread reader

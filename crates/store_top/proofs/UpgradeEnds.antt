@@ -1,5 +1,5 @@
 -- How `upgrade` ends: with no store, or behind the upgrade of one.
-use Rattle.std.proofs.Common.{◌≡◌, ◌⊎◌, ℕ, ◌+◌, Bool, false, List, Result, Ok, Err, OnOk, IsErrOf, refl, sym, ap, ◌∙◌, subst, arith, inl, inr, ⊎_elim}
+use Rattle.std.proofs.Common.{◌≡◌, ◌⊎◌, ℕ, ◌+◌, Bool, List, Result, Ok, Err, OnOk, IsErrOf, refl, sym, ap, ◌∙◌, subst, arith, inl, inr, ⊎_elim}
 use Rattle.std.proofs.lemmas.Bool.{false≢true}
 use Rattle.store_model.specs.declared.version.Version.{Version}
 use Rattle.store_model.specs.declared.version.Version.TheVariants.{One, Two}
@@ -29,7 +29,6 @@ use Rattle.store_core.specs.TableChanges.{slots_upgraded}
 use Rattle.store_core.proofs.CostLemmas.{made_none, made_reading, made_then, made_as, at_most_then, at_most}
 use Rattle.store_core.proofs.DiskLemmas.{keeps_then}
 use Rattle.store_core.proofs.Unchanged.{standing_represents, stands_reading}
-use Rattle.image_subcommands.specs.declared.status.Status.{Status}
 use Rattle.image_subcommands.specs.declared.status.Status.TheVariants as statuses
 use Rattle.image_subcommands.specs.Endings.{attach_status, apply_status, status_of}
 use Rattle.image_subcommands.specs.Outside.{Outside, outside_of, KeepsOutside}

@@ -16,5 +16,5 @@ mod upgrade;
 mod work;
 
 pub use call::top;
-pub use command_line::{Access, FileRequest, Wanted, Words, wanted_file, wanted_len};
-pub use image_subcommands::{Outcome, Status};
+pub use command_line::{Access, FileRequest, Wanted, Words, pair_words, wanted_file, wanted_len};
+pub use image_subcommands::{Outcome, PairOutcome, Status, top_pair};

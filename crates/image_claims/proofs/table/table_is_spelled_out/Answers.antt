@@ -1,4 +1,4 @@
-use Rattle.image_claims.proofs.EndingLemmas.{numbers, format_ends, run_ends, check_ends, scrub_ends, wipe_ends, upgrade_ends, big_ends, may_end_format, may_end_run, may_end_check, may_end_scrub, may_end_wipe, may_end_upgrade, may_end_big}
+use Rattle.image_claims.proofs.EndingLemmas.{numbers, format_ends, run_ends, check_ends, scrub_ends, wipe_ends, upgrade_ends, big_ends, mirror_ends, may_end_format, may_end_run, may_end_check, may_end_scrub, may_end_wipe, may_end_upgrade, may_end_big, may_end_mirror}
 use Rattle.image_claims.proofs.table.table_is_spelled_out.Goals as goal
 
 pub returns-clause-numbers : goal.returns-clause-numbers
@@ -24,3 +24,6 @@ returns-clause-upgrade c status = (upgrade_ends status, may_end_upgrade status)
 
 pub returns-clause-big : goal.returns-clause-big
 returns-clause-big c number count status = (big_ends status, may_end_big status)
+
+pub returns-clause-mirror : goal.returns-clause-mirror
+returns-clause-mirror c status = (mirror_ends status, may_end_mirror status)

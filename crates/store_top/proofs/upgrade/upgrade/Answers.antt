@@ -1,7 +1,6 @@
 use Rattle.std.proofs.Common.{sym, subst}
 use Rattle.image_subcommands.specs.declared.status.Status.{Status}
-use Rattle.image_subcommands.specs.Outside.{outside_of, KeepsOutside}
-use Rattle.image_subcommands.specs.Statuses.{done_of_work}
+use Rattle.image_subcommands.specs.Outside.{outside_of}
 use Rattle.store_top.specs.UpgradeCall.{IsUpgrade}
 use Rattle.store_top.proofs.UpgradeEnds.{upgrade_unopened, upgrade_answered, upgrade_outside}
 use Rattle.store_top.proofs.upgrade.upgrade.Goals as goal

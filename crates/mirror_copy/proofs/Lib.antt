@@ -1,0 +1,4 @@
+mod Becoming
+mod CompareLemmas
+mod Mirroring
+mod Rewriting

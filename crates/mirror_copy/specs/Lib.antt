@@ -1,0 +1,4 @@
+pub mod Differing
+pub mod Faults
+pub mod MirrorCalls
+pub mod Pairs
