@@ -13,11 +13,11 @@ use Rattle.store_model.specs.Lists.{same_bytes}
 use Rattle.store_model.specs.Grammar.{◌>>=◌, number_limit, number_of, on_word}
 use Rattle.store_model.specs.Parameters.{slots_limit, height_limit}
 use Rattle.store_model.specs.Words.{Request, commands_limit, kind_of_word, number_in, request_of, seed_of_word, version_of_word}
-use Rattle.store_model.specs.Words.Request.{Format, Run, Check, Scrub, Wipe, Upgrade, Big}
+use Rattle.store_model.specs.Words.Request.{Format, Run, Session, Check, Scrub, Wipe, Upgrade, Big}
 use Rattle.store_model.proofs.ListsLemmas.{first_true}
 use Rattle.command_line.specs.Line.{HoldsLine, IsLine, TakesDraws, format_word}
 use Rattle.command_line.proofs.LineLemmas.{some_same}
-use Rattle.command_line.proofs.TakenLines.{IsTaken, run_taken, check_taken, scrub_taken, wipe_taken, upgrade_taken, big_taken, format_taken}
+use Rattle.command_line.proofs.TakenLines.{IsTaken, run_taken, session_taken, check_taken, scrub_taken, wipe_taken, upgrade_taken, big_taken, format_taken}
 use Rattle.command_line.proofs.ValueLemmas.{draw_names, draw_passes, draw_plain, number_limited, number_plain, number_passes, range_passes, range_plain, seed_plain}
 
 -- where one of two words was found, it is the first, or the other was found
@@ -47,12 +47,13 @@ word_of_version word version e =
     (by_word word (codes "format") _ _ version e)
 
 module _ (draws : Version → ValueParser) (takes : (version : Version) → TakesDraws (draws version)) where
-  single : (word : Text) (request : Request) → on_word word (codes "run") (Some Run) (on_word word (codes "check") (Some Check) (on_word word (codes "scrub") (Some Scrub) (on_word word (codes "wipe") (Some Wipe) (on_word word (codes "upgrade") (Some Upgrade) None)))) ≡ Some request
+  single : (word : Text) (request : Request) → on_word word (codes "run") (Some Run) (on_word word (codes "session") (Some Session) (on_word word (codes "check") (Some Check) (on_word word (codes "scrub") (Some Scrub) (on_word word (codes "wipe") (Some Wipe) (on_word word (codes "upgrade") (Some Upgrade) None))))) ≡ Some request
       → IsTaken draws (word ∷ [])
   single word request e =
       let taken = λ (name : Text) (is : word ≡ name) (so : IsTaken draws (name ∷ [])). subst (λ w. IsTaken draws (w ∷ [])) (sym is) so in
       ⊎_elim (λ run. taken (codes "run") run.0 (run_taken draws))
-      (λ not_run. ⊎_elim (λ check. taken (codes "check") check.0 (check_taken draws))
+      (λ not_run. ⊎_elim (λ session. taken (codes "session") session.0 (session_taken draws))
+      (λ not_session. ⊎_elim (λ check. taken (codes "check") check.0 (check_taken draws))
       (λ not_check. ⊎_elim (λ scrub. taken (codes "scrub") scrub.0 (scrub_taken draws))
       (λ not_scrub. ⊎_elim (λ wipe. taken (codes "wipe") wipe.0 (wipe_taken draws))
       (λ not_wipe. ⊎_elim (λ upgrade. taken (codes "upgrade") upgrade.0 (upgrade_taken draws))
@@ -60,7 +61,8 @@ module _ (draws : Version → ValueParser) (takes : (version : Version) → Take
       (by_word word (codes "upgrade") _ _ request not_wipe))
       (by_word word (codes "wipe") _ _ request not_scrub))
       (by_word word (codes "scrub") _ _ request not_check))
-      (by_word word (codes "check") _ _ request not_run))
+      (by_word word (codes "check") _ _ request not_session))
+      (by_word word (codes "session") _ _ request not_run))
       (by_word word (codes "run") _ _ request e)
 
   big : (number count : Text) (request : Request) → (number_of number >>= λ n. number_in 1 commands_limit count >>= λ k. Some (Big n k)) ≡ Some request → IsTaken draws (codes "big" ∷ number ∷ count ∷ [])

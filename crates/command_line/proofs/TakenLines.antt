@@ -77,6 +77,9 @@ module _ (draws : Version → ValueParser) (name : Text)
 pub run_taken : (draws : Version → ValueParser) → IsTaken draws (codes "run" ∷ [])
 run_taken draws = single_taken draws (codes "run") refl refl refl refl
 
+pub session_taken : (draws : Version → ValueParser) → IsTaken draws (codes "session" ∷ [])
+session_taken draws = single_taken draws (codes "session") refl refl refl refl
+
 pub check_taken : (draws : Version → ValueParser) → IsTaken draws (codes "check" ∷ [])
 check_taken draws = single_taken draws (codes "check") refl refl refl refl
 

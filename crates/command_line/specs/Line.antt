@@ -41,8 +41,8 @@ big_subcommand = without_help (codes "big") (argument (codes "NUMBER") (parsers.
 -- the subcommands, by the parser of each DRAW
 abbrev pub subcommands_of : (Version → ValueParser) → List Shape
 subcommands_of draws =
-    format_subcommand One (draws One) ∷ format_subcommand Two (draws Two) ∷ without_help (codes "run") [] ∷ without_help (codes "check") [] ∷ without_help (codes "scrub") [] ∷ without_help (codes "wipe") []
-    ∷ without_help (codes "upgrade") [] ∷ big_subcommand ∷ []
+    format_subcommand One (draws One) ∷ format_subcommand Two (draws Two) ∷ without_help (codes "run") [] ∷ without_help (codes "session") [] ∷ without_help (codes "check") []
+    ∷ without_help (codes "scrub") [] ∷ without_help (codes "wipe") [] ∷ without_help (codes "upgrade") [] ∷ big_subcommand ∷ []
 
 -- the command line with no subcommands: one is required, and the program's name is not among them
 abbrev pub without_subcommands : App
@@ -77,6 +77,7 @@ abbrev pub IsSubcommandOf : Subcommand → Command → Type 0
 IsSubcommandOf subcommands.Format = IsFormatSubcommand One
 IsSubcommandOf subcommands.Format2 = IsFormatSubcommand Two
 IsSubcommandOf subcommands.Run = IsSubcommand (without_help (codes "run") [])
+IsSubcommandOf subcommands.Session = IsSubcommand (without_help (codes "session") [])
 IsSubcommandOf subcommands.Check = IsSubcommand (without_help (codes "check") [])
 IsSubcommandOf subcommands.Scrub = IsSubcommand (without_help (codes "scrub") [])
 IsSubcommandOf subcommands.Wipe = IsSubcommand (without_help (codes "wipe") [])

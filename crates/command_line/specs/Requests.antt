@@ -3,7 +3,7 @@ use Rattle.std.specs.Prelude.{◌≡◌, ◌≤◌, List, [], ◌∷◌, Option,
 use Rattle.clap.specs.Walk.{Text}
 use Rattle.store_model.specs.Parameters.{IsParameters, image_len}
 use Rattle.store_model.specs.Words.{Request, commands_limit}
-use Rattle.store_model.specs.Words.Request.{Format, Run, Check, Scrub, Wipe, Upgrade, Big}
+use Rattle.store_model.specs.Words.Request.{Format, Run, Session, Check, Scrub, Wipe, Upgrade, Big}
 use Rattle.command_line.specs.Line.{format_word}
 use Rattle.command_line.specs.declared.request.Request as own
 use Rattle.command_line.specs.declared.request.Request.TheVariants as own_requests
@@ -16,6 +16,7 @@ use Rattle.command_line.specs.declared.image_file.Wanted.TheVariants.{Usage, Exi
 abbrev pub request_seen : own.Request → Request
 request_seen (own_requests.Format p) = Format p
 request_seen own_requests.Run = Run
+request_seen own_requests.Session = Session
 request_seen own_requests.Check = Check
 request_seen own_requests.Scrub = Scrub
 request_seen own_requests.Wipe = Wipe
@@ -26,6 +27,7 @@ request_seen (own_requests.Big number count) = Big number count
 abbrev pub IsInRange : own.Request → Type 0
 IsInRange (own_requests.Format p) = IsParameters p
 IsInRange own_requests.Run = Unit {0}
+IsInRange own_requests.Session = Unit {0}
 IsInRange own_requests.Check = Unit {0}
 IsInRange own_requests.Scrub = Unit {0}
 IsInRange own_requests.Wipe = Unit {0}
@@ -42,6 +44,7 @@ words_read (lines.Single name) = name.now ∷ []
 abbrev pub wanted_by : Request → Wanted
 wanted_by (Format p) = Fresh (image_len p.slots)
 wanted_by Run = Existing
+wanted_by Session = Existing
 wanted_by Check = Existing
 wanted_by Scrub = Existing
 wanted_by Wipe = Existing

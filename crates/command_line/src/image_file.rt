@@ -46,6 +46,7 @@ impl Request {
         match self {
             Request::Format(params) => Wanted::Fresh(image_len(params.slots())),
             Request::Run
+            | Request::Session
             | Request::Check
             | Request::Scrub
             | Request::Wipe
@@ -62,6 +63,7 @@ impl Request {
             Request::Check => Access::Reading,
             Request::Format(_)
             | Request::Run
+            | Request::Session
             | Request::Scrub
             | Request::Wipe
             | Request::Upgrade

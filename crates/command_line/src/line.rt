@@ -8,7 +8,7 @@ ghost use Rattle.clap.specs.declared.builder.command.Command.TheViews.{out-Comma
 ghost use Rattle.command_line.specs.Building.{AddsArguments, AddsSubcommand, IsBuilt, rule_told};
 ghost use Rattle.command_line.specs.Line.{IsLine, IsSubcommandOf, without_help, without_subcommands};
 
-use self::Subcommand::{Big, Check, Format, Format2, Run, Scrub, Upgrade, Wipe};
+use self::Subcommand::{Big, Check, Format, Format2, Run, Scrub, Session, Upgrade, Wipe};
 use clap::builder::ValueParser;
 use clap::{Arg, Command};
 use std::alloc::{AllocError, Global};
@@ -26,6 +26,8 @@ pub enum Subcommand {
     Format2,
     /// `run`.
     Run,
+    /// `session`.
+    Session,
     /// `check`.
     Check,
     /// `scrub`.
@@ -84,7 +86,9 @@ static BIG: [Argument; 2] = [
 ];
 
 /// The subcommands, in the order of the help.
-static SUBCOMMANDS: [Subcommand; 8] = [Format, Format2, Run, Check, Scrub, Wipe, Upgrade, Big];
+static SUBCOMMANDS: [Subcommand; 9] = [
+    Format, Format2, Run, Session, Check, Scrub, Wipe, Upgrade, Big,
+];
 
 /// What `clap` has as the argument, which is required and has one value, which passes the parser.
 fn arg_of<'a>(alloc: Global, argument: &'static Argument) -> Arg<'a>
@@ -159,6 +163,16 @@ const RUN_NOTES: &str =
     space and digest.\n\
     What a line changes is safe in the file before its reply is printed.";
 
+/// What `session` does.
+const SESSION_ABOUT: &str = "Commits changes in groups, each whole or not at all.";
+
+/// What is to be known of `session` besides.
+const SESSION_NOTES: &str =
+    "It answers lines on standard input: begin, ask, stage, commit and drop. A commit carries out together\n\
+    what its session staged, where each question of the session still has its answer.\n\
+    A question sees the tree as it was last committed, and not what its session staged.\n\
+    What a commit changes is safe in the file before its reply is printed.";
+
 /// What `check` does.
 const CHECK_ABOUT: &str = "Tells what the file is, and changes nothing.";
 
@@ -210,6 +224,7 @@ pub fn command_of<'a>(alloc: Global, subcommand: Subcommand) -> Result<Command<'
             &FORMAT,
         ),
         Subcommand::Run => subcommand_with(alloc, "run", RUN_ABOUT, RUN_NOTES, &[]),
+        Subcommand::Session => subcommand_with(alloc, "session", SESSION_ABOUT, SESSION_NOTES, &[]),
         Subcommand::Check => subcommand_with(alloc, "check", CHECK_ABOUT, CHECK_NOTES, &[]),
         Subcommand::Scrub => subcommand_with(alloc, "scrub", SCRUB_ABOUT, SCRUB_NOTES, &[]),
         Subcommand::Wipe => subcommand_with(alloc, "wipe", WIPE_ABOUT, WIPE_NOTES, &[]),

@@ -21,6 +21,8 @@ pub enum Request {
     Format(Params),
     /// Answers a script.
     Run,
+    /// Answers the lines of sessions.
+    Session,
     /// Tells what the image is.
     Check,
     /// Recovers the image, and makes its free slots zero.
@@ -40,6 +42,7 @@ pub(crate) fn single_request(name: &str) -> Option<Request>
 {
     match name {
         "run" => Some(Request::Run),
+        "session" => Some(Request::Session),
         "check" => Some(Request::Check),
         "scrub" => Some(Request::Scrub),
         "wipe" => Some(Request::Wipe),

@@ -5,7 +5,7 @@ use Rattle.store_model.specs.Parameters.{Parameters}
 use Rattle.store_model.specs.Trees.{Tree}
 use Rattle.store_model.specs.Commands.{line}
 use Rattle.store_model.specs.Images.{layout, Represents}
-use Rattle.store_model.specs.Scripts.{lines, tree_after}
+use Rattle.store_model.specs.Scripts.{lines, replies, tree_after}
 use Rattle.store_model.proofs.TreesLemmasLayouts.{images_tell}
 use Rattle.disk_model.specs.DiskState.{DiskState, IsObservable, IsSound}
 use Rattle.disk_model.proofs.Crashes.{LeavesOnly-weaken, LeavesOnly-trans}
@@ -25,7 +25,7 @@ use Rattle.image_subcommands.specs.Outside.{Outside}
 use Rattle.image_subcommands.specs.Reports.{report_text, verdict_status, Reports, EndsByVerdict}
 use Rattle.image_subcommands.specs.Statuses.{IsJudged}
 use Rattle.store_top.specs.RunCall.{IsRun}
-use Rattle.store_top.proofs.RunLemmas.{length-replies}
+use Rattle.store_top.proofs.RunLemmas.{length-run_texts, texts_joined}
 use Rattle.image_claims.specs.Endings.{IsOneOf}
 use Rattle.image_claims.specs.Checks.{clean_line, IsNone, IsBroken, IsSome, IsLineOn, JudgesExactly, ChecksExactly, AgreesWithRun, AnswersByOneTree, LeavesAlone}
 use Rattle.image_claims.proofs.EndingLemmas.{reported, found, run_ends, is_verdict, is_unjudged, is_between_lines}
@@ -232,9 +232,9 @@ module _ {D R W : Type 0} (disk_of : D → DiskState) (source_of : R → SourceS
         params = p;
         represents = some.represents;
         no_other = λ u q is. images_tell (disk_of before.disk).bytes u t q p is some.represents;
-        replied = λ done. (runs.replies.written sink_told).written_is ∙ ap (λ (text : List ℕ). (sink_of run_sink).written ++ text) ((runs.replies.written sink_told).promised.all done);
+        replied = λ done. (runs.replies.written sink_told).written_is ∙ ap (λ (text : List ℕ). (sink_of run_sink).written ++ text) ((runs.replies.written sink_told).promised.all done ∙ texts_joined (replies t (lines script) p));
         left = λ done.
-            let all : after.done ≡ length (lines script) = (runs.replies.counted.all done).1 ∙ length-replies t (lines script) p in
+            let all : after.done ≡ length (lines script) = (runs.replies.counted.all done).1 ∙ length-run_texts t script p in
             (runs.image.between (is_between_lines after.status (inl done))).layout_is
             ∙ ap (λ (k : ℕ). layout (tree_after t (take k (lines script)) p) p) all ∙ ap (λ (texts : List (List ℕ)). layout (tree_after t texts p) p) (take-length (lines script));
       } in

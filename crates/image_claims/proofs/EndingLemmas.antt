@@ -2,11 +2,12 @@
 use Rattle.std.proofs.Common.{◌≡◌, ◌⊎◌, List, [], ◌∷◌, ℕ, false, IsTrue, refl, sym, ap, subst, ◌∙◌, inl, inr, ⊎_elim}
 use Rattle.std.specs.List.{AllByRecursion}
 use Rattle.std.proofs.lemmas.Bool.{false≢true, cases_Bool}
-use Rattle.store_model.specs.Words.Request.{Run, Check, Scrub, Wipe, Upgrade}
+use Rattle.store_model.specs.Words.Request.{Run, Session, Check, Scrub, Wipe, Upgrade}
 use Rattle.image_subcommands.specs.declared.status.Status.{Status}
 use Rattle.image_subcommands.specs.declared.status.Status.TheVariants.{Done, Usage, SourceFault, SinkFault, DiskFault, TooLong, NotImage, Damaged, NoMemory, AlreadyImage, WrongLength, Unequal}
-use Rattle.image_subcommands.specs.Statuses.{row, IsFormatStatus, IsRunStatus, IsCheckStatus, IsScrubStatus, IsWipeStatus, IsUpgradeStatus, IsBigStatus, IsMirrorStatus, IsJudged, IsRefusedImage, IsRefusedDisk, SparesSecond, IsMirrored, IsPastHeader, IsSummed, IsBetweenLines, MayComeFirst, one_if, done_of_work, done_of_verdict, done_of_mirror}
+use Rattle.image_subcommands.specs.Statuses.{row, Subcommand as words, IsStatusOf, IsJudged, IsRefusedImage, IsRefusedDisk, SparesSecond, IsMirrored, IsPastHeader, IsSummed, IsBetweenLines, MayComeFirst, one_if, done_of_work, done_of_verdict, done_of_mirror}
 use Rattle.image_subcommands.specs.Reports.{IsUnreported}
+use Rattle.script_claims.proofs.RunWays.{ends_as_run}
 use Rattle.image_claims.specs.Endings.{IsOneOf, CountsOne, number, endings, mirror_endings}
 
 -- what holds of each status of a list holds of one of them
@@ -17,7 +18,7 @@ one_of P (first ∷ others) all status is = ⊎_elim (λ e. subst P (sym e) all.
 -- ---- from a column to a list
 
 -- how `format` may end
-pub format_ends : (status : Status) → IsFormatStatus status → IsOneOf status (Done ∷ DiskFault ∷ NoMemory ∷ AlreadyImage ∷ WrongLength ∷ [])
+pub format_ends : (status : Status) → IsStatusOf words.Format status → IsOneOf status (Done ∷ DiskFault ∷ NoMemory ∷ AlreadyImage ∷ WrongLength ∷ [])
 format_ends Done h = inl refl
 format_ends Usage h = absurd (false≢true h)
 format_ends SourceFault h = absurd (false≢true h)
@@ -32,7 +33,7 @@ format_ends WrongLength h = inr (inr (inr (inr (inl refl))))
 format_ends Unequal h = absurd (false≢true h)
 
 -- how `run` may end
-pub run_ends : (status : Status) → IsRunStatus status → IsOneOf status (endings Run)
+pub run_ends : (status : Status) → IsStatusOf words.Run status → IsOneOf status (endings Run)
 run_ends Done h = inl refl
 run_ends Usage h = absurd (false≢true h)
 run_ends SourceFault h = inr (inl refl)
@@ -46,8 +47,12 @@ run_ends AlreadyImage h = absurd (false≢true h)
 run_ends WrongLength h = absurd (false≢true h)
 run_ends Unequal h = absurd (false≢true h)
 
+-- how `session` may end
+pub session_ends : (status : Status) → IsStatusOf words.Session status → IsOneOf status (endings Session)
+session_ends status h = run_ends status (ends_as_run status h)
+
 -- how `check` may end
-pub check_ends : (status : Status) → IsCheckStatus status → IsOneOf status (endings Check)
+pub check_ends : (status : Status) → IsStatusOf words.Check status → IsOneOf status (endings Check)
 check_ends Done h = inl refl
 check_ends Usage h = absurd (false≢true h)
 check_ends SourceFault h = absurd (false≢true h)
@@ -62,7 +67,7 @@ check_ends WrongLength h = absurd (false≢true h)
 check_ends Unequal h = absurd (false≢true h)
 
 -- how `scrub` may end
-pub scrub_ends : (status : Status) → IsScrubStatus status → IsOneOf status (endings Scrub)
+pub scrub_ends : (status : Status) → IsStatusOf words.Scrub status → IsOneOf status (endings Scrub)
 scrub_ends Done h = inl refl
 scrub_ends Usage h = absurd (false≢true h)
 scrub_ends SourceFault h = absurd (false≢true h)
@@ -77,7 +82,7 @@ scrub_ends WrongLength h = absurd (false≢true h)
 scrub_ends Unequal h = absurd (false≢true h)
 
 -- how `wipe` may end
-pub wipe_ends : (status : Status) → IsWipeStatus status → IsOneOf status (endings Wipe)
+pub wipe_ends : (status : Status) → IsStatusOf words.Wipe status → IsOneOf status (endings Wipe)
 wipe_ends Done h = inl refl
 wipe_ends Usage h = absurd (false≢true h)
 wipe_ends SourceFault h = absurd (false≢true h)
@@ -92,7 +97,7 @@ wipe_ends WrongLength h = absurd (false≢true h)
 wipe_ends Unequal h = absurd (false≢true h)
 
 -- how `upgrade` may end
-pub upgrade_ends : (status : Status) → IsUpgradeStatus status → IsOneOf status (endings Upgrade)
+pub upgrade_ends : (status : Status) → IsStatusOf words.Upgrade status → IsOneOf status (endings Upgrade)
 upgrade_ends Done h = inl refl
 upgrade_ends Usage h = absurd (false≢true h)
 upgrade_ends SourceFault h = absurd (false≢true h)
@@ -107,7 +112,7 @@ upgrade_ends WrongLength h = absurd (false≢true h)
 upgrade_ends Unequal h = absurd (false≢true h)
 
 -- how `big` may end
-pub big_ends : (status : Status) → IsBigStatus status → IsOneOf status (Done ∷ SinkFault ∷ DiskFault ∷ NotImage ∷ Damaged ∷ NoMemory ∷ [])
+pub big_ends : (status : Status) → IsStatusOf words.Big status → IsOneOf status (Done ∷ SinkFault ∷ DiskFault ∷ NotImage ∷ Damaged ∷ NoMemory ∷ [])
 big_ends Done h = inl refl
 big_ends Usage h = absurd (false≢true h)
 big_ends SourceFault h = absurd (false≢true h)
@@ -122,7 +127,7 @@ big_ends WrongLength h = absurd (false≢true h)
 big_ends Unequal h = absurd (false≢true h)
 
 -- how a mirror may end
-pub mirror_ends : (status : Status) → IsMirrorStatus status → IsOneOf status mirror_endings
+pub mirror_ends : (status : Status) → IsStatusOf words.Mirror status → IsOneOf status mirror_endings
 mirror_ends Done h = inl refl
 mirror_ends Usage h = absurd (false≢true h)
 mirror_ends SourceFault h = absurd (false≢true h)
@@ -179,29 +184,32 @@ found expected status (inr first) = inr (comes_first status first)
 
 -- ---- from a list to a column
 
-pub may_end_format : (status : Status) → IsOneOf status (Done ∷ DiskFault ∷ NoMemory ∷ AlreadyImage ∷ WrongLength ∷ []) → IsFormatStatus status
-may_end_format status is = one_of IsFormatStatus (Done ∷ DiskFault ∷ NoMemory ∷ AlreadyImage ∷ WrongLength ∷ []) (refl, (refl, (refl, (refl, (refl, tt))))) status is
+pub may_end_format : (status : Status) → IsOneOf status (Done ∷ DiskFault ∷ NoMemory ∷ AlreadyImage ∷ WrongLength ∷ []) → IsStatusOf words.Format status
+may_end_format status is = one_of (IsStatusOf words.Format) (Done ∷ DiskFault ∷ NoMemory ∷ AlreadyImage ∷ WrongLength ∷ []) (refl, (refl, (refl, (refl, (refl, tt))))) status is
 
-pub may_end_run : (status : Status) → IsOneOf status (Done ∷ SourceFault ∷ SinkFault ∷ DiskFault ∷ TooLong ∷ NotImage ∷ Damaged ∷ NoMemory ∷ []) → IsRunStatus status
-may_end_run status is = one_of IsRunStatus (Done ∷ SourceFault ∷ SinkFault ∷ DiskFault ∷ TooLong ∷ NotImage ∷ Damaged ∷ NoMemory ∷ []) (refl, (refl, (refl, (refl, (refl, (refl, (refl, (refl, tt)))))))) status is
+pub may_end_run : (status : Status) → IsOneOf status (Done ∷ SourceFault ∷ SinkFault ∷ DiskFault ∷ TooLong ∷ NotImage ∷ Damaged ∷ NoMemory ∷ []) → IsStatusOf words.Run status
+may_end_run status is = one_of (IsStatusOf words.Run) (Done ∷ SourceFault ∷ SinkFault ∷ DiskFault ∷ TooLong ∷ NotImage ∷ Damaged ∷ NoMemory ∷ []) (refl, (refl, (refl, (refl, (refl, (refl, (refl, (refl, tt)))))))) status is
 
-pub may_end_check : (status : Status) → IsOneOf status (Done ∷ SinkFault ∷ DiskFault ∷ NotImage ∷ Damaged ∷ NoMemory ∷ []) → IsCheckStatus status
-may_end_check status is = one_of IsCheckStatus (Done ∷ SinkFault ∷ DiskFault ∷ NotImage ∷ Damaged ∷ NoMemory ∷ []) (refl, (refl, (refl, (refl, (refl, (refl, tt)))))) status is
+pub may_end_session : (status : Status) → IsOneOf status (endings Session) → IsStatusOf words.Session status
+may_end_session status is = one_of (IsStatusOf words.Session) (endings Session) (refl, (refl, (refl, (refl, (refl, (refl, (refl, (refl, tt)))))))) status is
 
-pub may_end_scrub : (status : Status) → IsOneOf status (Done ∷ SinkFault ∷ DiskFault ∷ NotImage ∷ Damaged ∷ NoMemory ∷ []) → IsScrubStatus status
-may_end_scrub status is = one_of IsScrubStatus (Done ∷ SinkFault ∷ DiskFault ∷ NotImage ∷ Damaged ∷ NoMemory ∷ []) (refl, (refl, (refl, (refl, (refl, (refl, tt)))))) status is
+pub may_end_check : (status : Status) → IsOneOf status (Done ∷ SinkFault ∷ DiskFault ∷ NotImage ∷ Damaged ∷ NoMemory ∷ []) → IsStatusOf words.Check status
+may_end_check status is = one_of (IsStatusOf words.Check) (Done ∷ SinkFault ∷ DiskFault ∷ NotImage ∷ Damaged ∷ NoMemory ∷ []) (refl, (refl, (refl, (refl, (refl, (refl, tt)))))) status is
 
-pub may_end_wipe : (status : Status) → IsOneOf status (Done ∷ DiskFault ∷ NoMemory ∷ []) → IsWipeStatus status
-may_end_wipe status is = one_of IsWipeStatus (Done ∷ DiskFault ∷ NoMemory ∷ []) (refl, (refl, (refl, tt))) status is
+pub may_end_scrub : (status : Status) → IsOneOf status (Done ∷ SinkFault ∷ DiskFault ∷ NotImage ∷ Damaged ∷ NoMemory ∷ []) → IsStatusOf words.Scrub status
+may_end_scrub status is = one_of (IsStatusOf words.Scrub) (Done ∷ SinkFault ∷ DiskFault ∷ NotImage ∷ Damaged ∷ NoMemory ∷ []) (refl, (refl, (refl, (refl, (refl, (refl, tt)))))) status is
 
-pub may_end_upgrade : (status : Status) → IsOneOf status (Done ∷ DiskFault ∷ NotImage ∷ Damaged ∷ NoMemory ∷ []) → IsUpgradeStatus status
-may_end_upgrade status is = one_of IsUpgradeStatus (Done ∷ DiskFault ∷ NotImage ∷ Damaged ∷ NoMemory ∷ []) (refl, (refl, (refl, (refl, (refl, tt))))) status is
+pub may_end_wipe : (status : Status) → IsOneOf status (Done ∷ DiskFault ∷ NoMemory ∷ []) → IsStatusOf words.Wipe status
+may_end_wipe status is = one_of (IsStatusOf words.Wipe) (Done ∷ DiskFault ∷ NoMemory ∷ []) (refl, (refl, (refl, tt))) status is
 
-pub may_end_big : (status : Status) → IsOneOf status (Done ∷ SinkFault ∷ DiskFault ∷ NotImage ∷ Damaged ∷ NoMemory ∷ []) → IsBigStatus status
-may_end_big status is = one_of IsBigStatus (Done ∷ SinkFault ∷ DiskFault ∷ NotImage ∷ Damaged ∷ NoMemory ∷ []) (refl, (refl, (refl, (refl, (refl, (refl, tt)))))) status is
+pub may_end_upgrade : (status : Status) → IsOneOf status (Done ∷ DiskFault ∷ NotImage ∷ Damaged ∷ NoMemory ∷ []) → IsStatusOf words.Upgrade status
+may_end_upgrade status is = one_of (IsStatusOf words.Upgrade) (Done ∷ DiskFault ∷ NotImage ∷ Damaged ∷ NoMemory ∷ []) (refl, (refl, (refl, (refl, (refl, tt))))) status is
 
-pub may_end_mirror : (status : Status) → IsOneOf status mirror_endings → IsMirrorStatus status
-may_end_mirror status is = one_of IsMirrorStatus mirror_endings (refl, (refl, (refl, (refl, (refl, (refl, (refl, tt))))))) status is
+pub may_end_big : (status : Status) → IsOneOf status (Done ∷ SinkFault ∷ DiskFault ∷ NotImage ∷ Damaged ∷ NoMemory ∷ []) → IsStatusOf words.Big status
+may_end_big status is = one_of (IsStatusOf words.Big) (Done ∷ SinkFault ∷ DiskFault ∷ NotImage ∷ Damaged ∷ NoMemory ∷ []) (refl, (refl, (refl, (refl, (refl, (refl, tt)))))) status is
+
+pub may_end_mirror : (status : Status) → IsOneOf status mirror_endings → IsStatusOf words.Mirror status
+may_end_mirror status is = one_of (IsStatusOf words.Mirror) mirror_endings (refl, (refl, (refl, (refl, (refl, (refl, (refl, tt))))))) status is
 
 pub may_come_first : (status : Status) → IsOneOf status (DiskFault ∷ NoMemory ∷ []) → MayComeFirst status
 may_come_first status is = one_of MayComeFirst (DiskFault ∷ NoMemory ∷ []) (refl, (refl, tt)) status is

@@ -1,7 +1,7 @@
 -- Which failed call a status tells, and when a call is done.
-use Rattle.std.proofs.Common.{◌≡◌, ◌∙◌, ◌⊎◌, ℕ, [], ◌∷◌, refl, ap, inl, inr, ⊎_elim}
+use Rattle.std.proofs.Common.{◌≡◌, ◌∙◌, ◌⊎◌, ℕ, List, [], ◌∷◌, refl, ap, inl, inr, ⊎_elim}
 use Rattle.store_model.specs.Parameters.{Parameters}
-use Rattle.store_model.specs.Words.Request.{Format, Run, Check, Scrub, Wipe, Upgrade, Big}
+use Rattle.store_model.specs.Words.Request.{Format, Run, Session, Check, Scrub, Wipe, Upgrade, Big}
 use Rattle.store_model.specs.Trees.{Tree}
 use Rattle.store_model.specs.Images.{Represents}
 use Rattle.disk_model.specs.DiskState.{DiskState, IsObservable}
@@ -15,10 +15,11 @@ use Rattle.image_subcommands.specs.CheckCall.{IsCheck}
 use Rattle.image_subcommands.specs.FormatCall.{IsFormat}
 use Rattle.image_subcommands.specs.Outside.{Outside, KeepsOutside}
 use Rattle.image_subcommands.specs.ScrubCall.{IsScrub}
-use Rattle.image_subcommands.specs.Statuses.{disk_faults_by, source_faults_by, sink_faults_by, done_of_work}
+use Rattle.image_subcommands.specs.Statuses.{Subcommand, disk_faults_by, source_faults_by, sink_faults_by, done_of_work}
 use Rattle.image_subcommands.specs.WipeCall.{IsWipe}
 use Rattle.store_top.specs.BigCall.{IsBig}
-use Rattle.store_top.specs.RunCall.{IsRun}
+use Rattle.store_top.specs.ScriptCall.{AnswersScript}
+use Rattle.store_top.specs.SessionCall.{IsSession}
 use Rattle.store_top.specs.UpgradeCall.{IsUpgrade}
 use Rattle.image_claims.specs.Endings.{IsOneOf}
 use Rattle.image_claims.specs.Faults.{CountsFault, FailsByStatus, IsDoneOrLacks, DoesWhatCanBeDone, RefusesLength, RefusesImage}
@@ -93,8 +94,10 @@ module _ {D R W : Type 0} (disk_of : D → DiskState) (source_of : R → SourceS
     lines = λ can none. tt;
   }
 
-  pub run_done : IsRun disk_of source_of sink_of before after → DoesWhatCanBeDone Run after.status after.done (disk_of before.disk) (disk_of after.disk) (source_of before.source) (source_of after.source) (sink_of before.sink) (sink_of after.sink)
-  run_done is = record {
+  -- of a word that answers a script, as of a run
+  pub script_done : {word : Subcommand} {texts : Tree → List ℕ → Parameters → List (List ℕ)} {trees : Tree → List ℕ → Parameters → ℕ → Tree}
+      → AnswersScript word texts trees disk_of source_of sink_of before after → DoesWhatCanBeDone Run after.status after.done (disk_of before.disk) (disk_of after.disk) (source_of before.source) (source_of after.source) (sink_of before.sink) (sink_of after.sink)
+  script_done is = record {
     done_or_lacks = λ can none.
         let runs = (is.observed can.0).runs can.1 can.3.0 can.3.1 can.3.2 in
         ⊎_elim (λ done. inl done.0) (λ lacks. inr (inl lacks)) (runs.complete can.2 none.disk_well none.source_well none.sink_well);
@@ -102,6 +105,9 @@ module _ {D R W : Type 0} (disk_of : D → DiskState) (source_of : R → SourceS
         let runs = (is.observed can.0).runs can.1 can.3.0 can.3.1 can.3.2 in
         ⊎_elim (λ done. done.1) (λ lacks. absurd (cc)) (runs.complete can.2 none.disk_well none.source_well none.sink_well);
   }
+
+  pub session_done : IsSession disk_of source_of sink_of before after → DoesWhatCanBeDone Session after.status after.done (disk_of before.disk) (disk_of after.disk) (source_of before.source) (source_of after.source) (sink_of before.sink) (sink_of after.sink)
+  session_done is = let answers = script_done is in record { done_or_lacks = answers.done_or_lacks; lines = answers.lines }
 
   pub check_done : IsCheck disk_of sink_of before after → DoesWhatCanBeDone Check after.status after.done (disk_of before.disk) (disk_of after.disk) (source_of before.source) (source_of after.source) (sink_of before.sink) (sink_of after.sink)
   check_done is = record {
@@ -155,8 +161,10 @@ module _ {D R W : Type 0} (disk_of : D → DiskState) (before : Outside D R W) (
     already_image = is.right_length;
   }
 
-  pub run_refuses : (source_of : R → SourceState) (sink_of : W → SinkState) → IsRun disk_of source_of sink_of before after → RefusesImage after.status after.done (disk_of before.disk) (disk_of after.disk) before.source after.source before.sink after.sink
-  run_refuses source_of sink_of is = record {
+  -- of a word that answers a script
+  pub script_refuses : {word : Subcommand} {texts : Tree → List ℕ → Parameters → List (List ℕ)} {trees : Tree → List ℕ → Parameters → ℕ → Tree} (source_of : R → SourceState) (sink_of : W → SinkState)
+      → AnswersScript word texts trees disk_of source_of sink_of before after → RefusesImage after.status after.done (disk_of before.disk) (disk_of after.disk) before.source after.source before.sink after.sink
+  script_refuses source_of sink_of is = record {
     done_is = λ so. (is.refused (is_refused_image after.status so)).done;
     source_is = λ so. (is.refused (is_refused_image after.status so)).source;
     sink_is = λ so. (is.refused (is_refused_image after.status so)).sink;

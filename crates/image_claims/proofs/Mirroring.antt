@@ -1,14 +1,14 @@
 -- What mirroring one image onto another leaves, and what it costs: from what a mirror promises.
-use Rattle.std.proofs.Common.{◌≡◌, ◌⊎◌, ◌+◌, ◌*◌, ◌<◌, ℕ, zero, suc, true, false, if◌then◌else◌, List, [], ◌∷◌, ◌++◌, length, refl, sym, ap, subst, ◌∙◌, inl, inr, ⊎_elim, arith}
+use Rattle.std.proofs.Common.{◌≡◌, ◌⊎◌, ◌+◌, ◌*◌, ◌<◌, ℕ, zero, suc, if◌then◌else◌, List, [], ◌∷◌, ◌++◌, length, refl, sym, ap, subst, ◌∙◌, inl, inr, ⊎_elim, arith}
 use Rattle.std.proofs.lemmas.Bool.{cases_Bool}
 use Rattle.store_model.specs.Parameters.{Parameters}
 use Rattle.store_model.specs.Trees.{Tree}
-use Rattle.store_model.specs.Images.{layout, recovered, Represents}
+use Rattle.store_model.specs.Images.{recovered, Represents}
 use Rattle.store_model.proofs.ImagesLemmas.{length-recovered}
 use Rattle.store_model.proofs.TreesLemmasLayouts.{images_tell}
 use Rattle.disk_model.specs.DiskState.{DiskState, IsObservable, IsSound}
 use Rattle.gate_journal.specs.Changes.{RecoversToEither}
-use Rattle.gate_journal.specs.Costs.{has_journal, opening_writes, opening_syncs, commit_writes, commit_syncs}
+use Rattle.gate_journal.specs.Costs.{has_journal, opening_syncs, commit_writes, commit_syncs}
 use Rattle.gate_journal.specs.Headers.{IsImageWith, HasParameters}
 use Rattle.gate_journal.specs.Phases.{HasEmptyJournal}
 use Rattle.gate_journal.specs.Places.{ReadsOnly}
@@ -24,7 +24,7 @@ use Rattle.image_subcommands.specs.declared.mirror.PairOutcome.{PairOutcome}
 use Rattle.image_subcommands.specs.declared.status.Status.{Status}
 use Rattle.image_subcommands.specs.declared.status.Status.TheVariants.{Done, SinkFault, DiskFault, NotImage, Damaged, Unequal}
 use Rattle.image_subcommands.specs.MirrorCall.{mirror_text, OutsidePair, LacksImage, MirrorsDisk, FailsOne, IsMirror}
-use Rattle.image_subcommands.specs.Statuses.{IsMirrored, ComesExactly}
+use Rattle.image_subcommands.specs.Statuses.{ComesExactly}
 use Rattle.image_subcommands.proofs.StatusLemmas.{disk_fault_or_not}
 use Rattle.image_claims.specs.Checks.{IsBroken, IsSome}
 use Rattle.image_claims.specs.Costs.{Costs}

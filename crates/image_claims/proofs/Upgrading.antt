@@ -1,15 +1,13 @@
 -- What upgrading an image leaves, and what it costs: from what an upgrade promises.
-use Rattle.std.proofs.Common.{◌≡◌, ◌⊎◌, ◌+◌, ◌*◌, ℕ, List, [], ◌∷◌, sym, subst, inl, inr, ⊎_elim, arith}
+use Rattle.std.proofs.Common.{◌≡◌, ◌+◌, ℕ, List, [], ◌∷◌, sym, subst, inl, inr, ⊎_elim, arith}
 use Rattle.store_model.specs.declared.version.Version.{Version}
 use Rattle.store_model.specs.declared.version.Version.TheVariants.{One, Two}
 use Rattle.store_model.specs.Parameters.{Parameters}
 use Rattle.store_model.specs.Trees.{Tree}
 use Rattle.store_model.specs.Images.{Represents}
 use Rattle.disk_model.specs.DiskState.{DiskState, IsObservable, IsSound}
-use Rattle.disk_model.specs.DiskCalls.{LeavesOnly}
 use Rattle.gate_journal.specs.Costs.{opening_writes, opening_syncs}
 use Rattle.image_subcommands.specs.declared.outcome.Outcome.{Outcome}
-use Rattle.image_subcommands.specs.declared.status.Status.{Status}
 use Rattle.image_subcommands.specs.declared.status.Status.TheVariants.{Done, NotImage, Damaged}
 use Rattle.image_subcommands.specs.Outside.{Outside}
 use Rattle.store_core.specs.StoreCalls.{LeavesImage}
@@ -17,7 +15,7 @@ use Rattle.store_core.specs.TableChanges.{slots_upgraded}
 use Rattle.store_core.proofs.Unchanged.{standing_represents}
 use Rattle.store_top.specs.UpgradeCall.{KeepsVersion, IsUpgrade, writes_behind, syncs_behind}
 use Rattle.image_claims.specs.Costs.{Costs}
-use Rattle.image_claims.specs.Upgrades.{IsOfEither, StaysAsItWas, KeepsTree, UpgradesImage, UpgradesAllOrNone, CostsOfUpgrade}
+use Rattle.image_claims.specs.Upgrades.{StaysAsItWas, KeepsTree, UpgradesImage, UpgradesAllOrNone, CostsOfUpgrade}
 use Rattle.image_claims.proofs.Checking.{to_broken, from_broken}
 use Rattle.image_claims.proofs.Costing.{just, at_most, with_one}
 use Rattle.image_claims.proofs.EndingLemmas.{found}

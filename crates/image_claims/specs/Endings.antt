@@ -1,7 +1,7 @@
 -- How a call may end: the statuses of each subcommand and their numbers, spelled out.
 use Rattle.std.specs.Prelude.{◌≡◌, ◌⊎◌, ℕ, List, [], ◌∷◌}
 use Rattle.store_model.specs.Words.{Request}
-use Rattle.store_model.specs.Words.Request.{Format, Run, Check, Scrub, Wipe, Upgrade, Big}
+use Rattle.store_model.specs.Words.Request.{Format, Run, Session, Check, Scrub, Wipe, Upgrade, Big}
 use Rattle.image_subcommands.specs.declared.status.Status.{Status}
 use Rattle.image_subcommands.specs.declared.status.Status.TheVariants.{Done, Usage, SourceFault, SinkFault, DiskFault, TooLong, NotImage, Damaged, NoMemory, AlreadyImage, WrongLength, Unequal}
 
@@ -34,6 +34,7 @@ number Unequal = 13
 abbrev pub endings : Request → List Status
 endings (Format p) = Done ∷ DiskFault ∷ NoMemory ∷ AlreadyImage ∷ WrongLength ∷ []
 endings Run = Done ∷ SourceFault ∷ SinkFault ∷ DiskFault ∷ TooLong ∷ NotImage ∷ Damaged ∷ NoMemory ∷ []
+endings Session = Done ∷ SourceFault ∷ SinkFault ∷ DiskFault ∷ TooLong ∷ NotImage ∷ Damaged ∷ NoMemory ∷ []
 endings Check = Done ∷ SinkFault ∷ DiskFault ∷ NotImage ∷ Damaged ∷ NoMemory ∷ []
 endings Scrub = Done ∷ SinkFault ∷ DiskFault ∷ NotImage ∷ Damaged ∷ NoMemory ∷ []
 endings Wipe = Done ∷ DiskFault ∷ NoMemory ∷ []
@@ -53,6 +54,7 @@ pub record CountsOne (statuses : List Status) (status : Status) (done : ℕ) : T
 abbrev pub CountsWork : Request → Status → ℕ → Type 0
 CountsWork (Format p) status done = CountsOne (Done ∷ []) status done
 CountsWork Run status done = Unit {0}
+CountsWork Session status done = Unit {0}
 CountsWork Check status done = CountsOne (Done ∷ SinkFault ∷ NotImage ∷ Damaged ∷ []) status done
 CountsWork Scrub status done = CountsOne (Done ∷ SinkFault ∷ NotImage ∷ Damaged ∷ []) status done
 CountsWork Wipe status done = CountsOne (Done ∷ []) status done

@@ -5,7 +5,7 @@ use Rattle.store_model.specs.Trees.{Tree}
 use Rattle.store_model.specs.Images.{first_byte, Represents}
 use Rattle.store_model.specs.Scripts.{lines, script_limit}
 use Rattle.store_model.specs.Words.{Request}
-use Rattle.store_model.specs.Words.Request.{Format, Run, Check, Scrub, Wipe, Upgrade, Big}
+use Rattle.store_model.specs.Words.Request.{Format, Run, Session, Check, Scrub, Wipe, Upgrade, Big}
 use Rattle.store_base.specs.Counts.{raised, Rose}
 use Rattle.disk_model.specs.DiskState.{DiskState}
 use Rattle.disk_model.specs.DiskState as disks
@@ -48,20 +48,22 @@ abbrev pub IsDoneOrLacks : Status → Type 0
 IsDoneOrLacks status = IsOneOf status (Done ∷ NoMemory ∷ [])
 
 -- What is asked for can be done: a disk of the image's length that does not begin as one is formatted, an image that represents
--- a tree is run, checked and upgraded, one of which scrubbing leaves a tree's is scrubbed. Each disk is wiped.
+-- a tree is run, checked and upgraded, and sessions are held on it, one of which scrubbing leaves a tree's is scrubbed. Each disk is wiped.
 abbrev pub CanBeDone : Request → DiskState → SourceState → Type 0
 CanBeDone (Format p) disk source = disks.IsObservable disk × (disk.size ≡ image_len p.slots) × (slice_index disk.bytes 0 ≢ first_byte)
 CanBeDone Run disk source = disks.IsObservable disk × sources.IsObservable source × (length source.left ≤ script_limit) × ((t : Tree) × (p : Parameters) × Represents disk.bytes t p)
+CanBeDone Session disk source = disks.IsObservable disk × sources.IsObservable source × (length source.left ≤ script_limit) × ((t : Tree) × (p : Parameters) × Represents disk.bytes t p)
 CanBeDone Check disk source = disks.IsObservable disk × ((t : Tree) × (p : Parameters) × Represents disk.bytes t p)
 CanBeDone Scrub disk source = disks.IsObservable disk × ((t : Tree) × (p : Parameters) × ScrubsTo disk.bytes t p)
 CanBeDone Wipe disk source = Unit {0}
 CanBeDone Upgrade disk source = disks.IsObservable disk × ((t : Tree) × (p : Parameters) × Represents disk.bytes t p)
 CanBeDone (Big number count) disk source = disks.IsObservable disk × ((t : Tree) × (p : Parameters) × Represents disk.bytes t p)
 
--- the count `done` of a run that is done: each line was carried out
+-- the count `done` of a run and of sessions that are done: each line was carried out
 abbrev pub CountsLines : Request → Status → ℕ → SourceState → Type 0
 CountsLines (Format p) status done source = Unit {0}
 CountsLines Run status done source = status ≡ Done → done ≡ length (lines source.left)
+CountsLines Session status done source = status ≡ Done → done ≡ length (lines source.left)
 CountsLines Check status done source = Unit {0}
 CountsLines Scrub status done source = Unit {0}
 CountsLines Wipe status done source = Unit {0}
@@ -83,13 +85,14 @@ pub record RefusesLength (p : Parameters) (status : Status) (disk : DiskState) :
 abbrev pub OpensStore : Request → Type 0
 OpensStore (Format p) = ⊥
 OpensStore Run = Unit {0}
+OpensStore Session = Unit {0}
 OpensStore Check = ⊥
 OpensStore Scrub = ⊥
 OpensStore Wipe = ⊥
 OpensStore Upgrade = Unit {0}
 OpensStore (Big number count) = Unit {0}
 
--- What `run`, `upgrade` and `big` do with a disk that is no image, or a damaged one: no command is carried out, nothing taken and nothing
+-- What `run`, `session`, `upgrade` and `big` do with a disk that is no image, or a damaged one: no command is carried out, nothing taken and nothing
 -- printed, and of a disk that tells its bytes nothing is written. They come past its header only where it has the length of an image.
 pub record RefusesImage {R W : Type 0} (status : Status) (done : ℕ) (disk disk_new : DiskState) (source source_new : R) (sink sink_new : W) : Type 0 where
   pub done_is : IsOneOf status (NotImage ∷ Damaged ∷ []) → done ≡ 0

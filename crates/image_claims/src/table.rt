@@ -3,9 +3,9 @@
 ghost use Rattle.std.specs.Prelude.{◌≡◌, ◌↔◌, ℕ, Some};
 ghost use Rattle.store_model.specs.Parameters.{Parameters};
 ghost use Rattle.store_model.specs.Words.{Request, request_of};
-ghost use Rattle.store_model.specs.Words.Request.{Format, Run, Check, Scrub, Wipe, Upgrade, Big};
+ghost use Rattle.store_model.specs.Words.Request.{Format, Run, Session, Check, Scrub, Wipe, Upgrade, Big};
 ghost use Rattle.image_subcommands.specs.declared.status.Status.{Status};
-ghost use Rattle.image_subcommands.specs.Statuses.{row, IsFormatStatus, IsRunStatus, IsCheckStatus, IsScrubStatus, IsWipeStatus, IsUpgradeStatus, IsBigStatus, IsMirrorStatus};
+ghost use Rattle.image_subcommands.specs.Statuses.{row, Subcommand as words, IsStatusOf};
 ghost use Rattle.image_claims.specs.Endings.{IsOneOf, endings, mirror_endings, number, CountsWork};
 
 use crate::call::call;
@@ -25,14 +25,15 @@ pub fn number_of(status: Status) -> u8
 /// The table of statuses, spelled out: their numbers, and by which each subcommand may end.
 pub fn table_is_spelled_out()
     ensures numbers { (status : Status) → (row status).code ≡ number status }
-    ensures format { (p : Parameters) (status : Status) → IsFormatStatus status ↔ IsOneOf status (endings (Format p)) }
-    ensures run { (status : Status) → IsRunStatus status ↔ IsOneOf status (endings Run) }
-    ensures check { (status : Status) → IsCheckStatus status ↔ IsOneOf status (endings Check) }
-    ensures scrub { (status : Status) → IsScrubStatus status ↔ IsOneOf status (endings Scrub) }
-    ensures wipe { (status : Status) → IsWipeStatus status ↔ IsOneOf status (endings Wipe) }
-    ensures upgrade { (status : Status) → IsUpgradeStatus status ↔ IsOneOf status (endings Upgrade) }
-    ensures big { (number count : ℕ) (status : Status) → IsBigStatus status ↔ IsOneOf status (endings (Big number count)) }
-    ensures mirror { (status : Status) → IsMirrorStatus status ↔ IsOneOf status mirror_endings }
+    ensures format { (p : Parameters) (status : Status) → IsStatusOf words.Format status ↔ IsOneOf status (endings (Format p)) }
+    ensures run { (status : Status) → IsStatusOf words.Run status ↔ IsOneOf status (endings Run) }
+    ensures session { (status : Status) → IsStatusOf words.Session status ↔ IsOneOf status (endings Session) }
+    ensures check { (status : Status) → IsStatusOf words.Check status ↔ IsOneOf status (endings Check) }
+    ensures scrub { (status : Status) → IsStatusOf words.Scrub status ↔ IsOneOf status (endings Scrub) }
+    ensures wipe { (status : Status) → IsStatusOf words.Wipe status ↔ IsOneOf status (endings Wipe) }
+    ensures upgrade { (status : Status) → IsStatusOf words.Upgrade status ↔ IsOneOf status (endings Upgrade) }
+    ensures big { (number count : ℕ) (status : Status) → IsStatusOf words.Big status ↔ IsOneOf status (endings (Big number count)) }
+    ensures mirror { (status : Status) → IsStatusOf words.Mirror status ↔ IsOneOf status mirror_endings }
 {}
 
 /// A call with well-formed words ends by one of the statuses of its subcommand, and counts its piece of work.

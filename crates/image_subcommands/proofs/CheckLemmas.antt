@@ -20,7 +20,7 @@ use Rattle.image_subcommands.specs.Outside.{Outside}
 use Rattle.image_check.specs.Standing.{RepresentsSome}
 use Rattle.image_subcommands.specs.Reports.{verdict_status, PrintsVerdict, PrintsReport}
 use Rattle.image_subcommands.specs.ScrubCall.{ScrubsToSome, ScrubsTree, IsScrub}
-use Rattle.image_subcommands.specs.Statuses.{IsCheckStatus, IsScrubStatus, IsJudged, done_of_verdict}
+use Rattle.image_subcommands.specs.Statuses.{Subcommand as words, IsStatusOf, IsJudged, done_of_verdict}
 use Rattle.image_subcommands.proofs.ReportLemmas.{is_no_verdict, ends_in, is_reported, is_silent, Found, ends_by_verdict}
 
 -- ---- memory
@@ -53,11 +53,11 @@ read_keeps old new result reads = record { size = reads.size; observable = reads
 
 -- ---- check
 
-fails_check : (fault : Fault) → IsCheckStatus (fault_status fault)
+fails_check : (fault : Fault) → IsStatusOf words.Check (fault_status fault)
 fails_check causes.Disk = refl
 fails_check causes.NoMemory = refl
 
-judges_check : (verdict : Verdict) → IsCheckStatus (verdict_status verdict)
+judges_check : (verdict : Verdict) → IsStatusOf words.Check (verdict_status verdict)
 judges_check (verdicts.Clean pages dirs files bytes) = refl
 judges_check verdicts.NotImage = refl
 judges_check verdicts.Damaged = refl
@@ -87,7 +87,7 @@ module _ {D R W : Type 0} (disk_of : D → DiskState) (sink_of : W → SinkState
   check_ends disk result sink status checks prints =
       let old = disk_of before.disk in
       record {
-        ends = ends_in sink_of IsCheckStatus fails_check refl judges_check result before.sink sink status prints;
+        ends = ends_in sink_of (IsStatusOf words.Check) fails_check refl judges_check result before.sink sink status prints;
         done = refl;
         observed = λ observable. record {
           ends = ends_by_verdict (RepresentsSome old) (IsDamaged old) old (disk_of disk) (image_represents old observable) (whole_represents old observable) (image_damaged old observable)
@@ -102,11 +102,11 @@ module _ {D R W : Type 0} (disk_of : D → DiskState) (sink_of : W → SinkState
 
 -- ---- scrub
 
-fails_scrub : (fault : Fault) → IsScrubStatus (fault_status fault)
+fails_scrub : (fault : Fault) → IsStatusOf words.Scrub (fault_status fault)
 fails_scrub causes.Disk = refl
 fails_scrub causes.NoMemory = refl
 
-judges_scrub : (verdict : Verdict) → IsScrubStatus (verdict_status verdict)
+judges_scrub : (verdict : Verdict) → IsStatusOf words.Scrub (verdict_status verdict)
 judges_scrub (verdicts.Clean pages dirs files bytes) = refl
 judges_scrub verdicts.NotImage = refl
 judges_scrub verdicts.Damaged = refl
@@ -160,7 +160,7 @@ module _ {D R W : Type 0} (disk_of : D → DiskState) (sink_of : W → SinkState
   scrub_ends disk result sink status call prints =
       let old = disk_of before.disk in
       record {
-        ends = ends_in sink_of IsScrubStatus fails_scrub refl judges_scrub result before.sink sink status prints;
+        ends = ends_in sink_of (IsStatusOf words.Scrub) fails_scrub refl judges_scrub result before.sink sink status prints;
         done = refl;
         observed = λ observable. record {
           ends = ends_by_verdict (ScrubsToSome old) (IsBeyondScrubbing old) old (disk_of disk) (image_scrubs old observable) (whole_scrubs old observable) (image_beyond old observable)

@@ -17,11 +17,11 @@ use Rattle.image_subcommands.specs.declared.status.Status.TheVariants as statuse
 use Rattle.image_subcommands.specs.Endings.{status_of, journal_status}
 use Rattle.image_subcommands.specs.FormatCall.{IsBlank, IsFormat}
 use Rattle.image_subcommands.specs.Outside.{Outside}
-use Rattle.image_subcommands.specs.Statuses.{IsFormatStatus, IsRefusedDisk, MayComeFirst, done_of_work}
+use Rattle.image_subcommands.specs.Statuses.{Subcommand as words, IsStatusOf, IsRefusedDisk, MayComeFirst, done_of_work}
 use Rattle.image_subcommands.proofs.CostLemmas.{counts_format}
 
 -- the outcome of a format, by its status
-ended : (r : Result (Unit {0}) JournalFault) → IsFormatStatus (status_of journal_status r)
+ended : (r : Result (Unit {0}) JournalFault) → IsStatusOf words.Format (status_of journal_status r)
 ended (Ok value) = refl
 ended (Err causes.Disk) = refl
 ended (Err causes.AlreadyImage) = refl

@@ -16,13 +16,13 @@ use Rattle.image_subcommands.specs.declared.status.Status.{Status}
 use Rattle.image_subcommands.specs.declared.status.Status.TheVariants as statuses
 use Rattle.image_subcommands.specs.Endings.{mirror_status}
 use Rattle.image_subcommands.specs.MirrorCall.{OutsidePair, PrintsCount, PrintsLine, PrintsMirror, PrintsSome, LacksImage, NothingFails, EndsByFirst, EndsByPair, MirrorsDisk, FailsOne, IsMirror}
-use Rattle.image_subcommands.specs.Statuses.{IsMirrorStatus, IsMirrored, SparesSecond, done_of_mirror, disk_faults_by, sink_faults_by}
+use Rattle.image_subcommands.specs.Statuses.{Subcommand as words, IsStatusOf, IsMirrored, SparesSecond, done_of_mirror, disk_faults_by, sink_faults_by}
 use Rattle.image_subcommands.proofs.CheckLemmas.{image_damaged}
 use Rattle.image_subcommands.proofs.ReportLemmas.{rose}
 
 -- ---- by status
 
-fails_mirror : (fault : MirrorFault) → IsMirrorStatus (mirror_status fault)
+fails_mirror : (fault : MirrorFault) → IsStatusOf words.Mirror (mirror_status fault)
 fails_mirror faults.FromNotImage = refl
 fails_mirror faults.FromDamaged = refl
 fails_mirror faults.ToNotImage = refl
@@ -261,9 +261,9 @@ module _ {W : Type 0} (sink_of : W → SinkState) (from from_new to to_new : Dis
 -- ---- what is printed
 
 module _ {W : Type 0} (sink_of : W → SinkState) where
-  ends_mirror : (result : Result ℕ MirrorFault) (sink sink_new : W) (status : Status) → PrintsCount sink_of result sink sink_new status → IsMirrorStatus status
-  ends_mirror (Ok count) sink sink_new status prints = ⊎_elim (λ e. subst IsMirrorStatus (sym e) refl) (λ e. subst IsMirrorStatus (sym e) refl) prints.status_is
-  ends_mirror (Err fault) sink sink_new status prints = subst IsMirrorStatus (sym prints.status_is) (fails_mirror fault)
+  ends_mirror : (result : Result ℕ MirrorFault) (sink sink_new : W) (status : Status) → PrintsCount sink_of result sink sink_new status → IsStatusOf words.Mirror status
+  ends_mirror (Ok count) sink sink_new status prints = ⊎_elim (λ e. subst (IsStatusOf words.Mirror) (sym e) refl) (λ e. subst (IsStatusOf words.Mirror) (sym e) refl) prints.status_is
+  ends_mirror (Err fault) sink sink_new status prints = subst (IsStatusOf words.Mirror) (sym prints.status_is) (fails_mirror fault)
 
   sink_tells : (result : Result ℕ MirrorFault) (sink sink_new : W) (status : Status) → PrintsCount sink_of result sink sink_new status → (sink_of sink_new).is_observable ≡ (sink_of sink).is_observable
   sink_tells (Ok count) sink sink_new status prints = prints.observable

@@ -10,7 +10,7 @@ use Rattle.image_subcommands.specs.declared.status.Status.TheVariants as statuse
 use Rattle.image_subcommands.specs.Outside.{Outside}
 use Rattle.image_check.specs.Standing.{RepresentsSome}
 use Rattle.image_subcommands.specs.Reports.{Reports, EndsByVerdict}
-use Rattle.image_subcommands.specs.Statuses.{IsCheckStatus, IsJudged, done_of_verdict}
+use Rattle.image_subcommands.specs.Statuses.{Subcommand as words, IsStatusOf, IsJudged, done_of_verdict}
 
 -- A check of an observable disk.
 pub record ChecksDisk (status : Status) (disk disk_new : DiskState) (sink sink_new : SinkState) : Type 0 where
@@ -21,7 +21,7 @@ pub record ChecksDisk (status : Status) (disk disk_new : DiskState) (sink sink_n
 module _ {D R W : Type 0} (disk_of : D → DiskState) (sink_of : W → SinkState) where
   pub record IsCheck (before : Outside D R W) (after : Outcome D R W) : Type 0 where
     -- how it ends
-    pub ends : IsCheckStatus after.status
+    pub ends : IsStatusOf words.Check after.status
     pub done : after.done ≡ done_of_verdict after.status
     pub observed : IsObservable (disk_of before.disk) → ChecksDisk after.status (disk_of before.disk) (disk_of after.disk) (sink_of before.sink) (sink_of after.sink)
     -- what stands then

@@ -14,7 +14,7 @@ use Rattle.image_subcommands.specs.declared.outcome.Outcome.{Outcome}
 use Rattle.image_subcommands.specs.declared.status.Status.{Status}
 use Rattle.image_subcommands.specs.declared.status.Status.TheVariants as statuses
 use Rattle.image_subcommands.specs.Outside.{Outside}
-use Rattle.image_subcommands.specs.Statuses.{IsFormatStatus, IsRefusedDisk, MayComeFirst, ComesExactly, done_of_work}
+use Rattle.image_subcommands.specs.Statuses.{Subcommand as words, IsStatusOf, IsRefusedDisk, MayComeFirst, ComesExactly, done_of_work}
 
 -- the disk has the length of an image with these parameters, and begins as an image does
 pub record BeginsAsImage (disk : DiskState) (p : Parameters) : Type 0 where
@@ -52,7 +52,7 @@ pub record FormatsDisk (status : Status) (p : Parameters) (old new : DiskState) 
 module _ {D R W : Type 0} (disk_of : D → DiskState) where
   pub record IsFormat (p : Parameters) (before : Outside D R W) (after : Outcome D R W) : Type 0 where
     -- how it ends
-    pub ends : IsFormatStatus after.status
+    pub ends : IsStatusOf words.Format after.status
     pub done : after.done ≡ done_of_work after.status
     pub wrong_length : ComesExactly statuses.WrongLength ((disk_of before.disk).size ≢ image_len p.slots) (λ status. status ≡ statuses.NoMemory) after.status
     pub right_length : after.status ≡ statuses.AlreadyImage → (disk_of before.disk).size ≡ image_len p.slots

@@ -22,7 +22,7 @@ use Rattle.image_subcommands.specs.declared.mirror.PairOutcome.{PairOutcome}
 use Rattle.image_subcommands.specs.declared.status.Status.{Status}
 use Rattle.image_subcommands.specs.declared.status.Status.TheVariants as statuses
 use Rattle.image_subcommands.specs.Endings.{mirror_status}
-use Rattle.image_subcommands.specs.Statuses.{IsMirrorStatus, IsMirrored, SparesSecond, ComesExactly, done_of_mirror, disk_faults_by, sink_faults_by}
+use Rattle.image_subcommands.specs.Statuses.{Subcommand as words, IsStatusOf, IsMirrored, SparesSecond, ComesExactly, done_of_mirror, disk_faults_by, sink_faults_by}
 
 -- the line that a mirror prints, by the number of slots that differed
 unfoldable pub mirror_text : ℕ → List ℕ
@@ -124,7 +124,7 @@ FailsOne status from from_new to to_new = FailsFirst status from from_new to to_
 module _ {A B W : Type 0} (from_of : A → DiskState) (to_of : B → DiskState) (sink_of : W → SinkState) where
   pub record IsMirror (before : OutsidePair A B W) (after : PairOutcome A B W) : Type 0 where
     -- how it ends
-    pub ends : IsMirrorStatus after.status
+    pub ends : IsStatusOf words.Mirror after.status
     pub done : after.done ≡ done_of_mirror after.status
     pub judged_first : IsObservable (from_of before.from) → EndsByFirst after.status (from_of before.from)
     pub judged : IsObservable (from_of before.from) → IsObservable (to_of before.to)

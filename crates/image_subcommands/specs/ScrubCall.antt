@@ -15,7 +15,7 @@ use Rattle.image_subcommands.specs.declared.status.Status.{Status}
 use Rattle.image_subcommands.specs.declared.status.Status.TheVariants as statuses
 use Rattle.image_subcommands.specs.Outside.{Outside}
 use Rattle.image_subcommands.specs.Reports.{Reports, EndsByVerdict}
-use Rattle.image_subcommands.specs.Statuses.{IsScrubStatus, IsJudged, done_of_verdict}
+use Rattle.image_subcommands.specs.Statuses.{Subcommand as words, IsStatusOf, IsJudged, done_of_verdict}
 
 -- scrubbing leaves the layout of some tree
 pub record ScrubsToSome (disk : DiskState) : Type 0 where
@@ -45,7 +45,7 @@ pub record ScrubsDisk (status : Status) (disk disk_new : DiskState) (sink sink_n
 module _ {D R W : Type 0} (disk_of : D → DiskState) (sink_of : W → SinkState) where
   pub record IsScrub (before : Outside D R W) (after : Outcome D R W) : Type 0 where
     -- how it ends
-    pub ends : IsScrubStatus after.status
+    pub ends : IsStatusOf words.Scrub after.status
     pub done : after.done ≡ done_of_verdict after.status
     pub observed : IsObservable (disk_of before.disk) → ScrubsDisk after.status (disk_of before.disk) (disk_of after.disk) (sink_of before.sink) (sink_of after.sink)
     -- what stands then

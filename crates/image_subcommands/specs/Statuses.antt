@@ -1,8 +1,45 @@
 -- The statuses of a call, in one table. What other records ask of a status follows from it, so a new status is one line here.
-use Rattle.std.specs.Prelude.{◌≡◌, ◌⊎◌, ℕ, Bool, true, false, IsTrue, not, ◌&&◌, if◌then◌else◌}
+use Rattle.std.specs.Prelude.{◌≡◌, ◌⊎◌, ℕ, ◌==◌, List, [], ◌∷◌, Bool, true, false, IsTrue, not, ◌&&◌, if◌then◌else◌}
+use Rattle.std.specs.List.{list_any}
 use Rattle.store_base.specs.Counts.{raised}
 use Rattle.image_subcommands.specs.declared.status.Status.{Status}
 use Rattle.image_subcommands.specs.declared.status.Status.TheVariants.{Done, Usage, SourceFault, SinkFault, DiskFault, TooLong, NotImage, Damaged, NoMemory, AlreadyImage, WrongLength, Unequal}
+
+-- what a call is asked for: a subcommand of `top`, or a mirror
+pub data Subcommand : Type 0 where
+  Format : Subcommand
+  Run : Subcommand
+  Session : Subcommand
+  Check : Subcommand
+  Scrub : Subcommand
+  Wipe : Subcommand
+  Upgrade : Subcommand
+  Big : Subcommand
+  Mirror : Subcommand
+
+-- all of them
+abbrev every_word : List Subcommand
+every_word = Format ∷ Run ∷ Session ∷ Check ∷ Scrub ∷ Wipe ∷ Upgrade ∷ Big ∷ Mirror ∷ []
+
+-- those for which there has to be an image
+abbrev words_on_image : List Subcommand
+words_on_image = Run ∷ Session ∷ Check ∷ Scrub ∷ Upgrade ∷ Big ∷ Mirror ∷ []
+
+-- the place of each in that order, by which two are told apart
+abbrev place_of : Subcommand → ℕ
+place_of Format = 0
+place_of Run = 1
+place_of Session = 2
+place_of Check = 3
+place_of Scrub = 4
+place_of Wipe = 5
+place_of Upgrade = 6
+place_of Big = 7
+place_of Mirror = 8
+
+-- whether it is one of these
+abbrev pub is_among : Subcommand → List Subcommand → Bool
+is_among word words = list_any (λ other. place_of other == place_of word) words
 
 -- what failed in a call, if anything did
 pub data Failed : Type 0 where
@@ -15,15 +52,8 @@ pub data Failed : Type 0 where
 pub record Row : Type 0 where
   -- the number that the program ends with
   pub code : ℕ
-  -- which subcommands may end so
-  pub of_format : Bool
-  pub of_run : Bool
-  pub of_check : Bool
-  pub of_scrub : Bool
-  pub of_wipe : Bool
-  pub of_upgrade : Bool
-  pub of_big : Bool
-  pub of_mirror : Bool
+  -- the subcommands that may end so
+  pub words : List Subcommand
   -- what failed
   pub failed : Failed
   -- the work was carried out
@@ -38,7 +68,7 @@ pub record Row : Type 0 where
   pub spares_second : Bool
   -- a mirror that ends so has made its second image the first
   pub is_mirrored : Bool
-  -- a run came past the header of its image
+  -- a call that answers lines or commands came past the header of its image
   pub is_past_header : Bool
   -- it ended between two lines or after the last, with its disk whole
   pub is_between_lines : Bool
@@ -51,14 +81,7 @@ pub record Row : Type 0 where
 abbrev with_code : ℕ → Row
 with_code code = record {
   code = code;
-  of_format = false;
-  of_run = false;
-  of_check = false;
-  of_scrub = false;
-  of_wipe = false;
-  of_upgrade = false;
-  of_big = false;
-  of_mirror = false;
+  words = [];
   failed = Nothing;
   is_done = false;
   is_judged = false;
@@ -73,57 +96,32 @@ with_code code = record {
 }
 
 abbrev pub row : Status → Row
-row Done = record (with_code 0) { of_format = true; of_run = true; of_check = true; of_scrub = true; of_wipe = true; of_upgrade = true; of_big = true; of_mirror = true; is_done = true; is_judged = true; is_past_header = true; is_between_lines = true; is_mirrored = true }
+row Done = record (with_code 0) { words = every_word; is_done = true; is_judged = true; is_past_header = true; is_between_lines = true; is_mirrored = true }
 row Usage = with_code 2
-row SourceFault = record (with_code 3) { of_run = true; failed = TheSource; is_past_header = true; is_between_lines = true; is_cut_short = true }
-row SinkFault = record (with_code 4) { of_run = true; of_check = true; of_scrub = true; of_big = true; of_mirror = true; failed = TheSink; is_judged = true; is_past_header = true; is_between_lines = true; is_mirrored = true }
-row DiskFault = record (with_code 5) { of_format = true; of_run = true; of_check = true; of_scrub = true; of_wipe = true; of_upgrade = true; of_big = true; of_mirror = true; failed = TheDisk; is_cut_short = true; may_come_first = true }
-row TooLong = record (with_code 6) { of_run = true; is_past_header = true; is_between_lines = true; is_cut_short = true }
-row NotImage = record (with_code 7) { of_run = true; of_check = true; of_scrub = true; of_upgrade = true; of_big = true; of_mirror = true; is_judged = true; refuses_image = true; spares_second = true }
-row Damaged = record (with_code 8) { of_run = true; of_check = true; of_scrub = true; of_upgrade = true; of_big = true; of_mirror = true; is_judged = true; refuses_image = true; is_past_header = true; spares_second = true }
-row NoMemory = record (with_code 9) { of_format = true; of_run = true; of_check = true; of_scrub = true; of_wipe = true; of_upgrade = true; of_big = true; of_mirror = true; is_cut_short = true; may_come_first = true; spares_second = true }
-row AlreadyImage = record (with_code 10) { of_format = true; refuses_disk = true }
-row WrongLength = record (with_code 11) { of_format = true; refuses_disk = true }
-row Unequal = record (with_code 13) { of_mirror = true; spares_second = true }
+row SourceFault = record (with_code 3) { words = Run ∷ Session ∷ []; failed = TheSource; is_past_header = true; is_between_lines = true; is_cut_short = true }
+row SinkFault = record (with_code 4) { words = Run ∷ Session ∷ Check ∷ Scrub ∷ Big ∷ Mirror ∷ []; failed = TheSink; is_judged = true; is_past_header = true; is_between_lines = true; is_mirrored = true }
+row DiskFault = record (with_code 5) { words = every_word; failed = TheDisk; is_cut_short = true; may_come_first = true }
+row TooLong = record (with_code 6) { words = Run ∷ Session ∷ []; is_past_header = true; is_between_lines = true; is_cut_short = true }
+row NotImage = record (with_code 7) { words = words_on_image; is_judged = true; refuses_image = true; spares_second = true }
+row Damaged = record (with_code 8) { words = words_on_image; is_judged = true; refuses_image = true; is_past_header = true; spares_second = true }
+row NoMemory = record (with_code 9) { words = every_word; is_cut_short = true; may_come_first = true; spares_second = true }
+row AlreadyImage = record (with_code 10) { words = Format ∷ []; refuses_disk = true }
+row WrongLength = record (with_code 11) { words = Format ∷ []; refuses_disk = true }
+row Unequal = record (with_code 13) { words = Mirror ∷ []; spares_second = true }
 
 -- ---- what follows from it
 
--- how each subcommand may end
-abbrev pub IsFormatStatus : Status → Type 0
-IsFormatStatus status = IsTrue (row status).of_format
+-- a call with this subcommand may end so
+abbrev pub IsStatusOf : Subcommand → Status → Type 0
+IsStatusOf word status = IsTrue (is_among word (row status).words)
 
-abbrev pub IsRunStatus : Status → Type 0
-IsRunStatus status = IsTrue (row status).of_run
-
-abbrev pub IsCheckStatus : Status → Type 0
-IsCheckStatus status = IsTrue (row status).of_check
-
-abbrev pub IsScrubStatus : Status → Type 0
-IsScrubStatus status = IsTrue (row status).of_scrub
-
-abbrev pub IsWipeStatus : Status → Type 0
-IsWipeStatus status = IsTrue (row status).of_wipe
-
-abbrev pub IsUpgradeStatus : Status → Type 0
-IsUpgradeStatus status = IsTrue (row status).of_upgrade
-
-abbrev pub IsBigStatus : Status → Type 0
-IsBigStatus status = IsTrue (row status).of_big
-
-abbrev pub IsMirrorStatus : Status → Type 0
-IsMirrorStatus status = IsTrue (row status).of_mirror
-
--- how answering a script may end, once its image was taken
-abbrev pub IsEndOfRun : Status → Type 0
-IsEndOfRun status = IsTrue ((row status).of_run && not (row status).refuses_image)
-
--- how generated commands may end, once their image was taken
-abbrev pub IsEndOfBig : Status → Type 0
-IsEndOfBig status = IsTrue ((row status).of_big && not (row status).refuses_image)
+-- how a call with this subcommand may end, once its image was taken
+abbrev pub IsEndOf : Subcommand → Status → Type 0
+IsEndOf word status = IsTrue (is_among word (row status).words && not (row status).refuses_image)
 
 -- they were all carried out, and summed up
 abbrev pub IsSummed : Status → Type 0
-IsSummed status = IsTrue ((row status).of_big && (row status).is_between_lines)
+IsSummed status = IsTrue (is_among Big (row status).words && (row status).is_between_lines)
 
 abbrev pub IsJudged : Status → Type 0
 IsJudged status = IsTrue (row status).is_judged

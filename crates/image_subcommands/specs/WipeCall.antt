@@ -11,7 +11,7 @@ use Rattle.image_subcommands.specs.declared.outcome.Outcome.{Outcome}
 use Rattle.image_subcommands.specs.declared.status.Status.{Status}
 use Rattle.image_subcommands.specs.declared.status.Status.TheVariants as statuses
 use Rattle.image_subcommands.specs.Outside.{Outside}
-use Rattle.image_subcommands.specs.Statuses.{IsWipeStatus, done_of_work}
+use Rattle.image_subcommands.specs.Statuses.{Subcommand as words, IsStatusOf, done_of_work}
 
 -- every byte is zero, and a crash leaves just that
 pub record IsWiped (old new : DiskState) : Type 0 where
@@ -34,7 +34,7 @@ pub record WipesDisk (status : Status) (old new : DiskState) : Type 0 where
 module _ {D R W : Type 0} (disk_of : D → DiskState) where
   pub record IsWipe (before : Outside D R W) (after : Outcome D R W) : Type 0 where
     -- how it ends
-    pub ends : IsWipeStatus after.status
+    pub ends : IsStatusOf words.Wipe after.status
     pub done : after.done ≡ done_of_work after.status
     -- it is done where no call failed and memory was there
     pub complete : (Rose (disk_of before.disk).faults (disk_of after.disk).faults → ⊥) → (after.status ≡ statuses.Done) ⊎ (after.status ≡ statuses.NoMemory)

@@ -22,7 +22,7 @@ pub enum Status {
     Usage,
     /// A take from the source failed. The image is the layout of the tree after the answered lines.
     SourceFault,
-    /// A put into the sink failed. With `run` the image is the layout of the tree after the answered lines, with `big`
+    /// A put into the sink failed. With `run` and `session` the image is the layout of the tree after the answered lines, with `big`
     /// that of the tree after all commands; with `scrub` it is scrubbed, where scrubbing leaves the layout of a tree;
     /// with a mirror the second image is the first.
     SinkFault,

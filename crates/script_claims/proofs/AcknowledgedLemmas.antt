@@ -1,41 +1,48 @@
--- What was acknowledged stays: from what a run promises.
-use Rattle.std.proofs.Common.{◌⊎◌, inl, inr, ℕ, ◌+◌, List, ◌++◌, length, take, refl, sym, ap, ◌∙◌, subst, ⊎_elim, arith, length-append}
+-- What was acknowledged stays: from what a call that answers a script promises.
+use Rattle.std.proofs.Common.{◌≡◌, inl, inr, ℕ, List, ◌++◌, length, take, refl, sym, ap, ◌∙◌, subst, ⊎_elim, arith, length-append}
 use Rattle.store_model.specs.Parameters.{Parameters}
 use Rattle.store_model.specs.Trees.{Tree}
 use Rattle.store_model.specs.Images.{Represents}
-use Rattle.store_model.specs.Scripts.{lines, replies, tree_after, script_limit}
+use Rattle.store_model.specs.Scripts.{lines, script_limit}
 use Rattle.disk_model.specs.DiskState.{MayLeaveOnly}
 use Rattle.script_lines.specs.Lines.{ended_lines}
 use Rattle.script_lines.specs.Memory.{SourceMemory, SinkMemory, source_state, sink_state}
 use Rattle.image_subcommands.specs.Outside.{outside_of}
+use Rattle.image_subcommands.specs.Statuses.{Subcommand}
 use Rattle.store_top.specs.RunCall.{IsRun}
-use Rattle.store_top.proofs.RunLemmas.{length-replies}
+use Rattle.store_top.specs.Runs.{run_texts, run_trees}
+use Rattle.store_top.specs.ScriptCall.{AnswersScript}
+use Rattle.store_top.proofs.RunLemmas.{length-run_texts}
 use Rattle.script_claims.specs.Acknowledged.{KeepsAcknowledged}
 use Rattle.script_claims.specs.Machines.{Disk, Ended, meaning}
-use Rattle.script_claims.proofs.RunWays.{between, cut_short, way, image_of, read_is}
+use Rattle.script_claims.proofs.RunWays.{EndsAsRun, between, cut_short, way, image_of, read_is}
 use Rattle.script_claims.proofs.CrashLemmas.{wrote_in_part}
 
-pub keeps_acknowledged : (t : Tree) (p : Parameters) (disk : Disk) (source : SourceMemory) (sink : SinkMemory) (after : Ended)
-    → IsRun meaning source_state sink_state (outside_of disk source sink) after → MayLeaveOnly (meaning disk) (λ image. Represents image t p) → KeepsAcknowledged t p source sink after
-keeps_acknowledged t p disk source sink after run only =
-    let on_disk = run.observed refl in
+-- of any call that has a text for each line
+pub script_keeps_acknowledged : {word : Subcommand} {texts : Tree → List ℕ → Parameters → List (List ℕ)} {trees : Tree → List ℕ → Parameters → ℕ → Tree} → EndsAsRun word
+    → (t : Tree) (p : Parameters) (disk : Disk) (source : SourceMemory) (sink : SinkMemory) (after : Ended)
+    → length (texts t source.left p) ≡ length (lines source.left)
+    → AnswersScript word texts trees meaning source_state sink_state (outside_of disk source sink) after → MayLeaveOnly (meaning disk) (λ image. Represents image t p)
+    → KeepsAcknowledged (texts t source.left p) (trees t source.left p) t p source sink after
+script_keeps_acknowledged {word} {texts} {trees} as_run t p disk source sink after one_each answers only =
+    let on_disk = answers.observed refl in
     let represents = read_is disk (λ image. Represents image t p) only in
     let from = on_disk.runs refl t p represents in
     let told = from.replies in
     let wrote = told.written refl in
-    let limit = run.limit refl in
+    let limit = answers.limit refl in
     record {
-      ends = way t p disk source sink after run represents;
+      ends = way as_run t p disk source sink after answers represents;
       image = λ whole.
           let stands = from.image.between (between after.status whole) in
           record { bytes = stands.layout_is; durable = λ image leaves. (on_disk.crashes refl t p only).between (between after.status whole) image leaves ∙ stands.layout_is };
       disk_fault = from.image.fault;
       no_memory = λ e.
           ⊎_elim
-          (λ stands. inl (image_of after.disk (tree_after t (take after.done (lines source.left)) p) p stands))
+          (λ stands. inl (image_of after.disk (trees t source.left p after.done) p stands))
           (λ none. inr (none.0, subst (λ (image : List ℕ). Represents image t p) (sym (none.1).bytes) represents))
           (from.image.no_memory e);
-      all_lines = λ e. (told.counted.all e).1 ∙ length-replies t (lines source.left) p;
+      all_lines = λ e. (told.counted.all e).1 ∙ one_each;
       all_replied = λ e. wrote.written_is ∙ ap (λ (text : List ℕ). sink.written ++ text) (wrote.promised.all e);
       source_fault = λ e. record { taken = told.taken; taken_is = told.taken_is; done_is = told.counted.ended e };
       too_long = λ e.
@@ -47,7 +54,13 @@ keeps_acknowledged t p disk source sink after run only =
           let few = limit.within other in
           omega (arith, few.1, (few.2).count_is, ap length (few.2).taken_is, length-append (few.2).taken after.source.left);
       some_line = told.counted.some_line;
-      counted = omega (arith, told.counted.counted, length-replies t (lines source.left) p);
+      counted = omega (arith, told.counted.counted, one_each);
       replied = λ early. wrote.written_is ∙ ap (λ (text : List ℕ). sink.written ++ text) (wrote.promised.answered (cut_short after.status early));
-      in_part = wrote_in_part after.status after.done (replies t (lines source.left) p) sink.written after.sink.written wrote.written wrote.written_is wrote.promised;
+      in_part = wrote_in_part after.status after.done (texts t source.left p) sink.written after.sink.written wrote.written wrote.written_is wrote.promised;
     }
+
+-- of a run
+pub keeps_acknowledged : (t : Tree) (p : Parameters) (disk : Disk) (source : SourceMemory) (sink : SinkMemory) (after : Ended)
+    → IsRun meaning source_state sink_state (outside_of disk source sink) after → MayLeaveOnly (meaning disk) (λ image. Represents image t p)
+    → KeepsAcknowledged (run_texts t source.left p) (run_trees t source.left p) t p source sink after
+keeps_acknowledged t p disk source sink after run only = script_keeps_acknowledged (λ status ends. ends) t p disk source sink after (length-run_texts t source.left p) run only

@@ -1,5 +1,5 @@
 -- `big` is a run of its commands: from what `big` promises, and from a run that answered its script.
-use Rattle.std.proofs.Common.{◌≡◌, ℕ, zero, suc, ◌+◌, ◌≤◌, nat_lt, List, [], ◌∷◌, ◌++◌, length, take, Ok, refl, sym, ap, ◌∙◌, subst, arith, length-append}
+use Rattle.std.proofs.Common.{◌≡◌, ℕ, zero, suc, ◌≤◌, nat_lt, List, [], ◌∷◌, ◌++◌, length, take, Ok, refl, sym, ap, ◌∙◌, subst, arith, length-append}
 use Rattle.std.proofs.lemmas.Bool.{le-ltb, cond-false}
 use Rattle.std.proofs.Math.Seq.{take-length}
 use Rattle.sha2.specs.Sha256.{sha256}
@@ -19,7 +19,8 @@ use Rattle.image_subcommands.specs.declared.status.Status.TheVariants as statuse
 use Rattle.image_subcommands.specs.Outside.{outside_of}
 use Rattle.image_subcommands.specs.Statuses.{IsBetweenLines, IsSummed}
 use Rattle.store_top.specs.BigCall.{IsBig}
-use Rattle.store_top.specs.Generations.{first_commands, step_under, generated_trees, summary_text}
+use Rattle.store_core.specs.Groups.{step_under}
+use Rattle.store_top.specs.Generations.{first_commands, generated_trees, summary_text}
 use Rattle.script_claims.specs.declared.big.TwoRuns.{TwoRuns}
 use Rattle.script_claims.specs.Answered.{AnswersScript}
 use Rattle.script_claims.specs.BigRuns.{AskFor, summary_of, IsRunOfCommands}

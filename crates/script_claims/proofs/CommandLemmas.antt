@@ -12,16 +12,17 @@ use Rattle.script_lines.specs.Memory.{SourceMemory, SinkMemory, sink_state}
 use Rattle.image_subcommands.specs.declared.status.Status.{Status}
 use Rattle.image_subcommands.specs.declared.status.Status.TheVariants as statuses
 use Rattle.image_subcommands.specs.Outside.{outside_of}
-use Rattle.image_subcommands.specs.Statuses.{IsBigStatus, IsBetweenLines, IsSummed}
+use Rattle.image_subcommands.specs.Statuses.{Subcommand as words, IsStatusOf, IsBetweenLines, IsSummed}
 use Rattle.store_top.specs.BigCall.{IsBig}
-use Rattle.store_top.specs.Generations.{first_commands, step_under, generated_trees}
+use Rattle.store_core.specs.Groups.{step_under}
+use Rattle.store_top.specs.Generations.{first_commands, generated_trees}
 use Rattle.script_claims.specs.BigRuns.{summary_of}
 use Rattle.script_claims.specs.Commands.{IsSummedUp, IsBrokenOff, KeepsCommands}
 use Rattle.script_claims.specs.Machines.{Disk, Ended, bytes_of, meaning}
 use Rattle.script_claims.proofs.BigLemmas.{summary_is}
 use Rattle.script_claims.proofs.RunWays.{image_of, read_is}
 
-big_way : (status : Status) → IsBigStatus status → (status ≡ statuses.NotImage → ⊥) → (status ≡ statuses.Damaged → ⊥) → IsSummedUp status ⊎ IsBrokenOff status
+big_way : (status : Status) → IsStatusOf words.Big status → (status ≡ statuses.NotImage → ⊥) → (status ≡ statuses.Damaged → ⊥) → IsSummedUp status ⊎ IsBrokenOff status
 big_way statuses.Done runs image whole = inl (inl refl)
 big_way statuses.Usage runs image whole = absurd (false≢true runs)
 big_way statuses.SourceFault runs image whole = absurd (false≢true runs)

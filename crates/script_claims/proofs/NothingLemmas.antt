@@ -1,18 +1,20 @@
--- Nothing is done on bytes that are the image of no tree: from what a run and `big` promise.
-use Rattle.std.proofs.Common.{◌≡◌, ◌⊎◌, inl, inr, ℕ, refl, sym, subst, ⊎_elim}
+-- Nothing is done on bytes that are the image of no tree: from what a call that answers a script and `big` promise.
+use Rattle.std.proofs.Common.{◌≡◌, ◌⊎◌, inl, inr, ℕ, List, refl, sym, subst, ⊎_elim}
 use Rattle.std.proofs.lemmas.Bool.{false≢true}
 use Rattle.store_model.specs.Parameters.{Parameters}
+use Rattle.store_model.specs.Trees.{Tree}
 use Rattle.gate_journal.specs.Headers.{IsImageWith}
 use Rattle.image_check.specs.Verdicts.{IsDamaged}
 use Rattle.script_lines.specs.Memory.{SourceMemory, SinkMemory, source_state, sink_state}
 use Rattle.image_subcommands.specs.declared.status.Status.{Status}
 use Rattle.image_subcommands.specs.declared.status.Status.TheVariants as statuses
 use Rattle.image_subcommands.specs.Outside.{outside_of}
-use Rattle.image_subcommands.specs.Statuses.{IsRunStatus, IsBigStatus, IsBetweenLines, IsPastHeader, MayComeFirst}
+use Rattle.image_subcommands.specs.Statuses.{Subcommand, Subcommand as words, IsStatusOf, IsBetweenLines, IsPastHeader, MayComeFirst}
 use Rattle.store_top.specs.BigCall.{IsBig}
-use Rattle.store_top.specs.RunCall.{IsRun}
+use Rattle.store_top.specs.ScriptCall.{AnswersScript}
 use Rattle.script_claims.specs.Machines.{Disk, Ended, bytes_of, meaning}
 use Rattle.script_claims.specs.Nothing.{HasNoTree, ComesFirst, DoesNothing}
+use Rattle.script_claims.proofs.RunWays.{EndsAsRun}
 
 comes_first : (status : Status) → MayComeFirst status → ComesFirst status
 comes_first statuses.Done h = absurd (false≢true h)
@@ -28,7 +30,7 @@ comes_first statuses.AlreadyImage h = absurd (false≢true h)
 comes_first statuses.WrongLength h = absurd (false≢true h)
 comes_first statuses.Unequal h = absurd (false≢true h)
 
-refused_run : (status : Status) → IsRunStatus status → (IsBetweenLines status → ⊥) → (status ≡ statuses.NotImage) ⊎ ((status ≡ statuses.Damaged) ⊎ ComesFirst status)
+refused_run : (status : Status) → IsStatusOf words.Run status → (IsBetweenLines status → ⊥) → (status ≡ statuses.NotImage) ⊎ ((status ≡ statuses.Damaged) ⊎ ComesFirst status)
 refused_run statuses.Done runs never = absurd (never refl)
 refused_run statuses.Usage runs never = absurd (false≢true runs)
 refused_run statuses.SourceFault runs never = absurd (never refl)
@@ -42,7 +44,7 @@ refused_run statuses.AlreadyImage runs never = absurd (false≢true runs)
 refused_run statuses.WrongLength runs never = absurd (false≢true runs)
 refused_run statuses.Unequal runs never = absurd (false≢true runs)
 
-refused_big : (status : Status) → IsBigStatus status → (IsBetweenLines status → ⊥) → (status ≡ statuses.NotImage) ⊎ ((status ≡ statuses.Damaged) ⊎ ComesFirst status)
+refused_big : (status : Status) → IsStatusOf words.Big status → (IsBetweenLines status → ⊥) → (status ≡ statuses.NotImage) ⊎ ((status ≡ statuses.Damaged) ⊎ ComesFirst status)
 refused_big statuses.Done runs never = absurd (never refl)
 refused_big statuses.Usage runs never = absurd (false≢true runs)
 refused_big statuses.SourceFault runs never = absurd (false≢true runs)
@@ -64,10 +66,11 @@ damaged_with disk p none is = record {
   no_tree = λ observable. none;
 }
 
-pub run_does_nothing : (disk : Disk) (source : SourceMemory) (sink : SinkMemory) (after : Ended)
-    → IsRun meaning source_state sink_state (outside_of disk source sink) after → HasNoTree (bytes_of disk) → DoesNothing disk source sink after
-run_does_nothing disk source sink after run none =
-    let on_disk = run.observed refl in
+pub script_does_nothing : {word : Subcommand} {texts : Tree → List ℕ → Parameters → List (List ℕ)} {trees : Tree → List ℕ → Parameters → ℕ → Tree} → EndsAsRun word
+    → (disk : Disk) (source : SourceMemory) (sink : SinkMemory) (after : Ended)
+    → AnswersScript word texts trees meaning source_state sink_state (outside_of disk source sink) after → HasNoTree (bytes_of disk) → DoesNothing disk source sink after
+script_does_nothing as_run disk source sink after answers none =
+    let on_disk = answers.observed refl in
     let nothing = on_disk.nothing none in
     record {
       none_done = nothing.idle.done;
@@ -77,9 +80,9 @@ run_does_nothing disk source sink after run none =
       crash = nothing.crash.each;
       no_image = λ other. ⊎_elim (λ e. inl e) (λ first. inr (comes_first after.status first)) (on_disk.not_image.always (λ observable. other));
       damaged = λ p is. ⊎_elim (λ e. inl e) (λ first. inr (comes_first after.status first)) (on_disk.damaged.always (damaged_with disk p none is));
-      ends = refused_run after.status run.ends (λ between. let some = on_disk.represented between in none some.tree some.params some.represents);
+      ends = refused_run after.status (as_run after.status answers.ends) (λ between. let some = on_disk.represented between in none some.tree some.params some.represents);
       seven = λ e. on_disk.not_image.only e refl;
-      eight = λ e. let named = run.named (subst IsPastHeader (sym e) refl) in (named.0, (named.1).named refl);
+      eight = λ e. let named = answers.named (subst IsPastHeader (sym e) refl) in (named.0, (named.1).named refl);
     }
 
 pub big_does_nothing : (number count : ℕ) (disk : Disk) (source : SourceMemory) (sink : SinkMemory) (after : Ended)

@@ -10,7 +10,7 @@ use Rattle.store_model.specs.Parameters.{Parameters, IsParameters, slots_limit, 
 use Rattle.store_model.specs.Trees.{empty_tree}
 use Rattle.store_model.specs.Grammar.{number_of, ok_value, ◌>>=◌}
 use Rattle.store_model.specs.Words.{Request, number_in, kind_of_word, seed_of_word, version_of_word, request_of, commands_limit}
-use Rattle.store_model.specs.Words.Request.{Format, Run, Check, Scrub, Wipe, Upgrade, Big}
+use Rattle.store_model.specs.Words.Request.{Format, Run, Session, Check, Scrub, Wipe, Upgrade, Big}
 use Rattle.store_model.proofs.TreesLemmasFits.{Fits-empty, IsTree-empty}
 use Rattle.image_check.specs.Standing.{IsFitting}
 
@@ -18,6 +18,7 @@ use Rattle.image_check.specs.Standing.{IsFitting}
 abbrev IsRanged : Request → Type 0
 IsRanged (Format p) = IsParameters p
 IsRanged Run = Unit {0}
+IsRanged Session = Unit {0}
 IsRanged Check = Unit {0}
 IsRanged Scrub = Unit {0}
 IsRanged Wipe = Unit {0}
@@ -77,10 +78,11 @@ unfolding request_of
 ranged [] = tt
 ranged (w ∷ []) =
     if_picked IsRanged (same_bytes w (codes "run")) (Some Run) _ tt
+    (if_picked IsRanged (same_bytes w (codes "session")) (Some Session) _ tt
     (if_picked IsRanged (same_bytes w (codes "check")) (Some Check) _ tt
     (if_picked IsRanged (same_bytes w (codes "scrub")) (Some Scrub) _ tt
     (if_picked IsRanged (same_bytes w (codes "wipe")) (Some Wipe) _ tt
-    (if_picked IsRanged (same_bytes w (codes "upgrade")) (Some Upgrade) None tt tt))))
+    (if_picked IsRanged (same_bytes w (codes "upgrade")) (Some Upgrade) None tt tt)))))
 ranged (w ∷ a ∷ []) = tt
 ranged (w ∷ number ∷ count ∷ []) =
     if_picked IsRanged (same_bytes w (codes "big")) (number_of number >>= λ n. number_in 1 commands_limit count >>= λ k. Some (Big n k)) None

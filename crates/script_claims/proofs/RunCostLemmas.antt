@@ -1,16 +1,16 @@
--- What runs cost: from what a run and `big` promise.
-use Rattle.std.proofs.Common.{ℕ, refl}
+-- What runs cost: from what a call that answers a script and `big` promise.
+use Rattle.std.proofs.Common.{ℕ, List, refl}
 use Rattle.store_model.specs.Parameters.{Parameters}
 use Rattle.store_model.specs.Trees.{Tree}
 use Rattle.store_model.specs.Images.{Represents}
 use Rattle.script_lines.specs.Memory.{SourceMemory, SinkMemory, source_state, sink_state}
 use Rattle.image_subcommands.specs.declared.status.Status.{Status}
 use Rattle.image_subcommands.specs.Outside.{outside_of}
+use Rattle.image_subcommands.specs.Statuses.{Subcommand}
 use Rattle.store_top.specs.BigCall.{IsBig}
 use Rattle.store_top.specs.Costs.{CountsRun}
 use Rattle.store_top.specs.Generations.{generated_trees}
-use Rattle.store_top.specs.RunCall.{IsRun}
-use Rattle.store_top.specs.Runs.{run_trees}
+use Rattle.store_top.specs.ScriptCall.{AnswersScript}
 use Rattle.script_claims.specs.Machines.{Disk, Ended, bytes_of, meaning}
 use Rattle.script_claims.specs.RunCosts.{CostsJust}
 use Rattle.script_claims.proofs.RunWays.{between}
@@ -22,9 +22,10 @@ costs status done trees p before after counts = record {
   limit = counts.limit;
 }
 
-pub run_costs : (t : Tree) (p : Parameters) (disk : Disk) (source : SourceMemory) (sink : SinkMemory) (after : Ended)
-    → IsRun meaning source_state sink_state (outside_of disk source sink) after → Represents (bytes_of disk) t p → CostsJust after.status after.done (run_trees t source.left p) p disk after.disk
-run_costs t p disk source sink after run is = costs after.status after.done (run_trees t source.left p) p disk after.disk ((run.observed refl).runs refl t p is).counts
+pub script_costs : {word : Subcommand} {texts : Tree → List ℕ → Parameters → List (List ℕ)} {trees : Tree → List ℕ → Parameters → ℕ → Tree}
+    → (t : Tree) (p : Parameters) (disk : Disk) (source : SourceMemory) (sink : SinkMemory) (after : Ended)
+    → AnswersScript word texts trees meaning source_state sink_state (outside_of disk source sink) after → Represents (bytes_of disk) t p → CostsJust after.status after.done (trees t source.left p) p disk after.disk
+script_costs t p disk source sink after answers is = costs after.status after.done _ p disk after.disk ((answers.observed refl).runs refl t p is).counts
 
 pub big_costs : (number count : ℕ) (t : Tree) (p : Parameters) (disk : Disk) (source : SourceMemory) (sink : SinkMemory) (after : Ended)
     → IsBig meaning sink_state number count (outside_of disk source sink) after → Represents (bytes_of disk) t p → CostsJust after.status after.done (generated_trees t number count p) p disk after.disk

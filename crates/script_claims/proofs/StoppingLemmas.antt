@@ -1,5 +1,5 @@
 -- How a making ends that stops before its end: from what a format and a run promise.
-use Rattle.std.proofs.Common.{◌≡◌, ◌≢◌, ◌⊎◌, inl, inr, length, Result, Ok, Err, IfErr, IsErrAnd, refl, sym, ap, ◌∙◌, subst, arith, length-append}
+use Rattle.std.proofs.Common.{◌≡◌, ◌⊎◌, inl, inr, length, Result, Ok, Err, IfErr, IsErrAnd, refl, sym, ap, ◌∙◌, subst, arith, length-append}
 use Rattle.std.proofs.lemmas.Bool.{false≢true}
 use Rattle.store_model.specs.Parameters.{Parameters}
 use Rattle.store_model.specs.Trees.{Tree}
@@ -10,7 +10,7 @@ use Rattle.image_subcommands.specs.declared.status.Status.{Status}
 use Rattle.image_subcommands.specs.declared.status.Status.TheVariants as statuses
 use Rattle.image_subcommands.specs.Outside.{outside_of, KeepsOutside}
 use Rattle.image_subcommands.specs.FormatCall.{IsFormat}
-use Rattle.image_subcommands.specs.Statuses.{IsFormatStatus, disk_faults_by, source_faults_by, sink_faults_by}
+use Rattle.image_subcommands.specs.Statuses.{Subcommand as words, IsStatusOf, disk_faults_by, source_faults_by, sink_faults_by}
 use Rattle.store_top.specs.RunCall.{IsRun}
 use Rattle.script_claims.specs.Acknowledged.{EndsWhole, EndsEarly}
 use Rattle.script_claims.specs.Machines.{Disk, Ended, bytes_of, meaning}
@@ -34,7 +34,7 @@ run_cut status (inr (inr (inl e))) other = inr (inr (inl e))
 run_cut status (inr (inr (inr (inl e)))) other = inr (inr (inr (inl e)))
 run_cut status (inr (inr (inr (inr e)))) other = inr (inr (inr (inr e)))
 
-format_cut : (status : Status) → IsFormatStatus status → (status ≡ statuses.Done → ⊥)
+format_cut : (status : Status) → IsStatusOf words.Format status → (status ≡ statuses.Done → ⊥)
     → (status ≡ statuses.DiskFault) ⊎ ((status ≡ statuses.NoMemory) ⊎ ((status ≡ statuses.AlreadyImage) ⊎ (status ≡ statuses.WrongLength)))
 format_cut statuses.Done is other = absurd (other refl)
 format_cut statuses.Usage is other = absurd (false≢true is)
@@ -71,7 +71,7 @@ module _ (disk : Disk) (source : SourceMemory) (sink : SinkMemory) (after : Ende
   pub run_stops : (t : Tree) (p : Parameters) → IsRun meaning source_state sink_state (outside_of disk source sink) after → Represents (bytes_of disk) t p
       → (after.status ≡ statuses.Done → ⊥) → StopsRuns disk (λ script. script ≡ source) sink after
   run_stops t p run represents other = record {
-    ends = run_cut after.status (way t p disk source sink after run represents) other;
+    ends = run_cut after.status (way (λ status ends. ends) t p disk source sink after run represents) other;
     disk_fault = disk_by statuses.DiskFault;
     sink_fault = sink_by statuses.SinkFault;
     source_fault = λ e. (source, refl, source_by statuses.SourceFault e);

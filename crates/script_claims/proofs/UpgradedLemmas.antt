@@ -19,17 +19,17 @@ use Rattle.store_model.proofs.TreesLemmasSteps.{step_of_version, step_by_refusal
 use Rattle.store_model.specs.Grammar.{parse, ◌>>=◌}
 use Rattle.store_model.specs.Scripts.{lines, line_limit, answer, answer_by, answers_by, state_by, replies_by, tree_by, replies, tree_after}
 use Rattle.store_model.specs.Words.{Request, request_of, number_in, kind_of_word, seed_of_word, version_of_word}
-use Rattle.store_model.specs.Words.Request.{Format, Run, Check, Scrub, Wipe, Upgrade, Big}
+use Rattle.store_model.specs.Words.Request.{Format, Run, Session, Check, Scrub, Wipe, Upgrade, Big}
 use Rattle.image_check.specs.Standing.{IsFitting}
 use Rattle.script_lines.specs.Memory.{SourceMemory, SinkMemory, source_state, sink_state}
 use Rattle.image_subcommands.specs.declared.status.Status.{Status}
 use Rattle.image_subcommands.specs.declared.status.Status.TheVariants as statuses
 use Rattle.image_subcommands.specs.Outside.{outside_of, KeepsOutside}
-use Rattle.image_subcommands.specs.Statuses.{IsUpgradeStatus, disk_faults_by}
+use Rattle.image_subcommands.specs.Statuses.{Subcommand as words, IsStatusOf, disk_faults_by}
 use Rattle.store_top.specs.UpgradeCall.{IsUpgrade}
-use Rattle.script_claims.specs.Machines.{Disk, Ended, HasImage, bytes_of, meaning}
+use Rattle.script_claims.specs.Machines.{Disk, Ended, HasImage, meaning}
 use Rattle.script_claims.specs.Makings.{made_tree}
-use Rattle.script_claims.specs.Upgrades.{HaveSameArguments, AreSameScripts, IsNotFull, IsServed, AreNeverFull, AreServed, IsUpgradedAsMade, StopsUpgrade}
+use Rattle.script_claims.specs.Upgrades.{HaveSameArguments, AreSameScripts, IsNotFull, IsServed, IsUpgradedAsMade, StopsUpgrade}
 use Rattle.script_claims.proofs.MakingLemmas.{represented}
 use Rattle.script_claims.proofs.RunWays.{image_of}
 
@@ -39,6 +39,7 @@ use Rattle.script_claims.proofs.RunWays.{image_of}
 abbrev upgraded_request : Request → Request
 upgraded_request (Format p) = Format (with_version p Two)
 upgraded_request Run = Run
+upgraded_request Session = Session
 upgraded_request Check = Check
 upgraded_request Scrub = Scrub
 upgraded_request Wipe = Wipe
@@ -132,7 +133,7 @@ pub upgraded : (t : Tree) (p : Parameters) (disk : Disk) (source : SourceMemory)
 upgraded t p disk source sink after upgrade is image e = image_of after.disk t (with_version p Two) (((upgrade.observed refl).upgrades t p (represented disk t p is image)).upgraded e)
 
 -- one that did not was stopped by its disk, or by want of memory
-upgrade_cut : (status : Status) → IsUpgradeStatus status → (status ≡ statuses.NotImage → ⊥) → (status ≡ statuses.Damaged → ⊥) → (status ≡ statuses.Done → ⊥) → (status ≡ statuses.DiskFault) ⊎ (status ≡ statuses.NoMemory)
+upgrade_cut : (status : Status) → IsStatusOf words.Upgrade status → (status ≡ statuses.NotImage → ⊥) → (status ≡ statuses.Damaged → ⊥) → (status ≡ statuses.Done → ⊥) → (status ≡ statuses.DiskFault) ⊎ (status ≡ statuses.NoMemory)
 upgrade_cut statuses.Done ends image whole other = absurd (other refl)
 upgrade_cut statuses.Usage ends image whole other = absurd (false≢true ends)
 upgrade_cut statuses.SourceFault ends image whole other = absurd (false≢true ends)

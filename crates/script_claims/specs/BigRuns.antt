@@ -1,5 +1,5 @@
 -- A number's commands, and a script that asks for them.
-use Rattle.std.specs.Prelude.{◌≡◌, ◌≤◌, ◌<◌, ◌⊎◌, ◌+◌, ℕ, Bool, true, false, not, List, [], ◌∷◌, ◌++◌, length, take, drop, Ok, codes}
+use Rattle.std.specs.Prelude.{◌≡◌, ◌≤◌, ℕ, List, [], ◌∷◌, ◌++◌, length, Ok, codes}
 use Rattle.std.specs.Fmt.{decimal}
 use Rattle.sha2.specs.Sha256.{sha256}
 use Rattle.store_model.specs.Parameters.{Parameters}
@@ -13,7 +13,7 @@ use Rattle.script_lines.specs.Memory.{SourceMemory, SinkMemory}
 use Rattle.image_subcommands.specs.declared.status.Status.TheVariants as statuses
 use Rattle.store_top.specs.Generations.{count_answered, count_refused}
 use Rattle.script_claims.specs.declared.big.TwoRuns.{TwoRuns}
-use Rattle.script_claims.specs.Machines.{Disk, Ended, HasImage, bytes_of}
+use Rattle.script_claims.specs.Machines.{bytes_of}
 
 -- the lines ask for these commands, one each
 abbrev pub AskFor : List (List ℕ) → List Command → Type 0

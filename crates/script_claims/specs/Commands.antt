@@ -7,7 +7,8 @@ use Rattle.store_model.specs.Scripts.{replies_by, tree_by}
 use Rattle.script_lines.specs.Memory.{SourceMemory, SinkMemory}
 use Rattle.image_subcommands.specs.declared.status.Status.{Status}
 use Rattle.image_subcommands.specs.declared.status.Status.TheVariants as statuses
-use Rattle.store_top.specs.Generations.{first_commands, step_under}
+use Rattle.store_core.specs.Groups.{step_under}
+use Rattle.store_top.specs.Generations.{first_commands}
 use Rattle.script_claims.specs.BigRuns.{summary_of}
 use Rattle.script_claims.specs.Machines.{Disk, Ended, HasImage, MightHaveLeft, NothingFailed, RepresentsSomeTree, bytes_of, meaning}
 use Rattle.script_claims.specs.Refusals.{IsAtRest, IsUntouched}

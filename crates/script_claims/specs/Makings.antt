@@ -1,5 +1,5 @@
 -- Images that are made by a format and scripts.
-use Rattle.std.specs.Prelude.{◌≡◌, ◌≢◌, ◌↔◌, ◌⊎◌, ◌<◌, List, length, map, slice_index, Contains}
+use Rattle.std.specs.Prelude.{◌≡◌, ◌≢◌, ◌↔◌, ◌⊎◌, ◌<◌, List, length, slice_index, Contains}
 use Rattle.std.specs.List.{flat_map}
 use Rattle.store_model.specs.Parameters.{Parameters, image_len}
 use Rattle.store_model.specs.Trees.{Tree, empty_tree}

@@ -11,10 +11,9 @@ use Rattle.store_model.specs.Commands.Reply.{Refused}
 use Rattle.store_model.specs.Steps.{lacks_version, refusal_of, next_tree}
 use Rattle.store_model.specs.Grammar.{parse}
 use Rattle.store_model.specs.Scripts.{lines, line_limit, answer}
-use Rattle.script_lines.specs.Memory.{SourceMemory, SinkMemory}
-use Rattle.image_subcommands.specs.declared.status.Status.TheVariants as statuses
+use Rattle.script_lines.specs.Memory.{SinkMemory}
 use Rattle.store_top.specs.Generations.{is_refused}
-use Rattle.script_claims.specs.Machines.{Disk, Ended, HasImage, bytes_of, meaning}
+use Rattle.script_claims.specs.Machines.{Disk, Ended, bytes_of, meaning}
 
 -- a reply that refuses
 abbrev pub IsRefusal : Reply → Type 0

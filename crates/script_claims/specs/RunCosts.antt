@@ -1,8 +1,7 @@
 -- What runs cost.
-use Rattle.std.specs.Prelude.{◌≡◌, ◌⊎◌, ◌+◌, ℕ, take}
+use Rattle.std.specs.Prelude.{◌≡◌, ◌⊎◌, ◌+◌, ℕ}
 use Rattle.store_model.specs.Parameters.{Parameters}
 use Rattle.store_model.specs.Trees.{Tree}
-use Rattle.store_model.specs.Scripts.{lines, tree_after}
 use Rattle.gate_journal.specs.Places.{Made}
 use Rattle.gate_journal.specs.Costs.{opening_writes, opening_syncs, MadeAtMost}
 use Rattle.gate_journal.specs.Disks.{IsOnlySynced}

@@ -2,7 +2,7 @@
 use Rattle.std.specs.Prelude.{◌≡◌, ◌⊎◌, ℕ, List, Some, None}
 use Rattle.store_model.specs.Parameters.{Parameters}
 use Rattle.store_model.specs.Words.{request_of}
-use Rattle.store_model.specs.Words.Request.{Format, Run, Check, Scrub, Wipe, Upgrade, Big}
+use Rattle.store_model.specs.Words.Request.{Format, Run, Session, Check, Scrub, Wipe, Upgrade, Big}
 use Rattle.disk_model.specs.DiskState.{DiskState}
 use Rattle.script_lines.specs.SourceState.{SourceState}
 use Rattle.script_lines.specs.SinkState.{SinkState}
@@ -14,6 +14,7 @@ use Rattle.image_subcommands.specs.CheckCall.{IsCheck}
 use Rattle.image_subcommands.specs.ScrubCall.{IsScrub}
 use Rattle.image_subcommands.specs.WipeCall.{IsWipe}
 use Rattle.store_top.specs.RunCall.{IsRun}
+use Rattle.store_top.specs.SessionCall.{IsSession}
 use Rattle.store_top.specs.BigCall.{IsBig}
 use Rattle.store_top.specs.UpgradeCall.{IsUpgrade}
 
@@ -29,6 +30,7 @@ module _ {D R W : Type 0} (disk_of : D → DiskState) (source_of : R → SourceS
     -- what each subcommand does
     pub format : (p : Parameters) → request_of words ≡ Some (Format p) → IsFormat disk_of p before after
     pub run : request_of words ≡ Some Run → IsRun disk_of source_of sink_of before after
+    pub session : request_of words ≡ Some Session → IsSession disk_of source_of sink_of before after
     pub check : request_of words ≡ Some Check → IsCheck disk_of sink_of before after
     pub scrub : request_of words ≡ Some Scrub → IsScrub disk_of sink_of before after
     pub wipe : request_of words ≡ Some Wipe → IsWipe disk_of before after

@@ -5,6 +5,7 @@ ghost use Rattle.store_model.specs.Parameters.{Parameters};
 ghost use Rattle.store_model.specs.Trees.{Tree};
 ghost use Rattle.store_model.specs.Images.{Represents};
 ghost use Rattle.disk_model.specs.DiskState.{MayLeaveOnly};
+ghost use Rattle.store_top.specs.Runs.{run_texts, run_trees};
 ghost use Rattle.script_claims.specs.Acknowledged.{KeepsAcknowledged};
 ghost use Rattle.script_claims.specs.Machines.{bytes_of, meaning};
 
@@ -24,7 +25,7 @@ pub fn what_was_acknowledged_stays(
     source: MemSource,
     sink: MemSink,
 ) -> Result<Ended, NoMemory>
-    ensures { (t : Tree) (p : Parameters) → MayLeaveOnly (meaning disk) (λ image. Represents image t p) → IfOk result (KeepsAcknowledged t p source sink) }
+    ensures { (t : Tree) (p : Parameters) → MayLeaveOnly (meaning disk) (λ image. Represents image t p) → IfOk result (KeepsAcknowledged (run_texts t source.left p) (run_trees t source.left p) t p source sink) }
 {
     let words = run_word(alloc)?;
     Ok(serve(alloc, &words, disk, source, sink))

@@ -6,8 +6,9 @@ ghost use Rattle.store_model.specs.Trees.{Tree};
 ghost use Rattle.store_model.specs.Images.{Represents};
 ghost use Rattle.disk_model.specs.DiskState.{MayLeaveOnly};
 ghost use Rattle.disk_model.specs.Memory.{memory_state};
+ghost use Rattle.store_top.specs.Runs.{run_texts, run_trees};
 ghost use Rattle.script_claims.specs.Acknowledged.{KeepsAcknowledged};
-ghost use Rattle.script_claims.specs.Crashes.{LosesNothing};
+ghost use Rattle.script_claims.specs.Crashes.{LosesNothing, RunsBehind};
 
 use crate::answered::a_script_is_answered;
 use crate::call::serve;
@@ -20,11 +21,11 @@ use store_base::NoMemory;
 /// The room of the record of the disk that the second run is on, in bytes: a write takes 16 and those that it writes.
 const ROOM: usize = 4_194_304;
 
-/// A run that a crash cut short, and the run behind it.
+/// A call that a crash cut short, and the run behind it.
 #[derive(Drop)]
 pub struct Crash {
-    /// The run on the disk that fails.
-    pub run: Ended,
+    /// The call on the disk that fails.
+    pub first: Ended,
     /// The run of no line on the image that the crash left.
     pub next: Ended,
 }
@@ -44,14 +45,25 @@ pub fn a_crash_loses_nothing(
     sink: MemSink,
     left: &[u8],
 ) -> Result<Crash, NoMemory>
-    ensures run { (t : Tree) (p : Parameters) → MayLeaveOnly (memory_state disk) (λ image. Represents image t p) → IfOk result (λ crash. KeepsAcknowledged t p source sink crash.run) }
-    ensures next { (t : Tree) (p : Parameters) → MayLeaveOnly (memory_state disk) (λ image. Represents image t p) → IfOk result (LosesNothing t p disk source sink left.now) }
+    ensures first { (t : Tree) (p : Parameters) → MayLeaveOnly (memory_state disk) (λ image. Represents image t p) →
+        IfOk result (λ crash. KeepsAcknowledged (run_texts t source.left p) (run_trees t source.left p) t p source sink crash.first) }
+    ensures next { (t : Tree) (p : Parameters) → MayLeaveOnly (memory_state disk) (λ image. Represents image t p) →
+        IfOk result (LosesNothing (run_texts t source.left p) (run_trees t source.left p) p disk sink left.now) }
 {
     let words = run_word(alloc)?;
     let failing = FailingDisk::new(disk, Vec::new(alloc), Some(from));
-    let run = serve(alloc, &words, failing, source, sink);
-    let disk = calm(alloc, MemDisk::new(alloc, left, ROOM)?);
+    let first = serve(alloc, &words, failing, source, sink);
+    let next = run_behind(alloc, left)?;
+    Ok(Crash { first, next })
+}
+
+/// Runs no line on this image, on a disk of its own, on which no call is to fail. So a crash is recovered from.
+///
+/// `NoMemory`: there was none for the disk and the sink, or for the word `run`.
+pub fn run_behind(alloc: Global, image: &[u8]) -> Result<Ended, NoMemory>
+    ensures { (t : Tree) (p : Parameters) → Represents image.now t p → IfOk result (RunsBehind t p) }
+{
+    let disk = calm(alloc, MemDisk::new(alloc, image, ROOM)?);
     let sink = MemSink::new(alloc, 0, Vec::new(alloc))?;
-    let next = a_script_is_answered(alloc, disk, no_script(alloc), sink)?;
-    Ok(Crash { run, next })
+    a_script_is_answered(alloc, disk, no_script(alloc), sink)
 }

@@ -26,7 +26,7 @@ pub use answered::a_script_is_answered;
 pub use big::{TwoRuns, big_is_a_run, commands_of_big_stay};
 pub use call::serve;
 pub use costs::{a_run_costs_its_changes, big_costs_its_changes};
-pub use crash::{Crash, a_crash_loses_nothing};
+pub use crash::{Crash, a_crash_loses_nothing, run_behind};
 pub use equal::{Images, Making, equal_contents_have_equal_bytes, make_image};
 pub use machines::{Disk, Ended, Machine};
 pub use nothing::{a_run_on_no_tree_does_nothing, big_on_no_tree_does_nothing};

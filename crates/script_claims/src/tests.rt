@@ -380,8 +380,8 @@ fn crash_at(rt: &impl Abort, alloc: Global, from: u64, left: &[u8]) -> (Vec<u8>,
     let source = source_of(rt, alloc, "make /b\n");
     let sink = sink_of(rt, alloc);
     let crash = a_crash_loses_nothing(alloc, disk, from, source, sink, left).expect(rt, "memory");
-    let Crash { run, next } = crash;
-    let is_acknowledged = run.sink.written() == b"ok\n".as_slice();
+    let Crash { first, next } = crash;
+    let is_acknowledged = first.sink.written() == b"ok\n".as_slice();
     assert!(rt; next.status.code() == 0, "the run behind call {from}");
     let found = next.disk.into_disk();
     let is_old = found.bytes() == image_of(rt, alloc, A).as_slice();
@@ -390,8 +390,8 @@ fn crash_at(rt: &impl Abort, alloc: Global, from: u64, left: &[u8]) -> (Vec<u8>,
         (is_old & !is_acknowledged) | is_new,
         "a crash at call {from}"
     );
-    let is_done = run.status.code() == 0;
-    let read = run.disk.into_disk();
+    let is_done = first.status.code() == 0;
+    let read = first.disk.into_disk();
     (read.bytes().to_vec(alloc).expect(rt, "memory"), is_done)
 }
 

@@ -1,4 +1,5 @@
 pub mod CallEnds
+pub mod CopyLemmas
 pub mod FieldLemmas
 pub mod Generating
 pub mod Held
@@ -6,5 +7,8 @@ pub mod LineLemmas
 pub mod Loops
 pub mod Pieces
 pub mod ReplyLemmas
+pub mod SameReplies
 pub mod Search
+pub mod SessionKinds
+pub mod SessionLemmas
 pub mod StateLemmas

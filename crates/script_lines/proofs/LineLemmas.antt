@@ -82,7 +82,7 @@ pub not-yes : (b : Bool) → not b ≡ true → b ≡ false
 not-yes true e = cc
 not-yes false e = refl
 
-not-no : (b : Bool) → not b ≡ false → b ≡ true
+pub not-no : (b : Bool) → not b ≡ false → b ≡ true
 not-no true e = refl
 not-no false e = cc
 

@@ -68,6 +68,21 @@ IsPut-last a b c whole text (Err fault) ab bc =
     IsPut-fails a b c whole text whole [] fault ab (record { observable = bc.observable; faults = bc.faults; last_fault = bc.last_fault; written = λ observable. (bc.observed observable).cut_off })
     (sym (append-nil whole))
 
+-- a put of the front of a text
+pub PutsPart-put : {T E : Type 0} (a b : SinkState) (text more : List ℕ) (value : T) → IsPut {E = E} a b text (Ok value) → PutsPart a b (text ++ more) more
+PutsPart-put a b text more value put =
+    record { part = text; text = refl; observable = put.observable; faults = put.faults; written = λ observable. (put.observed observable).appended }
+
+-- a put, and then another of more
+pub IsPut-more : {T U E F : Type 0} (a b c : SinkState) (text more : List ℕ) (value : T) (result : Result U E) → IsPut {E = F} a b text (Ok value) → IsPut b c more result → IsPut a c (text ++ more) result
+IsPut-more a b c text more value result ab bc =
+    let put = PutsPart-put a b text more value ab in IsPut-last a b c (text ++ more) more result put bc
+
+-- a put that fails, where more was to come
+pub IsPut-cut : {T U E F : Type 0} (a b : SinkState) (text more : List ℕ) (fault : E) (told : F) → IsPut {T = T} a b text (Err fault) → IsPut {T = U} a b (text ++ more) (Err told)
+IsPut-cut a b text more fault told ab =
+    IsPut-fails a a b text text (text ++ more) more told (PutsPart-refl a text) (record { observable = ab.observable; faults = ab.faults; last_fault = ab.last_fault; written = λ observable. (ab.observed observable).cut_off }) refl
+
 module _ {X : Type 0} (text_of : X → List ℕ) where
   -- the text of one more
   pub flat_map-one_more : (xs : List X) (i : ℕ) (x : X) → i < length xs → slice_get xs i ≡ Some x → flat_map text_of (take (i + 1) xs) ≡ flat_map text_of (take i xs) ++ text_of x

@@ -7,5 +7,7 @@ pub mod Memory
 pub mod Parsing
 pub mod Placed
 pub mod Replies
+pub mod SessionParts
+pub mod Sessions
 pub mod SinkState
 pub mod SourceState

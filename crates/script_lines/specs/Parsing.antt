@@ -1,6 +1,7 @@
 -- What is read from the fields of a line, and the program's commands seen as those of the definitions.
-use Rattle.std.specs.Prelude.{◌≡◌, ℕ, ◌<◌, ◌≤◌, true, false, List, [], ◌∷◌, length, Result, Ok, Err, Option, Some, None, ◌==◌, codes}
+use Rattle.std.specs.Prelude.{◌≡◌, ℕ, ◌<◌, ◌≤◌, Bool, true, false, ◌||◌, List, [], ◌∷◌, length, Result, Ok, Err, Option, Some, None, ◌==◌, codes}
 use Rattle.std.specs.List.{slice_split}
+use Rattle.store_model.specs.Lists.{same_bytes}
 use Rattle.store_model.specs.Paths.{Path, fits_field}
 use Rattle.store_model.specs.Grammar.{path_of, number_of, content_of, attribute_name_of, ◌>>=◌, on_word}
 use Rattle.store_model.specs.Commands as model
@@ -11,6 +12,8 @@ use Rattle.script_lines.specs.declared.command.Command.{Command}
 use Rattle.script_lines.specs.declared.command.Command.TheVariants as declared
 use Rattle.script_lines.specs.declared.fields.Fields.{Fields}
 use Rattle.script_lines.specs.declared.fields.Fields.TheVariants as fields
+use Rattle.script_lines.specs.declared.fields.CallFields.{CallFields}
+use Rattle.script_lines.specs.declared.fields.CallFields.TheVariants as call_fields
 
 -- the program's command, as the definitions have it
 abbrev pub command_of : Command → model.Command
@@ -45,6 +48,29 @@ AreFields (fields.Two w a) parts = parts ≡ w.now ∷ a.now ∷ []
 AreFields (fields.Three w a b) parts = parts ≡ w.now ∷ a.now ∷ b.now ∷ []
 AreFields (fields.Four w a b c) parts = parts ≡ w.now ∷ a.now ∷ b.now ∷ c.now ∷ []
 AreFields fields.More parts = 4 < length parts
+
+-- the fields of a session's line are all the parts, or the first two of them and the parts of what stands behind these
+abbrev pub AreCallFields : CallFields → List (List ℕ) → Type 0
+AreCallFields (call_fields.One w) parts = parts ≡ w.now ∷ []
+AreCallFields (call_fields.Two w s) parts = parts ≡ w.now ∷ s.now ∷ []
+AreCallFields (call_fields.More w s rest) parts = parts ≡ w.now ∷ s.now ∷ parts_of rest.now
+
+-- what a command is to be read from is not longer than the line
+abbrev pub FitCallFields : ℕ → CallFields → Type 0
+FitCallFields size (call_fields.One w) = Unit {0}
+FitCallFields size (call_fields.Two w s) = Unit {0}
+FitCallFields size (call_fields.More w s rest) = length rest.now ≤ size
+
+-- whether a word is that of a command that changes the tree
+abbrev pub is_change_word : List ℕ → Bool
+is_change_word w =
+    same_bytes w (codes "make") || same_bytes w (codes "write") || same_bytes w (codes "cut") || same_bytes w (codes "rename")
+    || same_bytes w (codes "remove") || same_bytes w (codes "prune") || same_bytes w (codes "set") || same_bytes w (codes "unset")
+
+-- whether the first field is such a word
+abbrev pub has_change_word : List (List ℕ) → Bool
+has_change_word [] = false
+has_change_word (w ∷ fields) = is_change_word w
 
 -- what a field says of a path: the path, or the refusal `syntax` or `path`
 abbrev pub ReadsPath : List ℕ → Result Path Refusal → Type 0

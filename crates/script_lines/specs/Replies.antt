@@ -1,5 +1,5 @@
 -- The program's replies seen as those of the definitions, and what the parts of a listing do to a sink.
-use Rattle.std.specs.Prelude.{◌≡◌, ℕ, ◌^◌, ◌<◌, List, [], ◌++◌, Result, Ok, Err, codes}
+use Rattle.std.specs.Prelude.{◌≡◌, ℕ, ◌^◌, ◌<◌, List, [], ◌++◌, length, Result, Ok, Err, codes}
 use Rattle.std.specs.Fmt.{decimal}
 use Rattle.store_base.specs.Counts.{raised}
 use Rattle.store_model.specs.declared.refusal.Refusal.{Refusal}
@@ -19,6 +19,16 @@ reply_of (declared.Attrs attributes) = AttributeListing attributes
 reply_of (declared.Space used slots) = PagesUsed used slots
 reply_of (declared.Digest digest) = ImageDigest digest
 reply_of (declared.No refusal) = Refused refusal
+
+-- it is a listing with an entry at least, which takes memory to keep
+abbrev pub HasEntries : model.Reply → Type 0
+HasEntries Acknowledged = ⊥
+HasEntries (Content bytes) = ⊥
+HasEntries (Listing children) = 0 < length children
+HasEntries (AttributeListing attributes) = 0 < length attributes
+HasEntries (PagesUsed used slots) = ⊥
+HasEntries (ImageDigest digest) = ⊥
+HasEntries (Refused refusal) = ⊥
 
 -- what the text of a refusal has behind its word: of `full` two numbers, each behind a space, and of all others nothing
 abbrev pub numbers_of : Refusal → List ℕ

@@ -4,7 +4,7 @@ ghost use Rattle.std.specs.Prelude.{◌≡◌, ◌≤◌, ◌*◌, ◌/◌, ◌�
 ghost use Rattle.std.specs.List.{list_all};
 ghost use Rattle.store_model.specs.Grammar.{number_of, content_of, ok_value, is_numeral, is_digit, digits_value, number_limit};
 ghost use Rattle.hex.specs.Hex.{decode_of};
-ghost use Rattle.script_lines.specs.Parsing.{parts_of, AreFields, FitFields, ReadsPath};
+ghost use Rattle.script_lines.specs.Parsing.{parts_of, AreFields, FitFields, AreCallFields, FitCallFields, ReadsPath, has_change_word, is_change_word};
 
 use crate::find::find_byte;
 use path_keys::{Path, PathFault};
@@ -59,6 +59,56 @@ pub fn split_fields(text: &[u8]) -> Fields<'_>
         return Fields::More;
     }
     Fields::Four(word, first, second, third)
+}
+
+/// The fields of a session's line, which exactly one space parts: the word, the number of a session, and what a command
+/// is to be read from.
+#[derive(Clone, Copy)]
+pub enum CallFields<'a> {
+    /// The word alone.
+    One(&'a [u8]),
+    /// The word and a number.
+    Two(&'a [u8], &'a [u8]),
+    /// The word, a number, and all that stands behind the space that ends the number.
+    More(&'a [u8], &'a [u8], &'a [u8]),
+}
+
+/// The fields of a session's line.
+pub fn split_call(text: &[u8]) -> CallFields<'_>
+    ensures value { AreCallFields result (parts_of text.now) }
+    ensures fits { FitCallFields (length text.now) result }
+{
+    let (word, rest) = cut_field(text);
+    let Some(rest) = rest else {
+        return CallFields::One(word);
+    };
+    let (number, rest) = cut_field(rest);
+    let Some(rest) = rest else {
+        return CallFields::Two(word, number);
+    };
+    CallFields::More(word, number, rest)
+}
+
+/// Whether the first field of a line is the word of a command that changes the tree.
+pub fn has_change_word(text: &[u8]) -> bool
+    ensures { result ≡ has_change_word (parts_of text.now) }
+{
+    let (word, _) = cut_field(text);
+    is_change_word(word)
+}
+
+/// Whether a word is that of a command that changes the tree.
+fn is_change_word(word: &[u8]) -> bool
+    ensures { result ≡ is_change_word word.now }
+{
+    word == b"make".as_slice()
+        || word == b"write".as_slice()
+        || word == b"cut".as_slice()
+        || word == b"rename".as_slice()
+        || word == b"remove".as_slice()
+        || word == b"prune".as_slice()
+        || word == b"set".as_slice()
+        || word == b"unset".as_slice()
 }
 
 /// The path that a field spells.

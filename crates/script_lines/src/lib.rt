@@ -1,9 +1,10 @@
-//! What stands between a script and the store: sources and sinks of bytes, the lines of a script, the
-//! commands that they spell, and the text of replies and reports.
+//! What stands between a script or a session and the store: sources and sinks of bytes, the lines of both, the commands
+//! that they spell, and the text of answers, replies and reports.
 #![tactic(auto)]
 
 mod attributes;
 mod command;
+mod copies;
 mod fault;
 mod fields;
 mod find;
@@ -11,6 +12,8 @@ mod generator;
 mod lines;
 mod memory;
 mod reply;
+mod session;
+mod session_reply;
 mod sink;
 mod source;
 mod std_io;
@@ -23,6 +26,8 @@ pub use generator::Generator;
 pub use lines::{Line, LineFault, LineReader, MAX_LINE, MAX_SCRIPT};
 pub use memory::{MemSink, MemSource};
 pub use reply::{Reply, write_reply};
+pub use session::{Change, Question, SessionLine, parse_session, read_session_line};
+pub use session_reply::{SessionReply, write_session_reply};
 pub use sink::Sink;
 pub use source::Source;
 pub use std_io::{StdSink, StdSource};

@@ -1,16 +1,19 @@
 //! Replies, and the text that they have.
 
-ghost use Rattle.std.specs.Prelude.{◌≡◌, ◌≤◌, ◌+◌, ◌<◌, ◌++◌, length, OnOk, codes};
+ghost use Rattle.std.specs.Prelude.{◌≡◌, ◌≤◌, ◌+◌, ◌<◌, ◌++◌, length, OnOk, MatchResult, codes};
 ghost use Rattle.std.specs.Fmt.{decimal};
 ghost use Rattle.store_model.specs.Commands.{reply_text, child_line, attribute_line, refusal_text};
 ghost use Rattle.store_model.specs.Commands.Reply.{Content, Listing, AttributeListing, PagesUsed, ImageDigest, Refused};
 ghost use Rattle.script_lines.specs.SinkState.{IsPut};
-ghost use Rattle.script_lines.specs.Replies.{reply_of, numbers_of, MakesRoom};
+ghost use Rattle.script_lines.specs.Replies.{reply_of, numbers_of, HasEntries, MakesRoom};
+ghost use Rattle.script_lines.specs.Sessions.{same_reply, same_refusal};
 
+use crate::copies::{copied, copy_attributes, copy_children, same_attributes, same_children};
 use crate::fault::SinkFault;
 use crate::sink::Sink;
 use crate::text::{MAX_TEXT, Text};
-use store_base::{AttrEntries, Bytes, Entries};
+use std::alloc::Global;
+use store_base::{AttrEntries, Bytes, Entries, NoMemory};
 use store_model::Refusal;
 
 /// The most bytes that the line of a child or an attribute has.
@@ -71,6 +74,55 @@ impl Reply {
     {
         *self = Reply::No(refusal);
     }
+
+    /// Whether it is the same as another reply. It takes no memory.
+    #[tactic(auto, unfolding(crate::specs::Sessions::same_reply))]
+    pub fn is_same(&self, other: &Reply) -> bool
+        ensures { result ≡ same_reply (reply_of self.now) (reply_of other.now) }
+    {
+        match (self, other) {
+            (Reply::Ok, Reply::Ok) => true,
+            (Reply::Bytes(one), Reply::Bytes(other)) => one.as_slice() == other.as_slice(),
+            (Reply::Listing(one), Reply::Listing(other)) => same_children(one, other),
+            (Reply::Attrs(one), Reply::Attrs(other)) => same_attributes(one, other),
+            (
+                Reply::Space { used, slots },
+                Reply::Space {
+                    used: other_used,
+                    slots: other_slots,
+                },
+            ) => used == other_used && slots == other_slots,
+            (Reply::Digest(one), Reply::Digest(other)) => one == other,
+            (Reply::No(one), Reply::No(other)) => is_same_refusal(*one, *other),
+            _ => false,
+        }
+    }
+
+    /// The same reply once more.
+    /// `NoMemory`: there was no room for its listing, which has an entry at least.
+    pub fn copy(&self, alloc: Global) -> Result<Reply, NoMemory>
+        ensures { MatchResult result (λ copy. copy ≡ self.now) (λ _. HasEntries (reply_of self.now)) }
+    {
+        Ok(match self {
+            Reply::Ok => Reply::Ok,
+            Reply::Bytes(bytes) => Reply::Bytes(copied(bytes)),
+            Reply::Listing(children) => Reply::Listing(copy_children(children, alloc)?),
+            Reply::Attrs(attributes) => Reply::Attrs(copy_attributes(attributes, alloc)?),
+            Reply::Space { used, slots } => Reply::Space {
+                used: *used,
+                slots: *slots,
+            },
+            Reply::Digest(digest) => Reply::Digest(*digest),
+            Reply::No(refusal) => Reply::No(*refusal),
+        })
+    }
+}
+
+/// Whether two refusals are the same.
+fn is_same_refusal(one: Refusal, other: Refusal) -> bool
+    ensures { result ≡ same_refusal one other }
+{
+    one == other
 }
 
 /// Writes the text of a reply, each line of it ended by LF, in one put; a listing of more than 8,448 bytes
@@ -142,7 +194,7 @@ fn write_digest<W: Sink>(sink: &mut W, digest: &[u8; 32]) -> Result<(), SinkFaul
 /// Writes the line of a refusal.
 #[tactic(auto, unfolding(store_model::specs::Commands::reply_text))]
 #[inline(never)]
-fn write_refusal<W: Sink>(sink: &mut W, refusal: Refusal) -> Result<(), SinkFault>
+pub(crate) fn write_refusal<W: Sink>(sink: &mut W, refusal: Refusal) -> Result<(), SinkFault>
     ensures { IsPut (W.state sink.old) (W.state sink.new) (reply_text (Refused refusal)) result }
 {
     let mut text = Text::new();
@@ -153,7 +205,7 @@ fn write_refusal<W: Sink>(sink: &mut W, refusal: Refusal) -> Result<(), SinkFaul
 }
 
 /// Adds the word of a refusal, and the two numbers of `full`.
-fn push_refusal(text: &mut Text, refusal: Refusal)
+pub(crate) fn push_refusal(text: &mut Text, refusal: Refusal)
     requires { length text.old + MAX_REFUSAL ≤ MAX_TEXT }
     ensures value { text.new ≡ text.old ++ refusal_text refusal }
     ensures fits { length text.new ≤ length text.old + MAX_REFUSAL }

@@ -2,6 +2,8 @@ pub mod AnswerSteps
 pub mod CostLemmas
 pub mod DifferLemmas
 pub mod DiskLemmas
+pub mod GroupLemmas
+pub mod GroupSteps
 pub mod ListSteps
 pub mod OpeningLemmas
 pub mod StagedAnswers

@@ -31,8 +31,8 @@ use Rattle.tree_commands.proofs.ReplyLemmas.{AnswersUnder, answers_under, carrie
 use Rattle.tree_commands.proofs.StepLemmas.{uncounted_still}
 use Rattle.store_core.proofs.StagedAnswers.{AnswersAt}
 use Rattle.image_check.specs.Standing.{IsFitting}
-use Rattle.store_core.specs.StagedTree.{TreeList, IsListAt, HoldsTable}
-use Rattle.store_core.proofs.AnswerSteps.{reply_at}
+use Rattle.store_core.specs.StagedTree.{TreeList, IsListAt, IsListFor, FollowsList, HoldsTable}
+use Rattle.store_core.proofs.AnswerSteps.{reply_at, staged_at}
 use Rattle.store_core.proofs.TreePages.{few_pairs, tree_holds, tree_valid, held_map}
 
 -- ---- pages that stay
@@ -66,10 +66,6 @@ back_stays state old same told =
 abbrev pub pairs_state : {D : Type 0} → (D → DiskState) → TreeList D → PairsState
 pairs_state state list = list_over (any_draw list.draw) list.is_whole (pages_state state list.pages)
 
--- what every call keeps of a list over staged pages
-abbrev pub FollowsList : {D : Type 0} → (D → DiskState) → TreeList D → TreeList D → Type 0
-FollowsList state old new = Follows state old.pages new.pages × (new.draw ≡ old.draw)
-
 -- a command was carried out on a list of one version
 pub record AnswersList {D : Type 0} (state : D → DiskState) (version : Version) (c : Command) (old new : TreeList D) (result : Result Reply Fault) : Type 0 where
   pub follows : FollowsList state old new
@@ -90,52 +86,55 @@ changed_list state p version c old new r reply under is follows call =
       call = subst (λ (v : Version). AnswersUnder v c seen left reply) under (subst (AnswersUnder version c seen left) is (carried_reply version c seen left r call));
     }
 
-module _ {D : Type 0} (state : D → DiskState) (t : Tree) (p : Parameters) (old : TreeList D) (list : IsListAt state t p old) (runs : old.pages.is_spent ≡ false) where
-  pub holds : IsObservable (state old.pages.disk) → HoldsPairs (draw_of p) (pairs t p) old.pages.map
-  holds observable = tree_holds t p old.pages.map list.fitting (list.pages.held observable runs).map_is
+-- the list of a tree is one over its own table
+pub over_table : {D : Type 0} {state : D → DiskState} {t : Tree} {p : Parameters} {list : TreeList D} → IsListAt state t p list → list.pages.is_spent ≡ false → IsListFor state t t p list
+over_table {D} {state} {t} {p} {list} at runs = record { fitting = at.fitting; staged = staged_at state t p list.pages at.fitting at.pages runs; draw = at.draw; whole = at.whole }
+
+-- a list of one tree, over the table of another
+module _ {D : Type 0} (state : D → DiskState) (t now : Tree) (p : Parameters) (old : TreeList D) (list : IsListFor state t now p old) (runs : old.pages.is_spent ≡ false) where
+  pub own_pairs : IsObservable (state old.pages.disk) → pairs_of_map old.pages.map ≡ pairs now p
+  own_pairs observable = holds_own (draw_of p) (pairs now p) old.pages.map (list.staged.holds observable)
 
   -- the list has room for what a command adds
   pub room_at : IsHeld (any_draw old.draw) old.is_whole (pages_state state old.pages) → length (pairs_of_map old.pages.map) < pairs_limit
-  room_at seen = subst (λ (s : List Pair). length s < pairs_limit) (sym (holds_own (draw_of p) (pairs t p) old.pages.map (holds seen.1.0.disk))) (few_pairs t p list.fitting)
+  room_at seen = subst (λ (s : List Pair). length s < pairs_limit) (sym (own_pairs seen.1.0.disk)) (few_pairs now p list.fitting)
 
   pub seen_at : IsObservable (state old.pages.disk) → IsHeld (any_draw old.draw) old.is_whole (pages_state state old.pages)
   seen_at observable =
-      let map_is = (list.pages.held observable runs).map_is in
-      let told : IsTold state old.pages = record { disk = observable; runs = runs; valid = tree_valid t p old.pages.map list.fitting map_is } in
-      (list.whole observable, (told, subst (λ (d : Draw). HoldsPairs d (pairs_of_map old.pages.map) old.pages.map) (sym list.draw) (holds_its_pairs (draw_of p) (pairs t p) old.pages.map (holds observable))))
+      let holds = list.staged.holds observable in
+      let told : IsTold state old.pages = record { disk = observable; runs = runs; valid = tree_valid now p old.pages.map list.fitting (held_map now p old.pages.map holds) } in
+      (list.whole observable, (told, subst (λ (d : Draw). HoldsPairs d (pairs_of_map old.pages.map) old.pages.map) (sym list.draw) (holds_its_pairs (draw_of p) (pairs now p) old.pages.map holds)))
 
-  -- behind a fault the pages in the table are still those of the tree
+  -- behind calls that stage changes the pages in the table are still those that they were
   pub table_behind : (mid : TreeList D) → FollowsList state old mid → HoldsTable state mid
   table_behind mid follows told =
       let seen = sym follows.0.disk.observable ∙ told.disk in
-      (pairs t p, subst (λ (d : Draw). HoldsPairs d (pairs t p) mid.pages.table) (sym (ap any_draw follows.1 ∙ list.draw)) (tree_holds t p mid.pages.table list.fitting (follows.0.table seen ∙ (list.pages.held seen runs).table_is)))
+      (pairs t p, subst (λ (d : Draw). HoldsPairs d (pairs t p) mid.pages.table) (sym (ap any_draw follows.1 ∙ list.draw)) (tree_holds t p mid.pages.table list.staged.fitting (follows.0.table seen ∙ list.staged.table_is seen)))
 
   module _ (c : Command) (mid : TreeList D) where
     -- a command that the list answered is one that its pages did
-    pub answers_at : (result : Result Reply Fault) → AnswersList state p.version c old mid result → AnswersAt state c t p old.pages mid.pages result
+    pub answers_at : (result : Result Reply Fault) → AnswersList state p.version c old mid result → AnswersAt state c now p old.pages mid.pages result
     answers_at result is = record {
       follows = is.follows.0;
       faults = is.call.faults;
       answered = λ observable.
           let seen = seen_at observable in
-          reply_at (uncounted_step t c p) p (any_draw mid.draw) (pairs_state state mid) mid.pages result (ap any_draw is.follows.1 ∙ list.draw) (λ held. held.1.1) (is.call.observable seen)
-          (is.call.answered seen t p refl (record { tree = list.fitting.tree; pairs_are = holds_own (draw_of p) (pairs t p) old.pages.map (holds observable) }));
+          reply_at (uncounted_step now c p) p (any_draw mid.draw) (pairs_state state mid) mid.pages result (ap any_draw is.follows.1 ∙ list.draw) (λ held. held.1.1) (is.call.observable seen)
+          (is.call.answered seen now p refl (record { tree = list.fitting.tree; pairs_are = own_pairs observable }));
     }
-
-    before : {result : Result Reply Fault} → AnswersList state p.version c old mid result → IsObservable (state mid.pages.disk) → IsObservable (state old.pages.disk)
-    before is observable = sym is.follows.0.disk.observable ∙ observable
 
     -- behind it the list is whole
     pub whole_behind : (reply : Reply) → AnswersList state p.version c old mid (Ok reply) → IsObservable (state mid.pages.disk) → mid.is_whole ≡ true
-    whole_behind reply is observable = (is.call.observable (seen_at (before is observable))).0
+    whole_behind reply is observable = (is.call.observable (seen_at (sym is.follows.0.disk.observable ∙ observable))).0
 
-    -- where it changed nothing, nothing is to be taken back
-    pub same_behind : (reply : Reply) → (reply_of reply ≡ (uncounted_step t c p).reply → reply_of reply ≡ Acknowledged → ⊥) → AnswersList state p.version c old mid (Ok reply) → IsObservable (state mid.pages.disk) → mid.pages.map ≡ mid.pages.table
-    same_behind reply other is observable =
-        let seen = before is observable in
-        let answered = (answers_at (Ok reply) is).answered seen in
-        let still = uncounted_still t c p (λ e. other answered.reply_is (answered.reply_is ∙ e)) in
-        held_map (uncounted_step t c p).tree p mid.pages.map answered.holds ∙ ap (λ (u : Tree). map_of_pages (pages u p)) still ∙ sym (list.pages.held seen runs).table_is ∙ sym (is.follows.0.table seen)
+-- where a command changed nothing in the list of a tree, nothing is to be taken back
+pub same_behind : {D : Type 0} (state : D → DiskState) (t : Tree) (p : Parameters) (old : TreeList D) → IsListAt state t p old → old.pages.is_spent ≡ false → (c : Command) (mid : TreeList D) (reply : Reply) → (reply_of reply ≡ (uncounted_step t c p).reply → reply_of reply ≡ Acknowledged → ⊥) → AnswersList state p.version c old mid (Ok reply)
+    → IsObservable (state mid.pages.disk) → mid.pages.map ≡ mid.pages.table
+same_behind state t p old list runs c mid reply other is observable =
+    let seen = sym is.follows.0.disk.observable ∙ observable in
+    let answered = (answers_at state t t p old (over_table list runs) runs c mid (Ok reply) is).answered seen in
+    let still = uncounted_still t c p (λ e. other answered.reply_is (answered.reply_is ∙ e)) in
+    held_map (uncounted_step t c p).tree p mid.pages.map answered.holds ∙ ap (λ (u : Tree). map_of_pages (pages u p)) still ∙ sym (list.pages.held seen runs).table_is ∙ sym (is.follows.0.table seen)
 
 -- ---- a settle
 

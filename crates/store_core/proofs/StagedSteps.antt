@@ -1,6 +1,9 @@
 -- Steps that staged pages take which are those of a tree.
 use Rattle.std.proofs.Common.{◌≡◌, ◌⊎◌, ◌<◌, ◌≤◌, ℕ, Bool, false, List, length, Result, Ok, Err, IfOk, OnOk, OnErr, refl, sym, ap, ap₂, subst, ◌∙◌, inl, inr, ⊎_elim, arith}
 use Rattle.std.specs.FinMap as maps
+use Rattle.store_base.specs.declared.store_fault.Fault.{Fault}
+use Rattle.store_base.specs.declared.store_fault.Fault.TheVariants as below
+use Rattle.store_base.specs.Faults.{disk_faults_after}
 use Rattle.store_model.specs.declared.refusal.Refusal.TheVariants as refusals
 use Rattle.store_model.specs.Parameters.{Parameters, image_len}
 use Rattle.store_model.specs.Trees.{Tree}
@@ -8,7 +11,7 @@ use Rattle.store_model.specs.Draws.{Draw, draw_of}
 use Rattle.store_model.specs.Pages.{pages, page_count}
 use Rattle.store_model.specs.PageMaps.{PageMap, map_of_pages}
 use Rattle.store_model.specs.Images.{Represents}
-use Rattle.store_model.specs.Commands.Reply.{Refused}
+use Rattle.store_model.specs.Commands.Reply.{Acknowledged, Refused}
 use Rattle.store_model.specs.Steps.{Step}
 use Rattle.disk_model.specs.DiskState.{DiskState, IsObservable, IsSound}
 use Rattle.disk_model.proofs.Crashes.{LeavesOnly-weaken}
@@ -19,7 +22,6 @@ use Rattle.seeded_draw.specs.declared.any.AnyDraw.{AnyDraw}
 use Rattle.seeded_draw.specs.AnyDrawn.{any_draw}
 use Rattle.script_lines.specs.declared.reply.Reply.{Reply}
 use Rattle.script_lines.specs.declared.reply.Reply.TheVariants as replies
-use Rattle.script_lines.specs.Replies.{reply_of}
 use Rattle.page_store.specs.declared.fault.SettleFault.{SettleFault}
 use Rattle.page_store.specs.declared.fault.SettleFault.TheVariants as causes
 use Rattle.page_store.specs.Faults.{settle_faults_after}
@@ -32,10 +34,10 @@ use Rattle.tree_commands.proofs.StepLemmas.{counted_fits, counted_full}
 use Rattle.image_check.specs.declared.fault.ApplyFault.{ApplyFault}
 use Rattle.image_check.specs.declared.fault.ApplyFault.TheVariants as apply
 use Rattle.store_core.specs.TableChanges.{slots_between}
-use Rattle.image_check.specs.Faults.{apply_faults_after}
+use Rattle.image_check.specs.Faults.{apply_fault_of, apply_faults_after}
 use Rattle.image_check.specs.Standing.{IsFitting, Stands}
 use Rattle.store_core.specs.StagedTree.{AreAt, IsStagedFor}
-use Rattle.store_core.specs.Steps.{settled_reply, StepsPages, TakesStep, EndsStep}
+use Rattle.store_core.specs.Steps.{settled_reply, settle_cause, StepsPages, TakesStep, EndsStep, IsReplyTo, EndsCommand}
 use Rattle.store_core.specs.StoreCalls.{ChangesImage}
 use Rattle.store_core.proofs.DiskLemmas.{keeps_then}
 use Rattle.store_core.proofs.TreePages.{held_map, held_count, stands_tree, slots_as}
@@ -47,9 +49,9 @@ kept_view state old new follows =
     record { size = view.size; observable = view.observable; faults = view.rise; writes = view.writes; syncs = view.syncs }
 
 -- calls that read alone
-pub read_step : {D : Type 0} (state : D → DiskState) (t : Tree) (to : Step) (p : Parameters) (old new : StagedState D AnyDraw) (result : Result Reply ApplyFault) → IsFitting t p → AreAt state t p old → old.is_spent ≡ false → Follows state old new
-    → (state new.disk).faults ≡ apply_faults_after (state old.disk).faults result → (result ≡ Err apply.Stopped → ⊥) → (IsObservable (state old.disk) → OnOk result (to.tree ≡ t)) → (IsObservable (state old.disk) → IfOk result (λ reply. reply_of reply ≡ to.reply)) → TakesStep state t to p old new result
-read_step {D} state t to p old new result fit at runs follows faults never same reply = record {
+pub read_step : {D A : Type 0} (state : D → DiskState) (t next : Tree) (IsAnswer : A → Type 0) (p : Parameters) (old new : StagedState D AnyDraw) (result : Result A ApplyFault) → IsFitting t p → AreAt state t p old → old.is_spent ≡ false → Follows state old new
+    → (state new.disk).faults ≡ apply_faults_after (state old.disk).faults result → (result ≡ Err apply.Stopped → ⊥) → (IsObservable (state old.disk) → OnOk result (next ≡ t)) → (IsObservable (state old.disk) → IfOk result IsAnswer) → TakesStep state t next IsAnswer p old new result
+read_step {D} {A} state t next IsAnswer p old new result fit at runs follows faults never same answer = record {
   params = follows.disk.params;
   draw = follows.draw;
   kept = kept_view state old new follows;
@@ -59,20 +61,39 @@ read_step {D} state t to p old new result fit at runs follows faults never same 
   observed = λ observable.
       let held = at.held observable runs in
       record {
-        reply = reply observable;
-        image = subst (λ (b : Bool). ChangesImage {T = Reply} t to.tree p (state old.disk) (state new.disk) b result) (sym (follows.runs ∙ runs)) (reads_change t to.tree p fit {T = Reply} (state old.disk) (state new.disk) result held.stands (follows.disk.reads observable) (same observable));
+        answer = answer observable;
+        image = subst (λ (b : Bool). ChangesImage {T = A} t next p (state old.disk) (state new.disk) b result) (sym (follows.runs ∙ runs)) (reads_change t next p fit {T = A} (state old.disk) (state new.disk) result held.stands (follows.disk.reads observable) (same observable));
         goes = goes result (same observable) (follows.table observable ∙ held.table_is);
         stays = λ still. stays result (follows.table observable);
       };
 }
   where
-    goes : (r : Result Reply ApplyFault) → OnOk r (to.tree ≡ t) → new.table ≡ map_of_pages (pages t p) → OnOk r (new.table ≡ map_of_pages (pages to.tree p))
+    goes : (r : Result A ApplyFault) → OnOk r (next ≡ t) → new.table ≡ map_of_pages (pages t p) → OnOk r (new.table ≡ map_of_pages (pages next p))
     goes (Ok value) e is = is ∙ ap (λ (u : Tree). map_of_pages (pages u p)) (sym e)
     goes (Err fault) e is = tt
 
-    stays : (r : Result Reply ApplyFault) → new.table ≡ old.table → OnErr r (new.table ≡ old.table)
+    stays : (r : Result A ApplyFault) → new.table ≡ old.table → OnErr r (new.table ≡ old.table)
     stays (Ok value) is = tt
     stays (Err fault) is = is
+
+-- what is staged is taken back behind calls that read alone
+pub taken_back : {D : Type 0} (state : D → DiskState) (old mid : StagedState D AnyDraw) → Follows state old mid → Follows state old (without_changes mid)
+taken_back state old mid follows = record { disk = follows.disk; draw = follows.draw; runs = follows.runs; table = follows.table }
+
+-- a step that failed, once all is taken back
+pub failed_step : {D A : Type 0} (state : D → DiskState) (t next : Tree) (IsAnswer : A → Type 0) (p : Parameters) (old mid : StagedState D AnyDraw) → IsFitting t p → AreAt state t p old → old.is_spent ≡ false → Follows state old mid → (fault : Fault)
+    → (state mid.disk).faults ≡ disk_faults_after {T = A} (state old.disk).faults (Err fault) → EndsStep state t next IsAnswer p old (without_changes mid) (Err (apply_fault_of fault))
+failed_step {D} {A} state t next IsAnswer p old mid fit at runs follows fault faults = by fault faults
+  where
+    by : (f : Fault) → (state mid.disk).faults ≡ disk_faults_after {T = A} (state old.disk).faults (Err f) → EndsStep state t next IsAnswer p old (without_changes mid) (Err (apply_fault_of f))
+    by below.Disk is = record {
+      step = read_step state t next IsAnswer p old (without_changes mid) (Err apply.Disk) fit at runs (taken_back state old mid follows) is (λ e. cc) (λ observable. tt) (λ observable. tt);
+      none_staged = λ observable still. refl;
+    }
+    by below.NoMemory is = record {
+      step = read_step state t next IsAnswer p old (without_changes mid) (Err apply.NoMemory) fit at runs (taken_back state old mid follows) is (λ e. cc) (λ observable. tt) (λ observable. tt);
+      none_staged = λ observable still. refl;
+    }
 
 -- nothing is staged behind calls that stage nothing
 pub same_staged : {D : Type 0} (state : D → DiskState) (t : Tree) (p : Parameters) (old new : StagedState D AnyDraw) → AreAt state t p old → old.is_spent ≡ false → Follows state old new → (IsObservable (state old.disk) → new.map ≡ old.map)
@@ -83,9 +104,9 @@ same_staged state t p old new at runs follows same observable still =
     same before ∙ held.map_is ∙ sym held.table_is ∙ sym (follows.table before)
 
 -- a step behind calls that read alone
-pub behind_reads : {D : Type 0} (state : D → DiskState) (t : Tree) (to : Step) (p : Parameters) (old mid new : StagedState D AnyDraw) (result : Result Reply ApplyFault) → IsFitting t p → AreAt state t p old → old.is_spent ≡ false → Follows state old mid
-    → (state mid.disk).faults ≡ (state old.disk).faults → EndsStep state t to p mid new result → EndsStep state t to p old new result
-behind_reads state t to p old mid new result fit at runs follows faults ends = record {
+pub behind_reads : {D A : Type 0} (state : D → DiskState) (t next : Tree) (IsAnswer : A → Type 0) (p : Parameters) (old mid new : StagedState D AnyDraw) (result : Result A ApplyFault) → IsFitting t p → AreAt state t p old → old.is_spent ≡ false → Follows state old mid
+    → (state mid.disk).faults ≡ (state old.disk).faults → EndsStep state t next IsAnswer p mid new result → EndsStep state t next IsAnswer p old new result
+behind_reads {D} {A} state t next IsAnswer p old mid new result fit at runs follows faults ends = record {
   step = record {
     params = ends.step.params ∙ follows.disk.params;
     draw = ends.step.draw ∙ follows.draw;
@@ -97,8 +118,8 @@ behind_reads state t to p old mid new result fit at runs follows faults ends = r
         let held = at.held observable runs in
         let step = ends.step.observed (follows.disk.observable ∙ observable) in
         record {
-          reply = step.reply;
-          image = change_behind t to.tree p fit {T = Reply} (state old.disk) (state mid.disk) (state new.disk) new.is_spent result held.stands (follows.disk.reads observable) step.image;
+          answer = step.answer;
+          image = change_behind t next p fit {T = A} (state old.disk) (state mid.disk) (state new.disk) new.is_spent result held.stands (follows.disk.reads observable) step.image;
           goes = step.goes;
           stays = λ still. subst (λ (m : PageMap). OnErr result (new.table ≡ m)) (follows.table observable) (step.stays still);
         };
@@ -107,8 +128,9 @@ behind_reads state t to p old mid new result fit at runs follows faults ends = r
 }
 
 -- a step, told in another way
-pub told_as : {D : Type 0} (state : D → DiskState) (t : Tree) (to other : Step) (p : Parameters) (old new : StagedState D AnyDraw) (result : Result Reply ApplyFault) → (IsObservable (state old.disk) → to ≡ other) → EndsStep state t to p old new result → EndsStep state t other p old new result
-told_as state t to other p old new result same ends = record {
+pub told_as : {D A : Type 0} (state : D → DiskState) (t next other : Tree) (IsAnswer IsOther : A → Type 0) (p : Parameters) (old new : StagedState D AnyDraw) (result : Result A ApplyFault) → (IsObservable (state old.disk) → next ≡ other) → (IsObservable (state old.disk) → (answer : A) → IsAnswer answer → IsOther answer)
+    → EndsStep state t next IsAnswer p old new result → EndsStep state t other IsOther p old new result
+told_as {D} {A} state t next other IsAnswer IsOther p old new result same is_other ends = record {
   step = record {
     params = ends.step.params;
     draw = ends.step.draw;
@@ -116,12 +138,23 @@ told_as state t to other p old new result same ends = record {
     faults = ends.step.faults;
     never = ends.step.never;
     runs = ends.step.runs;
-    observed = λ observable. subst (λ (s : Step). StepsPages state t s p old new result) (same observable) (ends.step.observed observable);
+    observed = λ observable.
+        let step = ends.step.observed observable in
+        subst (λ (u : Tree). StepsPages state t u IsOther p old new result) (same observable) (record { answer = answered result (is_other observable) step.answer; image = step.image; goes = step.goes; stays = step.stays });
   };
   none_staged = ends.none_staged;
 }
+  where
+    answered : (r : Result A ApplyFault) → ((answer : A) → IsAnswer answer → IsOther answer) → IfOk r IsAnswer → IfOk r IsOther
+    answered (Ok answer) other is = other answer is
+    answered (Err fault) other is = tt
 
 -- ---- a settle
+
+-- how a step to a tree that fits ends, by how the settle of its pages did
+abbrev pub ended : {A : Type 0} → A → Result (Unit {0}) SettleFault → Result A ApplyFault
+ended answer (Ok value) = Ok answer
+ended answer (Err fault) = Err (settle_cause fault)
 
 -- pages of the next tree settled over a disk that stands at a tree
 module _ {D : Type 0} (state : D → DiskState) (t next : Tree) (p : Parameters) (old new : StagedState D AnyDraw) (staged : IsStagedFor state t next p old) (runs : old.is_spent ≡ false) (observable : IsObservable (state old.disk)) (sound : IsSound (state new.disk)) where
@@ -183,41 +216,54 @@ module _ {D : Type 0} (state : D → DiskState) (t next : Tree) (p : Parameters)
         stood (Ok value) at = stands_tree next p (state new.disk) to long at
         stood (Err fault) at = tt
 
-  -- the step that a settle takes
-  pub stepped : (r : Result (Unit {0}) SettleFault) → Settles state any_draw old new r → StepsPages state t (counted_step t next p) p old new (settled_reply r)
-  stepped (Ok value) settles =
-      let disk = settles.observed observable in
-      let to = fitting_next disk.full in
-      let seen = by_trees (Ok value) disk in
+  -- the step that a settle takes to a tree that fits
+  pub stepped_fitting : {A : Type 0} (IsAnswer : A → Type 0) (answer : A) → IsAnswer answer → IsFitting next p → (r : Result (Unit {0}) SettleFault) → Settles state any_draw old new r → StepsPages state t next IsAnswer p old new (ended answer r)
+  stepped_fitting {A} IsAnswer answer is to (Ok value) settles =
+      let seen = by_trees (Ok value) (settles.observed observable) in
       let count = counts to settles.kept (Ok value) seen in
-      subst (λ (s : Step). StepsPages state t s p old new (Ok replies.Ok)) (sym (counted_fits t next p to.fits.room)) (record {
-        reply = refl;
-        image = image to settles.kept (Ok value) seen (Ok replies.Ok) seen.stands (λ e. absurd (cc)) (λ e. absurd (cc)) (λ e. absurd (cc)) (record { made = count.made; limit = count.limit });
+      record {
+        answer = is;
+        image = image to settles.kept (Ok value) seen (Ok answer) seen.stands (λ e. absurd (cc)) (λ e. absurd (cc)) (λ e. absurd (cc)) (record { made = count.made; limit = count.limit });
         goes = settles.table observable ∙ map_is;
         stays = λ still. tt;
-      })
-  stepped (Err causes.Disk) settles =
-      let disk = settles.observed observable in
-      let to = fitting_next disk.full in
-      let seen = by_trees (Err causes.Disk) disk in
+      }
+  stepped_fitting {A} IsAnswer answer is to (Err causes.Disk) settles =
+      let seen = by_trees (Err causes.Disk) (settles.observed observable) in
       let count = counts to settles.kept (Err causes.Disk) seen in
-      subst (λ (s : Step). StepsPages state t s p old new (Err apply.Disk)) (sym (counted_fits t next p to.fits.room)) (record {
-        reply = tt;
-        image = image to settles.kept (Err causes.Disk) seen {U = Reply} (Err apply.Disk) tt (λ e. refl) (λ e. refl) (λ e. absurd (cc)) (record { made = tt; limit = count.limit });
+      record {
+        answer = tt;
+        image = image to settles.kept (Err causes.Disk) seen {U = A} (Err apply.Disk) tt (λ e. refl) (λ e. refl) (λ e. absurd (cc)) (record { made = tt; limit = count.limit });
         goes = tt;
         stays = λ still. settles.table_stays observable still;
-      })
-  stepped (Err causes.NoMemory) settles =
-      let disk = settles.observed observable in
-      let to = fitting_next disk.full in
-      let seen = by_trees (Err causes.NoMemory) disk in
+      }
+  stepped_fitting {A} IsAnswer answer is to (Err causes.NoMemory) settles =
+      let seen = by_trees (Err causes.NoMemory) (settles.observed observable) in
       let count = counts to settles.kept (Err causes.NoMemory) seen in
-      subst (λ (s : Step). StepsPages state t s p old new (Err apply.NoMemory)) (sym (counted_fits t next p to.fits.room)) (record {
-        reply = tt;
-        image = image to settles.kept (Err causes.NoMemory) seen {U = Reply} (Err apply.NoMemory) tt (λ e. absurd (cc)) (λ e. absurd (cc)) (λ e. refl) (record { made = tt; limit = count.limit });
+      record {
+        answer = tt;
+        image = image to settles.kept (Err causes.NoMemory) seen {U = A} (Err apply.NoMemory) tt (λ e. absurd (cc)) (λ e. absurd (cc)) (λ e. refl) (record { made = tt; limit = count.limit });
         goes = tt;
         stays = λ still. settles.table_stays observable still;
-      })
+      }
+  stepped_fitting {A} IsAnswer answer is to (Err (causes.Full need slots)) settles =
+      let full = (settles.observed observable).full in
+      absurd (omega (arith, full.more, full.need_is ∙ count_is, full.slots_are ∙ slots_are, to.fits.room))
+
+  -- a command that changed the tree to a next one that fits, by the step that counts its pages
+  acked : (r : Result Reply ApplyFault) → IsFitting next p → StepsPages state t next (IsReplyTo (record { reply = Acknowledged; tree = next })) p old new r → StepsPages state t (counted_step t next p).tree (IsReplyTo (counted_step t next p)) p old new r
+  acked r to = subst (λ (s : Step). StepsPages state t s.tree (IsReplyTo s) p old new r) (sym (counted_fits t next p to.fits.room))
+
+  -- the step that the settle of a command takes
+  pub stepped : (r : Result (Unit {0}) SettleFault) → Settles state any_draw old new r → StepsPages state t (counted_step t next p).tree (IsReplyTo (counted_step t next p)) p old new (settled_reply r)
+  stepped (Ok value) settles =
+      let to = fitting_next (settles.observed observable).full in
+      acked (Ok replies.Ok) to (stepped_fitting (IsReplyTo (record { reply = Acknowledged; tree = next })) replies.Ok refl to (Ok value) settles)
+  stepped (Err causes.Disk) settles =
+      let to = fitting_next (settles.observed observable).full in
+      acked (Err apply.Disk) to (stepped_fitting (IsReplyTo (record { reply = Acknowledged; tree = next })) replies.Ok refl to (Err causes.Disk) settles)
+  stepped (Err causes.NoMemory) settles =
+      let to = fitting_next (settles.observed observable).full in
+      acked (Err apply.NoMemory) to (stepped_fitting (IsReplyTo (record { reply = Acknowledged; tree = next })) replies.Ok refl to (Err causes.NoMemory) settles)
   stepped (Err (causes.Full need slots)) settles =
       let disk = settles.observed observable in
       let full = disk.full in
@@ -225,8 +271,8 @@ module _ {D : Type 0} (state : D → DiskState) (t next : Tree) (p : Parameters)
       let need_is : need ≡ page_count next p = full.need_is ∙ count_is in
       let all_are : slots ≡ p.slots = full.slots_are ∙ slots_are in
       let reads : ReadsOnly (state old.disk) (state new.disk) = disk.too_many need slots refl in
-      subst (λ (s : Step). StepsPages state t s p old new (Ok (replies.No (refusals.Full need slots)))) (sym (counted_full t next p (omega (arith, full.more, need_is, all_are)))) (record {
-        reply = ap₂ (λ (m n : ℕ). Refused (refusals.Full m n)) need_is all_are;
+      subst (λ (s : Step). StepsPages state t s.tree (IsReplyTo s) p old new (Ok (replies.No (refusals.Full need slots)))) (sym (counted_full t next p (omega (arith, full.more, need_is, all_are)))) (record {
+        answer = ap₂ (λ (m n : ℕ). Refused (refusals.Full m n)) need_is all_are;
         image = subst (λ (b : Bool). ChangesImage t t p (state old.disk) (state new.disk) b (Ok (replies.No (refusals.Full need slots)))) (sym still) (reads_change t t p staged.fitting (state old.disk) (state new.disk) (Ok (replies.No (refusals.Full need slots))) (staged.stands observable) reads refl);
         goes = settles.table_stays observable still ∙ staged.table_is observable;
         stays = λ runs. tt;
@@ -245,20 +291,53 @@ settled_never (Err (causes.Full need slots)) is = cc
 settled_never (Err causes.Disk) is = cc
 settled_never (Err causes.NoMemory) is = cc
 
+pub ended_faults : {A : Type 0} (answer : A) (n m : ℕ) (r : Result (Unit {0}) SettleFault) → m ≡ settle_faults_after n r → m ≡ apply_faults_after n (ended answer r)
+ended_faults answer n m (Ok value) is = is
+ended_faults answer n m (Err (causes.Full need slots)) is = is
+ended_faults answer n m (Err causes.Disk) is = is
+ended_faults answer n m (Err causes.NoMemory) is = is
+
+pub ended_never : {A : Type 0} (answer : A) (r : Result (Unit {0}) SettleFault) → ended answer r ≡ Err apply.Stopped → ⊥
+ended_never answer (Ok value) is = cc
+ended_never answer (Err (causes.Full need slots)) is = cc
+ended_never answer (Err causes.Disk) is = cc
+ended_never answer (Err causes.NoMemory) is = cc
+
 -- a settle, behind which all is taken back that is staged
-pub settled : {D : Type 0} (state : D → DiskState) (t next : Tree) (p : Parameters) (old new : StagedState D AnyDraw) (r : Result (Unit {0}) SettleFault) → ((x : D) → IsObservable (state x) → IsSound (state x)) → IsStagedFor state t next p old → old.is_spent ≡ false
-    → Settles state any_draw old new r → EndsStep state t (counted_step t next p) p old (without_changes new) (settled_reply r)
-settled state t next p old new r sound staged runs settles = record {
-  step = record {
-    params = settles.params;
-    draw = settles.draw;
-    kept = settles.kept;
-    faults = settled_faults (state old.disk).faults (state new.disk).faults r settles.faults;
-    never = settled_never r;
-    runs = λ other. settles.runs (λ e. other (ap settled_reply e));
-    observed = λ observable.
-        let step = stepped state t next p old new staged runs observable (sound new.disk (settles.kept.observable ∙ observable)) r settles in
-        record { reply = step.reply; image = step.image; goes = step.goes; stays = step.stays };
-  };
-  none_staged = λ observable still. refl;
-}
+module _ {D : Type 0} (state : D → DiskState) (t next : Tree) (p : Parameters) (old new : StagedState D AnyDraw) (r : Result (Unit {0}) SettleFault) (sound : (x : D) → IsObservable (state x) → IsSound (state x)) (staged : IsStagedFor state t next p old) (runs : old.is_spent ≡ false) (settles : Settles state any_draw old new r) where
+  seen : IsObservable (state old.disk) → IsSound (state new.disk)
+  seen observable = sound new.disk (settles.kept.observable ∙ observable)
+
+  -- of a command's changes
+  pub settled : EndsCommand state t (counted_step t next p) p old (without_changes new) (settled_reply r)
+  settled = record {
+    step = record {
+      params = settles.params;
+      draw = settles.draw;
+      kept = settles.kept;
+      faults = settled_faults (state old.disk).faults (state new.disk).faults r settles.faults;
+      never = settled_never r;
+      runs = λ other. settles.runs (λ e. other (ap settled_reply e));
+      observed = λ observable.
+          let step = stepped state t next p old new staged runs observable (seen observable) r settles in
+          record { answer = step.answer; image = step.image; goes = step.goes; stays = step.stays };
+    };
+    none_staged = λ observable still. refl;
+  }
+
+  -- and of changes to a tree that fits
+  pub settled_fitting : {A : Type 0} (IsAnswer : A → Type 0) (answer : A) → IsAnswer answer → IsFitting next p → EndsStep state t next IsAnswer p old (without_changes new) (ended answer r)
+  settled_fitting IsAnswer answer is to = record {
+    step = record {
+      params = settles.params;
+      draw = settles.draw;
+      kept = settles.kept;
+      faults = ended_faults answer (state old.disk).faults (state new.disk).faults r settles.faults;
+      never = ended_never answer r;
+      runs = λ other. settles.runs (λ e. other (ap (ended answer) e));
+      observed = λ observable.
+          let step = stepped_fitting state t next p old new staged runs observable (seen observable) IsAnswer answer is to r settles in
+          record { answer = step.answer; image = step.image; goes = step.goes; stays = step.stays };
+    };
+    none_staged = λ observable still. refl;
+  }

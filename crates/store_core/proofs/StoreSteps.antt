@@ -1,5 +1,5 @@
 -- What a store comes to by the steps of its staged pages.
-use Rattle.std.proofs.Common.{◌≡◌, Bool, true, false, Result, Ok, Err, OnOk, OnErr, is_ok, refl, sym, ap, subst, ◌∙◌, ⊎_elim}
+use Rattle.std.proofs.Common.{◌≡◌, Bool, true, false, List, Result, Ok, Err, OnOk, OnErr, is_ok, refl, sym, ap, subst, ◌∙◌, ⊎_elim}
 use Rattle.std.proofs.lemmas.Bool.{cases_Bool, false≢true}
 use Rattle.store_model.specs.Parameters.{Parameters}
 use Rattle.store_model.specs.Trees.{Tree}
@@ -14,11 +14,13 @@ use Rattle.script_lines.specs.declared.reply.Reply.{Reply}
 use Rattle.script_lines.specs.InPlace.{in_place}
 use Rattle.image_check.specs.declared.fault.ApplyFault.{ApplyFault}
 use Rattle.image_check.specs.declared.fault.ApplyFault.TheVariants as apply
+use Rattle.store_core.specs.declared.group.GroupAnswer.{GroupAnswer}
+use Rattle.store_core.specs.Groups.{group_tree, IsGroupAnswer}
 use Rattle.store_core.specs.Known.{KnownState, MovesOn}
 use Rattle.image_check.specs.Standing.{IsFitting, Stands}
 use Rattle.store_core.specs.StagedTree.{TreeList, StagesTreePages, IsListAt, GoesOn}
-use Rattle.store_core.specs.Steps.{StepsPages, EndsStep}
-use Rattle.store_core.specs.StoreCalls.{Applies}
+use Rattle.store_core.specs.Steps.{StepsPages, EndsStep, IsReplyTo}
+use Rattle.store_core.specs.StoreCalls.{StepsStore}
 use Rattle.store_core.specs.StoreFields.{HoldsKnown}
 use Rattle.store_core.specs.StoreState.{StoreState}
 use Rattle.store_core.proofs.Unchanged.{stands_reading, keeps_itself}
@@ -28,34 +30,57 @@ abbrev pub store_of : {D : Type 0} → KnownState D → TreeList D → StoreStat
 store_of known list = record { params = known.params; tree = known.tree; disk = list.pages.disk; is_stopped = list.pages.is_spent }
 
 -- the step of a command leads from a tree that fits to one that does
-fitting_step : (t : Tree) (c : Command) (p : Parameters) → IsFitting t p → IsCommand c → IsFitting (step t c p).tree p
+pub fitting_step : (t : Tree) (c : Command) (p : Parameters) → IsFitting t p → IsCommand c → IsFitting (step t c p).tree p
 fitting_step t c p fitting is = record { in_range = fitting.in_range; tree = IsTree-step t c p fitting.tree is; fits = Fits-step t c p fitting.tree fitting.fits }
 
+-- what steps answer, and the trees that they lead to, by the parameters and the tree
+abbrev pub Nexts : Type 0
+Nexts = Parameters → Tree → Tree
+
+abbrev pub Answers : Type 0 → Type 1
+Answers A = Parameters → Tree → A → Type 0
+
+-- those of a command
+abbrev pub command_tree : Command → Nexts
+command_tree c p t = (step t c p).tree
+
+abbrev pub CommandReply : Command → Answers Reply
+CommandReply c p t = IsReplyTo (step t c p)
+
+-- and those of a group
+abbrev pub group_next : List Command → Nexts
+group_next group p t = group_tree p t group
+
+abbrev pub GroupReply : List Command → Answers GroupAnswer
+GroupReply group p t = IsGroupAnswer p t group
+
+-- a store takes the step from its tree
+abbrev pub Goes : {D A : Type 0} → (D → DiskState) → Nexts → Answers A → StoreState D → StoreState D → Result A ApplyFault → Type 0
+Goes state next IsAnswer old new result = StepsStore state (next old.params old.tree) (IsAnswer old.params old.tree) old new result
+
 -- a store that is stopped does nothing
-pub stopped : {D : Type 0} (state : D → DiskState) (command : Command) (store : StoreState D) → store.is_stopped ≡ true → Applies state command store store (Err apply.Stopped)
-stopped state command store is = record {
+pub stopped : {D A : Type 0} (state : D → DiskState) (next : Tree) (IsAnswer : A → Type 0) (store : StoreState D) → store.is_stopped ≡ true → StepsStore state next IsAnswer store store (Err apply.Stopped)
+stopped state next IsAnswer store is = record {
   params = refl;
   kept = keeps_itself (state store.disk);
   faults = refl;
   stopped = (λ e. is, λ e. refl);
   still = λ e. refl;
-  reply = λ observable. tt;
+  answer = λ observable. tt;
   tree = λ observable. tt;
   fault = refl;
+  hidden = λ unseen. refl;
   runs = λ e. absurd (false≢true (sym e ∙ is));
   observed = λ observable e. absurd (false≢true (sym e ∙ is));
 }
 
--- the list of a known tree that is served took the step of a command
-module _ {D : Type 0} (state : D → DiskState) (known : KnownState D) (old new : TreeList D) (c : Command) (command : IsCommand c) (served : HoldsKnown state known old) (runs : old.pages.is_spent ≡ false) (goes : GoesOn state old new) where
-  fitting_to : IsFitting (step known.tree c known.params).tree known.params
-  fitting_to = fitting_step known.tree c known.params served.at.fitting command
-
-  module _ (result : Result Reply ApplyFault) (ends : EndsStep state known.tree (step known.tree c known.params) known.params old.pages new.pages result) where
+-- the list of a known tree that is served went on to that of a next one
+module _ {D A : Type 0} (state : D → DiskState) (known : KnownState D) (old new : TreeList D) (next : Tree) (IsAnswer : A → Type 0) (served : HoldsKnown state known old) (runs : old.pages.is_spent ≡ false) (goes : GoesOn state old new) where
+  module _ (result : Result A ApplyFault) (ends : EndsStep state known.tree next IsAnswer known.params old.pages new.pages result) where
     before : IsObservable (state new.pages.disk) → IsObservable (state old.pages.disk)
     before observable = sym ends.step.kept.observable ∙ observable
 
-    steps : IsObservable (state new.pages.disk) → StepsPages state known.tree (step known.tree c known.params) known.params old.pages new.pages result
+    steps : IsObservable (state new.pages.disk) → StepsPages state known.tree next IsAnswer known.params old.pages new.pages result
     steps observable = ends.step.observed (before observable)
 
     in_image : (t : Tree) → IsFitting t known.params → (IsObservable (state new.pages.disk) → new.pages.is_spent ≡ false → StagesTreePages state t known.params new.pages) → IsListAt state t known.params new
@@ -71,43 +96,47 @@ module _ {D : Type 0} (state : D → DiskState) (known : KnownState D) (old new 
     pub same_observable : (state new.pages.disk).is_observable ≡ (state known.settled).is_observable
     same_observable = ends.step.kept.observable ∙ served.observable
 
-    applies : (after : KnownState D) → after.params ≡ known.params → (IsObservable (state old.pages.disk) → OnOk result (after.tree ≡ (step known.tree c known.params).tree)) → OnErr result (after.tree ≡ known.tree) → Applies state c (store_of known old) (store_of after new) result
-    applies after params tree fault = record {
+    applies : (after : KnownState D) → after.params ≡ known.params → (IsObservable (state old.pages.disk) → OnOk result (after.tree ≡ next)) → OnErr result (after.tree ≡ known.tree) → ((IsObservable (state old.pages.disk) → ⊥) → after.tree ≡ known.tree) → StepsStore state next IsAnswer (store_of known old) (store_of after new) result
+    applies after params tree fault hidden = record {
       params = params;
       kept = ends.step.kept;
       faults = ends.step.faults;
       stopped = (λ e. absurd (ends.step.never e), λ e. absurd (false≢true (sym runs ∙ e)));
       still = λ e. absurd (false≢true (sym runs ∙ e));
-      reply = λ observable. (ends.step.observed observable).reply;
+      answer = λ observable. (ends.step.observed observable).answer;
       tree = tree;
       fault = fault;
+      hidden = hidden;
       runs = λ e. ends.step.runs;
       observed = λ observable e. (ends.step.observed observable).image;
     }
 
-  -- it was answered
-  module _ (reply : Reply) (ends : EndsStep state known.tree (step known.tree c known.params) known.params old.pages new.pages (Ok reply)) where
+  -- it was answered, and an observable disk has room for the next tree
+  module _ (answer : A) (fits : IsObservable (state old.pages.disk) → IsFitting next known.params) (ends : EndsStep state known.tree next IsAnswer known.params old.pages new.pages (Ok answer)) where
+    fitting_to : IsObservable (state new.pages.disk) → IsFitting next known.params
+    fitting_to observable = fits (before (Ok answer) ends observable)
+
     pub stands_at : IsObservable (state new.pages.disk) → (t : Tree) × (IsFitting t known.params × ((state new.pages.disk).bytes ≡ layout t known.params))
-    stands_at observable = ((step known.tree c known.params).tree, (fitting_to, (steps (Ok reply) ends observable).image.stands.layout_is))
+    stands_at observable = (next, (fitting_to observable, (steps (Ok answer) ends observable).image.stands.layout_is))
 
     module _ (after : KnownState D) (settles : MovesOn state new.pages.disk known after) where
-      tree_seen : IsObservable (state new.pages.disk) → after.tree ≡ (step known.tree c known.params).tree
-      tree_seen observable = settles.seen observable (step known.tree c known.params).tree fitting_to (steps (Ok reply) ends observable).image.stands.layout_is
+      tree_seen : IsObservable (state new.pages.disk) → after.tree ≡ next
+      tree_seen observable = settles.seen observable next (fitting_to observable) (steps (Ok answer) ends observable).image.stands.layout_is
 
-      pub answered_applies : Applies state c (store_of known old) (store_of after new) (Ok reply)
-      answered_applies = applies (Ok reply) ends after settles.params (λ observable. tree_seen (ends.step.kept.observable ∙ observable)) tt
+      pub answered_applies : StepsStore state next IsAnswer (store_of known old) (store_of after new) (Ok answer)
+      answered_applies = applies (Ok answer) ends after settles.params (λ observable. tree_seen (ends.step.kept.observable ∙ observable)) tt (λ unseen. settles.unseen (λ seen. unseen (before (Ok answer) ends seen)))
 
       pub answered_served : HoldsKnown state after new
       answered_served = ⊎_elim
           (λ observable.
           let tree = tree_seen observable in
-          let held : IsObservable (state new.pages.disk) → new.pages.is_spent ≡ false → StagesTreePages state (step known.tree c known.params).tree known.params new.pages = λ seen still.
-          let table_is = (steps (Ok reply) ends seen).goes in
-          record { stands = (steps (Ok reply) ends seen).image.stands; table_is = table_is; map_is = ends.none_staged seen still ∙ table_is } in
-          at_tree (step known.tree c known.params).tree tree (in_image (Ok reply) ends (step known.tree c known.params).tree fitting_to held))
+          let held : IsObservable (state new.pages.disk) → new.pages.is_spent ≡ false → StagesTreePages state next known.params new.pages = λ seen still.
+          let table_is = (steps (Ok answer) ends seen).goes in
+          record { stands = (steps (Ok answer) ends seen).image.stands; table_is = table_is; map_is = ends.none_staged seen still ∙ table_is } in
+          at_tree next tree (in_image (Ok answer) ends next (fitting_to observable) held))
           (λ hidden.
           let unseen = λ (seen : IsObservable (state new.pages.disk)). false≢true (sym hidden ∙ seen) in
-          at_tree known.tree (settles.unseen unseen) (in_image (Ok reply) ends known.tree served.at.fitting (λ seen. absurd (unseen seen))))
+          at_tree known.tree (settles.unseen unseen) (in_image (Ok answer) ends known.tree served.at.fitting (λ seen. absurd (unseen seen))))
           (cases_Bool (state new.pages.disk).is_observable)
         where
           at_tree : (t : Tree) → after.tree ≡ t → IsListAt state t known.params new → HoldsKnown state after new
@@ -117,9 +146,9 @@ module _ {D : Type 0} (state : D → DiskState) (known : KnownState D) (old new 
           }
 
   -- it failed
-  module _ (fault : ApplyFault) (ends : EndsStep state known.tree (step known.tree c known.params) known.params old.pages new.pages (Err fault)) where
-    pub failed_applies : Applies state c (store_of known old) (store_of known new) (Err fault)
-    failed_applies = applies (Err fault) ends known refl (λ observable. tt) refl
+  module _ (fault : ApplyFault) (ends : EndsStep state known.tree next IsAnswer known.params old.pages new.pages (Err fault)) where
+    pub failed_applies : StepsStore state next IsAnswer (store_of known old) (store_of known new) (Err fault)
+    failed_applies = applies (Err fault) ends known refl (λ observable. tt) refl (λ unseen. refl)
 
     pub failed_served : HoldsKnown state known new
     failed_served = record {
@@ -130,35 +159,42 @@ module _ {D : Type 0} (state : D → DiskState) (known : KnownState D) (old new 
       observable = same_observable (Err fault) ends;
     }
       where
-        stood : (f : ApplyFault) → EndsStep state known.tree (step known.tree c known.params) known.params old.pages new.pages (Err f) → IsObservable (state new.pages.disk) → new.pages.is_spent ≡ false → Stands (state old.pages.disk) known.tree known.params → Stands (state new.pages.disk) known.tree known.params
+        stood : (f : ApplyFault) → EndsStep state known.tree next IsAnswer known.params old.pages new.pages (Err f) → IsObservable (state new.pages.disk) → new.pages.is_spent ≡ false → Stands (state old.pages.disk) known.tree known.params → Stands (state new.pages.disk) known.tree known.params
         stood apply.Disk e observable still stands = stands_reading (state old.pages.disk) (state new.pages.disk) known.tree known.params ((steps (Err apply.Disk) e observable).image.goes_on still refl) stands
         stood apply.NoMemory e observable still stands = stands_reading (state old.pages.disk) (state new.pages.disk) known.tree known.params ((steps (Err apply.NoMemory) e observable).image.no_memory refl) stands
         stood apply.Stopped e observable still stands = absurd (e.step.never refl)
 
 -- ---- a call
 
--- a command was carried out on the list of a store that is seen so
-pub record IsCarried {D : Type 0} (state : D → DiskState) (c : Command) (known : KnownState D) (old new : TreeList D) (now : StoreState D) (result : Result Reply ApplyFault) : Type 0 where
+-- a step was taken by the list of a store that is seen so
+pub record IsCarried {D A : Type 0} (state : D → DiskState) (next : Nexts) (IsAnswer : Answers A) (known : KnownState D) (old new : TreeList D) (now : StoreState D) (result : Result A ApplyFault) : Type 0 where
   pub served : HoldsKnown state known old
   pub seen : store_of known old ≡ now
+  pub fits : IsObservable (state old.pages.disk) → (answer : A) → result ≡ Ok answer → IsFitting (next known.params known.tree) known.params
   pub runs : old.pages.is_spent ≡ false
   pub goes : GoesOn state old new
-  pub ends : EndsStep state known.tree (step known.tree c known.params) known.params old.pages new.pages result
+  pub ends : EndsStep state known.tree (next known.params known.tree) (IsAnswer known.params known.tree) known.params old.pages new.pages result
 
-pub carried : {D : Type 0} (state : D → DiskState) (c : Command) (known : KnownState D) (old new : TreeList D) (now : StoreState D) (result : Result Reply ApplyFault) (p : Parameters) (is_stopped : Bool) → HoldsKnown state known old → store_of known old ≡ now → is_stopped ≡ now.is_stopped → is_stopped ≡ false
-    → p ≡ known.params → GoesOn state old new → ((t : Tree) → IsListAt state t p old → EndsStep state t (step t c p) p old.pages new.pages result) → IsCarried state c known old new now result
-carried {D} state c known old new now result p is_stopped served seen stopped_is runs params goes call = record {
+pub carried : {D A : Type 0} (state : D → DiskState) (next : Nexts) (IsAnswer : Answers A) (known : KnownState D) (old new : TreeList D) (now : StoreState D) (result : Result A ApplyFault) (p : Parameters) (is_stopped : Bool) → HoldsKnown state known old → store_of known old ≡ now → is_stopped ≡ now.is_stopped → is_stopped ≡ false
+    → p ≡ known.params → GoesOn state old new → ((t : Tree) → IsListAt state t p old → EndsStep state t (next p t) (IsAnswer p t) p old.pages new.pages result)
+    → ((t : Tree) → IsListAt state t p old → IsObservable (state old.pages.disk) → (answer : A) → result ≡ Ok answer → IsFitting (next p t) p) → IsCarried state next IsAnswer known old new now result
+carried {D} {A} state next IsAnswer known old new now result p is_stopped served seen stopped_is runs params goes call fits = record {
   served = served;
   seen = seen;
+  fits = subst (λ (q : Parameters). (t : Tree) → IsListAt state t q old → IsObservable (state old.pages.disk) → (answer : A) → result ≡ Ok answer → IsFitting (next q t) q) params fits known.tree served.at;
   runs = ap (λ (x : StoreState D). x.is_stopped) seen ∙ sym stopped_is ∙ runs;
   goes = goes;
-  ends = subst (λ (q : Parameters). (t : Tree) → IsListAt state t q old → EndsStep state t (step t c q) q old.pages new.pages result) params call known.tree served.at;
+  ends = subst (λ (q : Parameters). (t : Tree) → IsListAt state t q old → EndsStep state t (next q t) (IsAnswer q t) q old.pages new.pages result) params call known.tree served.at;
 }
 
 -- a value was put in its place where the call says so
 pub is_ok-in_place : {A E : Type 0} (value : A) (r : Result (Unit {0}) E) → is_ok r ≡ is_ok (in_place value r)
 is_ok-in_place value (Ok done) = refl
 is_ok-in_place value (Err fault) = refl
+
+-- what holds behind each that is Ok holds of the one that it is
+pub on_value : {A E P : Type 0} (r : Result A E) → OnOk r P → (value : A) → r ≡ Ok value → P
+on_value {A} {E} {P} r holds value is = subst (λ (x : Result A E). OnOk x P) is holds
 
 -- a result that is Ok, and one that is not
 pub ok_value : {T E : Type 0} (r : Result T E) (b : Bool) → b ≡ is_ok r → b ≡ true → (value : T) × (r ≡ Ok value)
@@ -169,45 +205,48 @@ pub err_fault : {T E : Type 0} (r : Result T E) (b : Bool) → b ≡ is_ok r →
 err_fault (Ok value) b is fails = absurd (false≢true (sym fails ∙ is))
 err_fault (Err fault) b is fails = (fault, refl)
 
-module _ {D : Type 0} (state : D → DiskState) (c : Command) (command : IsCommand c) (known : KnownState D) (old new : TreeList D) (now : StoreState D) (result : Result Reply ApplyFault) (is : IsCarried state c known old new now result) (b : Bool) (tells : b ≡ is_ok result) where
+module _ {D A : Type 0} (state : D → DiskState) (next : Nexts) (IsAnswer : Answers A) (known : KnownState D) (old new : TreeList D) (now : StoreState D) (result : Result A ApplyFault) (is : IsCarried state next IsAnswer known old new now result) (b : Bool) (tells : b ≡ is_ok result) where
   -- it was answered, and the known tree goes on
   module _ (met : b ≡ true) (disk : D) (disk_is : disk ≡ new.pages.disk) where
-    some : (reply : Reply) × (result ≡ Ok reply)
+    some : (answer : A) × (result ≡ Ok answer)
     some = ok_value result b tells met
 
-    ends_ok : EndsStep state known.tree (step known.tree c known.params) known.params old.pages new.pages (Ok some.0)
-    ends_ok = subst (λ (r : Result Reply ApplyFault). EndsStep state known.tree (step known.tree c known.params) known.params old.pages new.pages r) some.1 is.ends
+    fits : IsObservable (state old.pages.disk) → IsFitting (next known.params known.tree) known.params
+    fits observable = is.fits observable some.0 some.1
+
+    ends_ok : EndsStep state known.tree (next known.params known.tree) (IsAnswer known.params known.tree) known.params old.pages new.pages (Ok some.0)
+    ends_ok = subst (λ (r : Result A ApplyFault). EndsStep state known.tree (next known.params known.tree) (IsAnswer known.params known.tree) known.params old.pages new.pages r) some.1 is.ends
 
     pub same_disk : (state disk).is_observable ≡ (state known.settled).is_observable
-    same_disk = ap (λ (x : D). (state x).is_observable) disk_is ∙ same_observable state known old new c command is.served is.runs is.goes result is.ends
+    same_disk = ap (λ (x : D). (state x).is_observable) disk_is ∙ same_observable state known old new (next known.params known.tree) (IsAnswer known.params known.tree) is.served is.runs is.goes result is.ends
 
     pub tree_there : IsObservable (state disk) → (t : Tree) × (IsFitting t known.params × ((state disk).bytes ≡ layout t known.params))
-    tree_there = subst (λ (x : D). IsObservable (state x) → (t : Tree) × (IsFitting t known.params × ((state x).bytes ≡ layout t known.params))) (sym disk_is) (stands_at state known old new c command is.served is.runs is.goes some.0 ends_ok)
+    tree_there = subst (λ (x : D). IsObservable (state x) → (t : Tree) × (IsFitting t known.params × ((state x).bytes ≡ layout t known.params))) (sym disk_is) (stands_at state known old new (next known.params known.tree) (IsAnswer known.params known.tree) is.served is.runs is.goes some.0 fits ends_ok)
 
     module _ (after : KnownState D) (settles : MovesOn state disk known after) where
       here : MovesOn state new.pages.disk known after
       here = subst (λ (x : D). MovesOn state x known after) disk_is settles
 
       pub served_ok : HoldsKnown state after new
-      served_ok = answered_served state known old new c command is.served is.runs is.goes some.0 ends_ok after here
+      served_ok = answered_served state known old new (next known.params known.tree) (IsAnswer known.params known.tree) is.served is.runs is.goes some.0 fits ends_ok after here
 
-      pub applies_ok : Applies state c now (store_of after new) result
+      pub applies_ok : Goes state next IsAnswer now (store_of after new) result
       applies_ok =
-          subst (λ (x : StoreState D). Applies state c x (store_of after new) result) is.seen
-          (subst (λ (r : Result Reply ApplyFault). Applies state c (store_of known old) (store_of after new) r) (sym some.1) (answered_applies state known old new c command is.served is.runs is.goes some.0 ends_ok after here))
+          subst (λ (x : StoreState D). Goes state next IsAnswer x (store_of after new) result) is.seen
+          (subst (λ (r : Result A ApplyFault). Goes state next IsAnswer (store_of known old) (store_of after new) r) (sym some.1) (answered_applies state known old new (next known.params known.tree) (IsAnswer known.params known.tree) is.served is.runs is.goes some.0 fits ends_ok after here))
 
   -- it failed, and the known tree stays
   module _ (fails : b ≡ false) where
     why : (fault : ApplyFault) × (result ≡ Err fault)
     why = err_fault result b tells fails
 
-    ends_err : EndsStep state known.tree (step known.tree c known.params) known.params old.pages new.pages (Err why.0)
-    ends_err = subst (λ (r : Result Reply ApplyFault). EndsStep state known.tree (step known.tree c known.params) known.params old.pages new.pages r) why.1 is.ends
+    ends_err : EndsStep state known.tree (next known.params known.tree) (IsAnswer known.params known.tree) known.params old.pages new.pages (Err why.0)
+    ends_err = subst (λ (r : Result A ApplyFault). EndsStep state known.tree (next known.params known.tree) (IsAnswer known.params known.tree) known.params old.pages new.pages r) why.1 is.ends
 
     pub served_err : HoldsKnown state known new
-    served_err = failed_served state known old new c command is.served is.runs is.goes why.0 ends_err
+    served_err = failed_served state known old new (next known.params known.tree) (IsAnswer known.params known.tree) is.served is.runs is.goes why.0 ends_err
 
-    pub applies_err : Applies state c now (store_of known new) result
+    pub applies_err : Goes state next IsAnswer now (store_of known new) result
     applies_err =
-        subst (λ (x : StoreState D). Applies state c x (store_of known new) result) is.seen
-        (subst (λ (r : Result Reply ApplyFault). Applies state c (store_of known old) (store_of known new) r) (sym why.1) (failed_applies state known old new c command is.served is.runs is.goes why.0 ends_err))
+        subst (λ (x : StoreState D). Goes state next IsAnswer x (store_of known new) result) is.seen
+        (subst (λ (r : Result A ApplyFault). Goes state next IsAnswer (store_of known old) (store_of known new) r) (sym why.1) (failed_applies state known old new (next known.params known.tree) (IsAnswer known.params known.tree) is.served is.runs is.goes why.0 ends_err))

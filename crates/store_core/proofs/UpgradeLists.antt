@@ -10,15 +10,14 @@ use Rattle.disk_model.specs.DiskState.{DiskState, IsObservable}
 use Rattle.seeded_draw.specs.AnyDrawn.{any_draw}
 use Rattle.skip_levels.specs.Descent.{HoldsPairs}
 use Rattle.skip_levels.specs.PagePairs.{pairs_of_map}
-use Rattle.skip_levels.proofs.PagePairsLemmas.{holds_own}
 use Rattle.tree_pairs.specs.TreeCalls.{HoldsTree}
 use Rattle.tree_upgrade.specs.UpgradeCalls.{InlinesShortFiles}
 use Rattle.page_store.specs.StagedState.{without_changes}
 use Rattle.image_check.specs.declared.fault.ApplyFault.{ApplyFault}
 use Rattle.image_check.specs.Faults.{apply_fault_of}
-use Rattle.store_core.specs.StagedTree.{TreeList, IsUpgradeStaged, IsListAt}
+use Rattle.store_core.specs.StagedTree.{TreeList, IsUpgradeStaged, IsListAt, FollowsList}
 use Rattle.store_core.specs.Steps.{EndsUpgrade}
-use Rattle.store_core.proofs.ListSteps.{pairs_state, FollowsList, holds, seen_at}
+use Rattle.store_core.proofs.ListSteps.{pairs_state, own_pairs, seen_at, over_table}
 use Rattle.store_core.proofs.Unchanged.{stands_reading}
 use Rattle.store_core.proofs.UpgradeSteps.{upgrade_then, upgrade_failed}
 
@@ -29,15 +28,15 @@ module _ {D : Type 0} (state : D → DiskState) (t : Tree) (p : Parameters) (old
   module _ (inlines : InlinesShortFiles {T = Unit {0}} (pairs_state state old) (pairs_state state mid) (Ok tt)) where
     -- behind it the list is whole
     pub whole_upgraded : IsObservable (state mid.pages.disk) → mid.is_whole ≡ true
-    whole_upgraded observable = (inlines.observable (seen_at state t p old list runs (before observable))).0
+    whole_upgraded observable = (inlines.observable (seen_at state t t p old (over_table list runs) runs (before observable))).0
 
     -- and holds the tree under version 2
     held : IsObservable (state mid.pages.disk) → HoldsPairs (draw_of p) (pairs t (with_version p Two)) mid.pages.map
     held observable =
         let told = before observable in
-        let seen = seen_at state t p old list runs told in
+        let seen = seen_at state t t p old (over_table list runs) runs told in
         let upgraded : HoldsTree (pairs_state state mid) t (with_version p Two) =
-        inlines.upgraded seen t p (record { tree = list.fitting.tree; pairs_are = holds_own (draw_of p) (pairs t p) old.pages.map (holds state t p old list runs told) }) in
+        inlines.upgraded seen t p (record { tree = list.fitting.tree; pairs_are = own_pairs state t t p old (over_table list runs) runs told }) in
         subst (λ (s : List Pair). HoldsPairs (draw_of p) s mid.pages.map) upgraded.pairs_are
         (subst (λ (d : Draw). HoldsPairs d (pairs_of_map mid.pages.map) mid.pages.map) (ap any_draw follows.1 ∙ list.draw) (inlines.observable seen).1.1)
 

@@ -1,5 +1,5 @@
 -- Steps of an upgrade, over staged pages that are those of a tree.
-use Rattle.std.proofs.Common.{◌≡◌, ◌⊎◌, ◌<◌, ◌≤◌, ℕ, Bool, false, List, length, Result, Ok, Err, OnOk, OnErr, refl, sym, ap, subst, ◌∙◌, inl, inr, ⊎_elim, arith}
+use Rattle.std.proofs.Common.{◌≡◌, ◌⊎◌, ◌≤◌, ℕ, Bool, false, List, length, Result, Ok, Err, OnOk, OnErr, refl, sym, ap, subst, ◌∙◌, inl, inr, ⊎_elim, arith}
 use Rattle.std.proofs.lemmas.Bool.{false≢true}
 use Rattle.std.specs.FinMap as maps
 use Rattle.store_base.specs.Counts.{Rose}
@@ -28,7 +28,6 @@ use Rattle.page_store.specs.declared.commit_kind.CommitKind.TheVariants.{Upgrade
 use Rattle.page_store.specs.CommitKinds.{params_after, CountsUpgrade}
 use Rattle.page_store.specs.declared.fault.SettleFault.{SettleFault}
 use Rattle.page_store.specs.declared.fault.SettleFault.TheVariants as causes
-use Rattle.page_store.specs.Faults.{settle_faults_after}
 use Rattle.page_store.specs.PageImages as images
 use Rattle.page_store.specs.Settling.{SettlesDiskBy, SettlesUpgrade}
 use Rattle.page_store.specs.StagedState.{StagedState, Follows, without_changes}
@@ -39,13 +38,13 @@ use Rattle.image_check.specs.Faults.{apply_fault_of, apply_faults_after}
 use Rattle.image_check.specs.Standing.{IsFitting, Stands}
 use Rattle.store_core.specs.TableChanges.{slots_upgraded}
 use Rattle.store_core.specs.StagedTree.{AreAt, IsUpgradeStaged}
-use Rattle.store_core.specs.Steps.{upgrade_fault, UpgradesPages, EndsUpgrade}
+use Rattle.store_core.specs.Steps.{UpgradesPages, EndsUpgrade}
 use Rattle.store_core.specs.StoreCalls.{UpgradesImage}
 use Rattle.store_core.proofs.CostLemmas.{made_reading}
 use Rattle.store_core.proofs.DiskLemmas.{keeps_then}
-use Rattle.store_core.proofs.StagedSteps.{kept_view}
+use Rattle.store_core.proofs.StagedSteps.{kept_view, ended, ended_faults, ended_never}
 use Rattle.store_core.proofs.TreePages.{fitting_upgraded, held_map, held_count, stands_tree, slots_as_upgraded}
-use Rattle.store_core.proofs.Unchanged.{standing_represents, stands_reading}
+use Rattle.store_core.proofs.Unchanged.{standing_represents}
 
 -- ---- reads
 
@@ -143,11 +142,6 @@ module _ {D : Type 0} (state : D → DiskState) (t : Tree) (p : Parameters) (old
 
 -- ---- a settle
 
--- how an upgrade ends whose settle ended so
-abbrev upgrade_end : Result (Unit {0}) SettleFault → Result (Unit {0}) ApplyFault
-upgrade_end (Ok value) = Ok value
-upgrade_end (Err fault) = Err (upgrade_fault fault)
-
 -- pages of a tree under version 2, settled over a disk that stands at it under version 1
 module _ {D : Type 0} (state : D → DiskState) (t : Tree) (p : Parameters) (old new : StagedState D AnyDraw) (staged : IsUpgradeStaged state t p old) (runs : old.is_spent ≡ false) (observable : IsObservable (state old.disk)) (sound : IsSound (state new.disk)) where
   to : IsFitting t (with_version p Two)
@@ -215,7 +209,7 @@ module _ {D : Type 0} (state : D → DiskState) (t : Tree) (p : Parameters) (old
         stood (Err fault) at = tt
 
   -- the upgrade that a settle ends
-  stepped : (r : Result (Unit {0}) SettleFault) → SettlesUpgrade state any_draw old new r → UpgradesPages state t p old new (upgrade_end r)
+  stepped : (r : Result (Unit {0}) SettleFault) → SettlesUpgrade state any_draw old new r → UpgradesPages state t p old new (ended {A = Unit {0}} tt r)
   stepped (Ok value) settles =
       let seen = by_tree (Ok value) (settles.observed observable) in
       let count = counts settles.kept (Ok value) seen in
@@ -245,33 +239,21 @@ module _ {D : Type 0} (state : D → DiskState) (t : Tree) (p : Parameters) (old
       let fits : page_count t (with_version p Two) ≤ p.slots = to.fits.room in
       absurd (omega (arith, full.more, full.need_is ∙ count_is, full.slots_are ∙ slots_are, fits))
 
--- what it makes of the count of faults
-ended_faults : (n m : ℕ) (r : Result (Unit {0}) SettleFault) → m ≡ settle_faults_after n r → m ≡ apply_faults_after n (upgrade_end r)
-ended_faults n m (Ok value) is = is
-ended_faults n m (Err (causes.Full need slots)) is = is
-ended_faults n m (Err causes.Disk) is = is
-ended_faults n m (Err causes.NoMemory) is = is
-
-ended_never : (r : Result (Unit {0}) SettleFault) → upgrade_end r ≡ Err apply.Stopped → ⊥
-ended_never (Ok value) is = cc
-ended_never (Err (causes.Full need slots)) is = cc
-ended_never (Err causes.Disk) is = cc
-ended_never (Err causes.NoMemory) is = cc
-
-ended_params : (p q : Parameters) (r : Result (Unit {0}) SettleFault) → q ≡ params_after Upgrade p r → q ≡ params_after Upgrade p (upgrade_end r)
+-- what it makes of the parameters
+ended_params : (p q : Parameters) (r : Result (Unit {0}) SettleFault) → q ≡ params_after Upgrade p r → q ≡ params_after Upgrade p (ended {A = Unit {0}} tt r)
 ended_params p q (Ok value) is = is
 ended_params p q (Err fault) is = is
 
 -- an upgrade that is settled, behind which all is taken back that is staged
 pub upgraded : {D : Type 0} (state : D → DiskState) (t : Tree) (p : Parameters) (old new : StagedState D AnyDraw) (r : Result (Unit {0}) SettleFault) → ((x : D) → IsObservable (state x) → IsSound (state x)) → IsUpgradeStaged state t p old → old.is_spent ≡ false
-    → SettlesUpgrade state any_draw old new r → EndsUpgrade state t p old (without_changes new) (upgrade_end r)
+    → SettlesUpgrade state any_draw old new r → EndsUpgrade state t p old (without_changes new) (ended {A = Unit {0}} tt r)
 upgraded state t p old new r sound staged runs settles = record {
   params = ended_params old.params new.params r settles.params;
   draw = settles.draw;
   kept = settles.kept;
-  faults = ended_faults (state old.disk).faults (state new.disk).faults r settles.faults;
-  never = ended_never r;
-  runs = λ other. settles.runs (λ e. other (ap upgrade_end e));
+  faults = ended_faults {A = Unit {0}} tt (state old.disk).faults (state new.disk).faults r settles.faults;
+  never = ended_never {A = Unit {0}} tt r;
+  runs = λ other. settles.runs (λ e. other (ap (ended {A = Unit {0}} tt) e));
   observed = λ observable.
       let step = stepped state t p old new staged runs observable (sound new.disk (settles.kept.observable ∙ observable)) r settles in
       record { image = step.image; goes = step.goes; stays = step.stays };

@@ -5,7 +5,6 @@ use Rattle.store_model.specs.declared.version.Version.{Version}
 use Rattle.store_model.specs.declared.version.Version.TheVariants.{One, Two}
 use Rattle.store_model.specs.Parameters.{Parameters, with_version}
 use Rattle.store_model.specs.Trees.{Tree}
-use Rattle.store_model.specs.Draws.{draw_of}
 use Rattle.store_model.specs.Images.{layout}
 use Rattle.store_model.proofs.TreesLemmasUpgrade.{draw_of-with_version}
 use Rattle.disk_model.specs.DiskState.{DiskState, IsObservable}
@@ -14,7 +13,7 @@ use Rattle.image_check.specs.declared.fault.ApplyFault.{ApplyFault}
 use Rattle.image_check.specs.declared.fault.ApplyFault.TheVariants as apply
 use Rattle.image_check.specs.Standing.{Stands}
 use Rattle.store_core.specs.Known.{KnownState}
-use Rattle.store_core.specs.StagedTree.{TreeList, StagesTreePages, IsListAt, GoesOn}
+use Rattle.store_core.specs.StagedTree.{TreeList, IsListAt, GoesOn}
 use Rattle.store_core.specs.Steps.{UpgradesPages, EndsUpgrade}
 use Rattle.store_core.specs.StoreCalls.{Upgrades}
 use Rattle.store_core.specs.StoreFields.{HoldsKnown}

@@ -1,7 +1,9 @@
+pub mod Groups
 pub mod TableChanges
 pub mod Known
 pub mod Opening
 pub mod StagedTree
+pub mod Staging
 pub mod Steps
 pub mod StoreCalls
 pub mod StoreFields

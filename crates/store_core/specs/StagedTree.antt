@@ -12,7 +12,7 @@ use Rattle.seeded_draw.specs.declared.any.AnyDraw.{AnyDraw}
 use Rattle.seeded_draw.specs.AnyDrawn.{any_draw}
 use Rattle.skip_levels.specs.Descent.{HoldsPairs}
 use Rattle.skip_levels.specs.ListState.{ListState}
-use Rattle.page_store.specs.StagedState.{StagedState, IsTold, without_changes}
+use Rattle.page_store.specs.StagedState.{StagedState, IsTold, Follows, without_changes}
 use Rattle.image_check.specs.Standing.{IsFitting, Stands}
 
 -- The disk stands at the tree, the pages in its table are the tree's, and nothing else is staged.
@@ -64,6 +64,18 @@ pub record IsListAt {D : Type 0} (state : D → DiskState) (t : Tree) (p : Param
   pub pages : AreAt state t p list.pages
   pub draw : any_draw list.draw ≡ draw_of p
   pub whole : IsObservable (state list.pages.disk) → list.is_whole ≡ true
+
+-- A list of a tree, which fits, and whose pages are staged over those of another one in the table; where its disk tells
+-- its bytes, it is whole.
+pub record IsListFor {D : Type 0} (state : D → DiskState) (t next : Tree) (p : Parameters) (list : TreeList D) : Type 0 where
+  pub fitting : IsFitting next p
+  pub staged : IsStagedFor state t next p list.pages
+  pub draw : any_draw list.draw ≡ draw_of p
+  pub whole : IsObservable (state list.pages.disk) → list.is_whole ≡ true
+
+-- what every call keeps of a list over staged pages
+abbrev pub FollowsList : {D : Type 0} → (D → DiskState) → TreeList D → TreeList D → Type 0
+FollowsList state old new = Follows state old.pages new.pages × (new.draw ≡ old.draw)
 
 -- a list goes on under its draw, and is whole again
 pub record GoesOn {D : Type 0} (state : D → DiskState) (old new : TreeList D) : Type 0 where

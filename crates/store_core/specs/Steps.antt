@@ -30,36 +30,45 @@ settled_reply (Err (causes.Full need slots)) = Ok (replies.No (refusals.Full nee
 settled_reply (Err causes.Disk) = Err apply.Disk
 settled_reply (Err causes.NoMemory) = Err apply.NoMemory
 
--- what it does over an observable disk that stands at the tree
-pub record StepsPages {D : Type 0} (state : D → DiskState) (t : Tree) (to : Step) (p : Parameters) (old new : StagedState D AnyDraw) (result : Result Reply ApplyFault) : Type 0 where
-  pub reply : IfOk result (λ reply. reply_of reply ≡ to.reply)
-  pub image : ChangesImage t to.tree p (state old.disk) (state new.disk) new.is_spent result
-  -- the pages in the table are then those of the step's tree, and after a fault those that they were
-  pub goes : OnOk result (new.table ≡ map_of_pages (pages to.tree p))
+-- why a step to a tree that fits failed whose settle did so; none of such a tree is full
+abbrev pub settle_cause : SettleFault → ApplyFault
+settle_cause (causes.Full need slots) = apply.NoMemory
+settle_cause causes.Disk = apply.Disk
+settle_cause causes.NoMemory = apply.NoMemory
+
+-- what a step does over an observable disk that stands at the tree
+pub record StepsPages {D A : Type 0} (state : D → DiskState) (t next : Tree) (IsAnswer : A → Type 0) (p : Parameters) (old new : StagedState D AnyDraw) (result : Result A ApplyFault) : Type 0 where
+  pub answer : IfOk result IsAnswer
+  pub image : ChangesImage t next p (state old.disk) (state new.disk) new.is_spent result
+  -- the pages in the table are then those of the next tree, and after a fault those that they were
+  pub goes : OnOk result (new.table ≡ map_of_pages (pages next p))
   pub stays : new.is_spent ≡ false → OnErr result (new.table ≡ old.table)
 
--- Staged pages of a tree take a step, and are spent only by a fault of the disk.
-pub record TakesStep {D : Type 0} (state : D → DiskState) (t : Tree) (to : Step) (p : Parameters) (old new : StagedState D AnyDraw) (result : Result Reply ApplyFault) : Type 0 where
+-- Staged pages of a tree go on to those of the next one, and are spent only by a fault of the disk. A command is such a
+-- step, and so is a group of changes.
+pub record TakesStep {D A : Type 0} (state : D → DiskState) (t next : Tree) (IsAnswer : A → Type 0) (p : Parameters) (old new : StagedState D AnyDraw) (result : Result A ApplyFault) : Type 0 where
   pub params : new.params ≡ old.params
   pub draw : new.draw ≡ old.draw
   pub kept : KeepsDisk (state old.disk) (state new.disk)
   pub faults : (state new.disk).faults ≡ apply_faults_after (state old.disk).faults result
   pub never : result ≡ Err apply.Stopped → ⊥
   pub runs : (result ≡ Err apply.Disk → ⊥) → new.is_spent ≡ false
-  pub observed : IsObservable (state old.disk) → StepsPages state t to p old new result
+  pub observed : IsObservable (state old.disk) → StepsPages state t next IsAnswer p old new result
 
 -- a step behind which nothing is staged
-pub record EndsStep {D : Type 0} (state : D → DiskState) (t : Tree) (to : Step) (p : Parameters) (old new : StagedState D AnyDraw) (result : Result Reply ApplyFault) : Type 0 where
-  pub step : TakesStep state t to p old new result
+pub record EndsStep {D A : Type 0} (state : D → DiskState) (t next : Tree) (IsAnswer : A → Type 0) (p : Parameters) (old new : StagedState D AnyDraw) (result : Result A ApplyFault) : Type 0 where
+  pub step : TakesStep state t next IsAnswer p old new result
   pub none_staged : IsObservable (state new.disk) → new.is_spent ≡ false → new.map ≡ new.table
 
--- ---- an upgrade
+-- a reply is the one of a command's step
+abbrev pub IsReplyTo : Step → Reply → Type 0
+IsReplyTo to reply = reply_of reply ≡ to.reply
 
--- why an upgrade failed whose settle did so; none of a tree that fits is full
-abbrev pub upgrade_fault : SettleFault → ApplyFault
-upgrade_fault (causes.Full need slots) = apply.NoMemory
-upgrade_fault causes.Disk = apply.Disk
-upgrade_fault causes.NoMemory = apply.NoMemory
+-- a command takes its step, and nothing is staged behind it
+abbrev pub EndsCommand : {D : Type 0} → (D → DiskState) → Tree → Step → Parameters → StagedState D AnyDraw → StagedState D AnyDraw → Result Reply ApplyFault → Type 0
+EndsCommand state t to p old new result = EndsStep state t to.tree (IsReplyTo to) p old new result
+
+-- ---- an upgrade
 
 -- what an upgrade does over an observable disk that stands at the tree
 pub record UpgradesPages {D : Type 0} (state : D → DiskState) (t : Tree) (p : Parameters) (old new : StagedState D AnyDraw) (result : Result (Unit {0}) ApplyFault) : Type 0 where

@@ -1,5 +1,5 @@
 -- What the calls of a store do.
-use Rattle.std.specs.Prelude.{◌≡◌, ◌↔◌, ◌⊎◌, Bool, true, false, Result, Ok, Err, IfOk, IfErr, OnOk, OnErr, IsErrOf}
+use Rattle.std.specs.Prelude.{◌≡◌, ◌↔◌, ◌⊎◌, Bool, true, false, List, Result, Ok, Err, IfOk, IfErr, OnOk, OnErr, IsErrOf}
 use Rattle.store_model.specs.declared.version.Version.TheVariants.{One, Two}
 use Rattle.store_model.specs.Parameters.{Parameters, with_version}
 use Rattle.store_model.specs.Trees.{Tree}
@@ -24,6 +24,8 @@ use Rattle.page_store.specs.CommitKinds.{CountsUpgrade}
 use Rattle.store_core.specs.TableChanges.{slots_between, slots_upgraded}
 use Rattle.image_check.specs.Faults.{attach_faults_by, apply_faults_after}
 use Rattle.image_check.specs.Standing.{IsFitting, Stands}
+use Rattle.store_core.specs.declared.group.GroupAnswer.{GroupAnswer}
+use Rattle.store_core.specs.Groups.{group_tree, IsGroupAnswer}
 use Rattle.store_core.specs.StoreState.{StoreState}
 
 -- ---- attach
@@ -81,10 +83,9 @@ pub record Attaches {D : Type 0} (state : D → DiskState) (old : DiskState) (re
   pub attached : IfOk result (IsAttached state old)
   pub refused : IfErr result (λ refused. IsRefused old refused.0 (state refused.1))
 
--- ---- apply
+-- ---- a step
 
--- What carrying out a command does to an observable disk that stands at a tree, where the command leads to the next
--- one.
+-- What carrying out a step does to an observable disk that stands at a tree, where the step leads to the next one.
 pub record ChangesImage {T : Type 0} (t next : Tree) (p : Parameters) (old new : DiskState) (is_stopped : Bool) (result : Result T ApplyFault) : Type 0 where
   pub stands : OnOk result (Stands new next p)
   -- a crash at any moment of the call leaves an image of the one tree or of the other, and the disk reads one
@@ -100,22 +101,35 @@ pub record ChangesImage {T : Type 0} (t next : Tree) (p : Parameters) (old new :
   pub stops : is_stopped ≡ true → IsErrOf result apply.Disk × (Rose old.writes new.writes ⊎ Rose old.syncs new.syncs)
   pub goes_on : is_stopped ≡ false → IsErrOf result apply.Disk → ReadsOnly old new
 
--- A store carries out a command, as the definitions' step does.
-pub record Applies {D : Type 0} (state : D → DiskState) (command : Command) (old new : StoreState D) (result : Result Reply ApplyFault) : Type 0 where
+-- A store takes a step: from its tree it goes on to the next one and answers as is meant, or it fails. A command is such a
+-- step, and so is a group of changes.
+pub record StepsStore {D A : Type 0} (state : D → DiskState) (next : Tree) (IsAnswer : A → Type 0) (old new : StoreState D) (result : Result A ApplyFault) : Type 0 where
   pub params : new.params ≡ old.params
   pub kept : KeepsDisk (state old.disk) (state new.disk)
   pub faults : (state new.disk).faults ≡ apply_faults_after (state old.disk).faults result
   -- a stopped store answers so and does nothing, and no other answers so
   pub stopped : (result ≡ Err apply.Stopped) ↔ (old.is_stopped ≡ true)
   pub still : old.is_stopped ≡ true → new ≡ old
-  -- over an observable disk the reply and the tree are the step's; a fault leaves the tree of any
-  pub reply : IsObservable (state old.disk) → IfOk result (λ reply. reply_of reply ≡ (step old.tree command old.params).reply)
-  pub tree : IsObservable (state old.disk) → OnOk result (new.tree ≡ (step old.tree command old.params).tree)
+  -- over an observable disk the answer and the tree are those meant; a fault leaves the tree of any
+  pub answer : IsObservable (state old.disk) → IfOk result IsAnswer
+  pub tree : IsObservable (state old.disk) → OnOk result (new.tree ≡ next)
   pub fault : OnErr result (new.tree ≡ old.tree)
+  -- of a disk that is not observable nothing is known, and the tree stays
+  pub hidden : (IsObservable (state old.disk) → ⊥) → new.tree ≡ old.tree
   -- only a fault of the disk stops it
   pub runs : old.is_stopped ≡ false → (result ≡ Err apply.Disk → ⊥) → new.is_stopped ≡ false
   pub observed : IsObservable (state old.disk) → old.is_stopped ≡ false
-      → ChangesImage old.tree (step old.tree command old.params).tree old.params (state old.disk) (state new.disk) new.is_stopped result
+      → ChangesImage old.tree next old.params (state old.disk) (state new.disk) new.is_stopped result
+
+-- A store carries out a command, as the definitions' step does.
+abbrev pub Applies : {D : Type 0} → (D → DiskState) → Command → StoreState D → StoreState D → Result Reply ApplyFault → Type 0
+Applies state command old new result =
+    StepsStore state (step old.tree command old.params).tree (λ reply. reply_of reply ≡ (step old.tree command old.params).reply) old new result
+
+-- A store carries out a group of changes, one after another and together, or none of them.
+abbrev pub AppliesAll : {D : Type 0} → (D → DiskState) → List Command → StoreState D → StoreState D → Result GroupAnswer ApplyFault → Type 0
+AppliesAll state changes old new result =
+    StepsStore state (group_tree old.params old.tree changes) (IsGroupAnswer old.params old.tree changes) old new result
 
 -- ---- upgrade
 

@@ -14,11 +14,12 @@ ghost use Rattle.script_lines.specs.InPlace.{in_place};
 ghost use Rattle.script_lines.specs.Parsing.{command_of};
 ghost use Rattle.script_lines.specs.Replies.{reply_of};
 ghost use Rattle.page_store.specs.StagedState.{Follows, without_changes};
-ghost use Rattle.tree_commands.specs.Answers.{is_change, is_look, change_reply};
+ghost use Rattle.script_lines.specs.Sessions.{is_change};
+ghost use Rattle.tree_commands.specs.Answers.{is_look, change_reply};
 ghost use Rattle.tree_commands.specs.Counted.{counted_step};
 ghost use Rattle.image_check.specs.Standing.{IsFitting};
 ghost use Rattle.store_core.specs.StagedTree.{AreAt, IsStagedFor, IsListAt, GoesOn, HoldsTable};
-ghost use Rattle.store_core.specs.Steps.{settled_reply, EndsStep};
+ghost use Rattle.store_core.specs.Steps.{settled_reply, settle_cause, EndsCommand};
 
 use disk_model::Disk;
 use image_check::ApplyFault;
@@ -52,7 +53,7 @@ pub fn carry_out<D: Disk>(
     requires command { IsCommand (command_of command.now) }
     requires runs { pairs.old.pages.is_spent ≡ false }
     requires list { (t : Tree) × IsListAt D.state t params.now pairs.old }
-    ensures call { (t : Tree) → IsListAt D.state t params.now pairs.old → EndsStep D.state t (step t (command_of command.now) params.now) params.now pairs.old.pages pairs.new.pages (in_place reply.new result) }
+    ensures call { (t : Tree) → IsListAt D.state t params.now pairs.old → EndsCommand D.state t (step t (command_of command.now) params.now) params.now pairs.old.pages pairs.new.pages (in_place reply.new result) }
     ensures list { GoesOn D.state pairs.old pairs.new }
 {
     if lacks_version(command, params) {
@@ -72,7 +73,7 @@ pub fn carry_out<D: Disk>(
 }
 
 /// Whether a command is refused for the version of the image.
-fn lacks_version(command: &Command, params: &Params) -> bool
+pub fn lacks_version(command: &Command, params: &Params) -> bool
     ensures { result ≡ steps.lacks_version (command_of command.now) params.now }
 {
     is_on_attributes(command) && params.version() == Version::One
@@ -95,7 +96,7 @@ fn tell_space<D: Disk>(staged: &TreePages<D>, params: &Params, reply: &mut Reply
 #[inline(never)]
 fn tell_digest<D: Disk>(staged: &mut TreePages<D>, reply: &mut Reply) -> Result<(), ApplyFault>
     requires runs { staged.old.is_spent ≡ false }
-    ensures call { (t : Tree) (p : Parameters) → IsFitting t p → AreAt D.state t p staged.old → EndsStep D.state t (step t Digest p) p staged.old staged.new (in_place reply.new result) }
+    ensures call { (t : Tree) (p : Parameters) → IsFitting t p → AreAt D.state t p staged.old → EndsCommand D.state t (step t Digest p) p staged.old staged.new (in_place reply.new result) }
     ensures map { IsObservable (D.state staged.old.disk) → staged.new.map ≡ staged.old.map }
     ensures follows { Follows D.state staged.old staged.new }
 {
@@ -116,7 +117,7 @@ fn carry_out_look<D: Disk>(
     requires runs { pairs.old.pages.is_spent ≡ false }
     requires list { (t : Tree) × ((p : Parameters) × IsListAt D.state t p pairs.old) }
     ensures call { (t : Tree) (p : Parameters) → steps.lacks_version (command_of command.now) p ≡ false → IsListAt D.state t p pairs.old
-        → EndsStep D.state t (step t (command_of command.now) p) p pairs.old.pages pairs.new.pages (in_place reply.new result) }
+        → EndsCommand D.state t (step t (command_of command.now) p) p pairs.old.pages pairs.new.pages (in_place reply.new result) }
     ensures list { GoesOn D.state pairs.old pairs.new }
 {
     match answer(alloc, pairs, command, reply) {
@@ -143,7 +144,7 @@ fn carry_out_change<D: Disk>(
     requires command { IsCommand (command_of command.now) }
     requires runs { pairs.old.pages.is_spent ≡ false }
     requires list { (t : Tree) × IsListAt D.state t params.now pairs.old }
-    ensures call { (t : Tree) → IsListAt D.state t params.now pairs.old → EndsStep D.state t (step t (command_of command.now) params.now) params.now pairs.old.pages pairs.new.pages (change_reply result) }
+    ensures call { (t : Tree) → IsListAt D.state t params.now pairs.old → EndsCommand D.state t (step t (command_of command.now) params.now) params.now pairs.old.pages pairs.new.pages (change_reply result) }
     ensures list { GoesOn D.state pairs.old pairs.new }
 {
     match change(pairs, params.version(), command) {
@@ -165,7 +166,7 @@ fn end_change<D: Disk>(pairs: &mut TreeList<D>) -> Result<Answer<()>, ApplyFault
     requires runs { pairs.old.pages.is_spent ≡ false }
     requires whole { IsObservable (D.state pairs.old.pages.disk) → pairs.old.is_whole ≡ true }
     requires staged { (t : Tree) × ((next : Tree) × ((p : Parameters) × (IsStagedFor D.state t next p pairs.old.pages × (any_draw pairs.old.draw ≡ draw_of p)))) }
-    ensures call { (t next : Tree) (p : Parameters) → IsStagedFor D.state t next p pairs.old.pages → EndsStep D.state t (counted_step t next p) p pairs.old.pages pairs.new.pages (change_reply result) }
+    ensures call { (t next : Tree) (p : Parameters) → IsStagedFor D.state t next p pairs.old.pages → EndsCommand D.state t (counted_step t next p) p pairs.old.pages pairs.new.pages (change_reply result) }
     ensures list { GoesOn D.state pairs.old pairs.new }
 {
     match pairs.pages.settle() {
@@ -199,6 +200,17 @@ fn answer_to(fault: SettleFault) -> Result<Answer<()>, ApplyFault>
         SettleFault::Full { need, slots } => Ok(Err(Refusal::Full { need, slots })),
         SettleFault::Disk => Err(ApplyFault::Disk),
         SettleFault::NoMemory => Err(ApplyFault::NoMemory),
+    }
+}
+
+/// Why changes to a tree that fits failed whose settle failed so.
+pub fn cause_of(fault: SettleFault) -> ApplyFault
+    ensures { result ≡ settle_cause fault }
+{
+    match fault {
+        // No such tree takes more pages than there are slots. What comes here wrote nothing.
+        SettleFault::Full { .. } | SettleFault::NoMemory => ApplyFault::NoMemory,
+        SettleFault::Disk => ApplyFault::Disk,
     }
 }
 

@@ -1,7 +1,9 @@
 //! The store: a tree of directories and files in a disk image, as one value.
 //!
 //! It is had of a disk by `attach`, which checks the image whole and recovers it, and carries out one command after
-//! another by `apply`. What its calls promise is the definitions' step. By `upgrade` its image becomes one of version 2.
+//! another by `apply`. By `apply_all` it carries out a group of changes together, or none of them: they are staged one
+//! after another, and settled once. What these calls promise is the definitions' step. By `upgrade` its image becomes
+//! one of version 2.
 //!
 //! No part of the tree is in memory between two commands. A command works on the skip list in the staged pages of the
 //! table, and reads the pages that it asks for; what it changed is settled at once, so that only the slots that differ
@@ -11,9 +13,11 @@
 mod apply;
 mod attach;
 mod commands;
+mod group;
 mod known;
 mod store;
 mod upgrade;
 
+pub use group::GroupAnswer;
 pub use image_check::{ApplyFault, AttachFault};
 pub use store::Store;

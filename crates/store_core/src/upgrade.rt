@@ -8,14 +8,13 @@ ghost use Rattle.store_model.specs.declared.version.Version.TheVariants.{One};
 ghost use Rattle.disk_model.specs.DiskState.{IsObservable};
 ghost use Rattle.seeded_draw.specs.AnyDrawn.{any_draw};
 ghost use Rattle.store_core.specs.StagedTree.{IsUpgradeStaged, IsListAt, GoesOn};
-ghost use Rattle.store_core.specs.Steps.{upgrade_fault, EndsUpgrade};
+ghost use Rattle.store_core.specs.Steps.{EndsUpgrade};
 ghost use Rattle.store_core.specs.StoreCalls.{Upgrades};
 
-use crate::commands::{TreeList, give_up};
+use crate::commands::{TreeList, cause_of, give_up};
 use crate::store::Store;
 use disk_model::Disk;
 use image_check::ApplyFault;
-use page_store::SettleFault;
 use store_model::Version;
 use tree_upgrade::inline_short_files;
 
@@ -93,16 +92,5 @@ fn end_upgrade<D: Disk>(pairs: &mut TreeList<D>) -> Result<(), ApplyFault>
             give_up(pairs);
             Err(cause_of(fault))
         }
-    }
-}
-
-/// Why an upgrade failed whose settle failed so.
-fn cause_of(fault: SettleFault) -> ApplyFault
-    ensures { result ≡ upgrade_fault fault }
-{
-    match fault {
-        // No tree that fits takes more pages under version 2. What comes here wrote nothing.
-        SettleFault::Full { .. } | SettleFault::NoMemory => ApplyFault::NoMemory,
-        SettleFault::Disk => ApplyFault::Disk,
     }
 }

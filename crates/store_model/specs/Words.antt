@@ -14,6 +14,7 @@ pub use Rattle.store_model.specs.Grammar.{on_word as on_command}
 pub data Request : Type 0 where
   Format : Parameters → Request
   Run : Request
+  Session : Request
   Check : Request
   Scrub : Request
   Wipe : Request
@@ -44,10 +45,11 @@ version_of_word word = on_word word (codes "format") (Some One) (on_word word (c
 unfoldable pub request_of : List (List ℕ) → Option Request
 request_of (w ∷ []) =
     on_word w (codes "run") (Some Run)
+    (on_word w (codes "session") (Some Session)
     (on_word w (codes "check") (Some Check)
     (on_word w (codes "scrub") (Some Scrub)
     (on_word w (codes "wipe") (Some Wipe)
-    (on_word w (codes "upgrade") (Some Upgrade) None))))
+    (on_word w (codes "upgrade") (Some Upgrade) None)))))
 request_of (w ∷ number ∷ count ∷ []) =
     on_word w (codes "big") (number_of number >>= λ n. number_in 1 commands_limit count >>= λ k. Some (Big n k)) None
 request_of (w ∷ slots ∷ height ∷ kind ∷ seed ∷ []) =

@@ -23,7 +23,7 @@ use Rattle.image_subcommands.specs.Endings.{attach_status}
 use Rattle.store_top.specs.Generations.{generated_trees, AnswersGenerated}
 use Rattle.image_subcommands.specs.Outside.{Outside, outside_of, KeepsOutside}
 use Rattle.store_top.specs.Promises.{PromisesCrashes}
-use Rattle.image_subcommands.specs.Statuses.{IsBigStatus, IsSummed, IsEndOfBig, IsRefusedImage, disk_faults_by, source_faults_by, sink_faults_by}
+use Rattle.image_subcommands.specs.Statuses.{Subcommand as words, IsStatusOf, IsSummed, IsEndOf, IsRefusedImage, disk_faults_by, source_faults_by, sink_faults_by}
 use Rattle.store_top.proofs.CostLemmas.{run_counts}
 use Rattle.store_top.proofs.CrashLemmas.{crashes_refused, crashes_behind, opened_represents}
 use Rattle.store_top.proofs.GenerationLemmas.{no_command}
@@ -32,7 +32,7 @@ use Rattle.store_top.proofs.RunEnds.{image_answered, not_between, no_image_by, d
 
 -- ---- no store was had
 
-big_so : (fault : AttachFault) → IsBigStatus (attach_status fault)
+big_so : (fault : AttachFault) → IsStatusOf words.Big (attach_status fault)
 big_so faults.Disk = refl
 big_so faults.NoMemory = refl
 big_so faults.NotImage = refl
@@ -82,7 +82,7 @@ module _ {D R W : Type 0} (disk_of : D → DiskState) (sink_of : W → SinkState
 -- ---- commands were carried out
 
 -- the source is not called
-source_alone : (status : Status) → IsEndOfBig status → (count : ℕ) → count ≡ source_faults_by status count
+source_alone : (status : Status) → IsEndOf words.Big status → (count : ℕ) → count ≡ source_faults_by status count
 source_alone statuses.Done ends count = refl
 source_alone statuses.SinkFault ends count = refl
 source_alone statuses.DiskFault ends count = refl
@@ -96,11 +96,11 @@ source_alone statuses.AlreadyImage ends count = absurd (false≢true ends)
 source_alone statuses.WrongLength ends count = absurd (false≢true ends)
 source_alone statuses.Unequal ends count = absurd (false≢true ends)
 
-image_kept : (status : Status) → IsEndOfBig status → IsRefusedImage status → ⊥
+image_kept : (status : Status) → IsEndOf words.Big status → IsRefusedImage status → ⊥
 image_kept status ends refused = false≢true (sym (ap not refused) ∙ second_true _ _ ends)
 
 -- where no call failed and memory was there all was done
-all_generated : (status : Status) (disk disk_new sink sink_new : ℕ) → IsEndOfBig status → disk_new ≡ disk_faults_by status disk → sink_new ≡ sink_faults_by status sink
+all_generated : (status : Status) (disk disk_new sink sink_new : ℕ) → IsEndOf words.Big status → disk_new ≡ disk_faults_by status disk → sink_new ≡ sink_faults_by status sink
     → (Rose disk disk_new → ⊥) → (Rose sink sink_new → ⊥) → (status ≡ statuses.Done) ⊎ (status ≡ statuses.NoMemory)
 all_generated statuses.Done disk disk_new sink sink_new ends disk_is sink_is disk_whole sink_whole = inl refl
 all_generated statuses.NoMemory disk disk_new sink sink_new ends disk_is sink_is disk_whole sink_whole = inr refl

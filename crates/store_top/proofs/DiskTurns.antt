@@ -1,27 +1,22 @@
 -- What lines do to an observable disk, one after another.
-use Rattle.std.proofs.Common.{◌≡◌, ◌⊎◌, ℕ, ◌+◌, Bool, false, Result, Ok, Err, refl, sym, subst, ◌∙◌, arith}
+use Rattle.std.proofs.Common.{◌≡◌, ◌⊎◌, ℕ, ◌+◌, Bool, Ok, Err, refl, sym, subst, ◌∙◌, arith}
 use Rattle.store_model.specs.Parameters.{Parameters}
 use Rattle.store_model.specs.Trees.{Tree}
 use Rattle.store_model.specs.Images.{Represents}
-use Rattle.store_model.specs.Commands.{Command}
-use Rattle.store_model.specs.Scripts.{answer_by}
-use Rattle.store_model.specs.declared.refusal.Refusal.{Refusal}
-use Rattle.disk_model.specs.DiskState.{DiskState, IsObservable, IsSound}
+use Rattle.disk_model.specs.DiskState.{DiskState, IsSound}
 use Rattle.disk_model.proofs.Crashes.{LeavesOnly-trans, LeavesOnly-weaken, MayLeaveOnly-end}
 use Rattle.gate_journal.specs.Places.{Made, ReadsOnly}
 use Rattle.gate_journal.specs.Costs.{commit_writes, commit_syncs}
 use Rattle.gate_journal.proofs.Reading.{ReadsOnly-refl, ReadsOnly-trans}
-use Rattle.script_lines.specs.declared.reply.Reply.{Reply}
 use Rattle.image_check.specs.declared.fault.ApplyFault.TheVariants as apply
 use Rattle.image_check.specs.Standing.{IsFitting, Stands}
 use Rattle.store_core.specs.StoreCalls.{ChangesImage}
-use Rattle.store_core.specs.StoreState.{StoreState}
 use Rattle.store_core.proofs.CostLemmas.{made_none, none_between}
 use Rattle.store_core.proofs.Unchanged.{standing_represents, stands_reading}
 use Rattle.image_subcommands.specs.declared.status.Status.{Status}
 use Rattle.image_subcommands.specs.declared.status.Status.TheVariants as statuses
 use Rattle.store_top.specs.Promises.{RepresentsOneOf}
-use Rattle.store_top.specs.Runs.{AnswersReading, ChangesByLines}
+use Rattle.store_top.specs.Runs.{ChangesByLines}
 use Rattle.store_top.specs.Turns.{DiskSoFar}
 use Rattle.store_top.proofs.CostLemmas.{lines_more, lines_fault, lines_reading, lines_whole}
 use Rattle.store_top.proofs.CrashLemmas.{crash_start, crash_more, crash_still, crashes_between, crashes_fault}
@@ -58,7 +53,7 @@ module _ (trees : ℕ → Tree) (p : Parameters) where
     }
 
     module _ {T : Type 0} (next : DiskState) (t u : Tree) (is_stopped : Bool) (here : trees n ≡ t) (after : trees (n + 1) ≡ u) where
-      -- a command that was carried out
+      -- a step that was taken
       pub disk_more : (value : T) → ChangesImage t u p now next is_stopped (Ok value) → DiskSoFar trees p (n + 1) first next
       disk_more value change = record {
         stands = subst (λ (v : Tree). Stands next v p) (sym after) change.stands;
@@ -87,14 +82,3 @@ module _ (trees : ℕ → Tree) (p : Parameters) where
       quiet = λ e all. so_far.quiet all;
       counts = lines_whole status n trees p first now other so_far.counts;
     }
-
-  -- a line that was answered
-  pub disk_answered : {D : Type 0} (disk_of : D → DiskState) (n : ℕ) (first : DiskState) (m : Result Command Refusal) (old new : StoreState D) (reply : Reply)
-      → old.is_stopped ≡ false → IsObservable (disk_of old.disk) → old.params ≡ p → AnswersReading disk_of m old new (Ok reply)
-      → trees n ≡ old.tree → trees (n + 1) ≡ (answer_by old.tree m old.params).tree → DiskSoFar trees p n first (disk_of old.disk) → DiskSoFar trees p (n + 1) first (disk_of new.disk)
-  disk_answered disk_of n first (Ok c) old new reply runs observable params applies here after so_far =
-      let u : Tree = (answer_by old.tree (Ok c) old.params).tree in
-      disk_more n first (disk_of old.disk) so_far (disk_of new.disk) old.tree u new.is_stopped here after reply
-      (subst (λ (q : Parameters). ChangesImage old.tree u q (disk_of old.disk) (disk_of new.disk) new.is_stopped (Ok reply)) params (applies.observed observable runs))
-  disk_answered {D} disk_of n first (Err refusal) old new reply runs observable params refused here after so_far =
-      subst (λ (x : StoreState D). DiskSoFar trees p (n + 1) first (disk_of x.disk)) (sym refused.same) (disk_still n first (disk_of old.disk) so_far (after ∙ sym here))

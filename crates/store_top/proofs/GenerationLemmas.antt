@@ -11,7 +11,8 @@ use Rattle.store_model.specs.Steps.{step}
 use Rattle.store_model.specs.Scripts.{answers_by, state_by, replies_by, tree_by}
 use Rattle.store_model.proofs.ScriptsLemmas.{replies_by-append, tree_by-append}
 use Rattle.script_lines.specs.Generated.{generated}
-use Rattle.store_top.specs.Generations.{first_commands, step_under, generated_replies, generated_trees, is_refused, count_refused, count_answered}
+use Rattle.store_core.specs.Groups.{step_under}
+use Rattle.store_top.specs.Generations.{first_commands, generated_replies, generated_trees, is_refused, count_refused, count_answered}
 
 -- ---- the commands
 

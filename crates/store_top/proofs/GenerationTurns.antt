@@ -31,7 +31,7 @@ use Rattle.image_subcommands.specs.Endings.{apply_status}
 use Rattle.store_top.specs.Generations.{generated_replies, count_answered, count_refused, counts_text, summary_text, AnswersGenerated, generator_trees, GeneratedKept, GeneratedDue, GeneratedEnds}
 use Rattle.store_top.specs.Turns.{Start, start_of, Asks, RepliesTo, Begins, AnswersAll, StoreSoFar, StoreEnds}
 use Rattle.store_top.proofs.GenerationLemmas.{no_command, tree_more, tree_past, no_reply, refused_more, answered_are}
-use Rattle.store_top.proofs.StoreTurns.{store_read, store_failed, store_ends}
+use Rattle.store_top.proofs.StoreTurns.{moves_by_step, store_read, store_failed, store_ends}
 use Rattle.store_top.proofs.WorkTurns.{not_done}
 
 -- ---- the parts of a summary
@@ -190,16 +190,16 @@ module _ {D W : Type 0} (disk_of : D → DiskState) (sink_of : W → SinkState) 
         let past : trees (done + 1) ≡ (step (trees done) Digest first.params).tree =
         ap (λ k. trees (k + 1)) all_done ∙ tree_past first.tree work.generator work.left first.params ∙ ap trees (sym all_done) ∙ sym (digest_keeps (trees done) first.params) in
         by_fault (apply_status fault) done next work_now (not_done fault) (generated_cut (start_of disk_of first) work work_now done all.work.done_limit fault)
-        (store_failed disk_of (Unit {0}) trees sound first now done so_far next (Ok Digest)
+        (store_failed disk_of (Unit {0}) trees sound first now done so_far (step now.tree Digest now.params).tree next
         (λ told o.
         past ∙ ap (λ (t : Tree). (step t Digest first.params).tree) (sym (so_far.tree tt o))
-        ∙ ap (λ (p : Parameters). (step now.tree Digest p).tree) (sym so_far.params)) fault applies)
+        ∙ ap (λ (p : Parameters). (step now.tree Digest p).tree) (sym so_far.params)) fault (moves_by_step disk_of (step now.tree Digest now.params).tree _ now next (Err fault) so_far.runs applies))
 
     -- and the digest was read
     module _ (digest : Reply) (applies : Applies disk_of Digest now next (Ok digest)) (used : ℕ) (used_is : disks.IsObservable (disk_of next.disk) → next.is_stopped ≡ false → used ≡ page_count next.tree next.params)
         (slots : ℕ) (slots_is : slots ≡ next.params.slots) (counts : List ℕ) (counts_are : counts ≡ counts_text (work.left - work_now.refused) work_now.refused) where
       at_next : StoreSoFar disk_of (Unit {0}) trees first next done
-      at_next = store_read disk_of (Unit {0}) trees sound first now done so_far next Digest digest_keeps digest applies
+      at_next = store_read disk_of (Unit {0}) trees sound first now done so_far (step now.tree Digest now.params).tree next (digest_keeps now.tree now.params) digest (moves_by_step disk_of (step now.tree Digest now.params).tree _ now next (Ok digest) so_far.runs applies)
 
       -- the four lines that are printed
       abbrev lines_printed : List ℕ
@@ -216,7 +216,7 @@ module _ {D W : Type 0} (disk_of : D → DiskState) (sink_of : W → SinkState) 
           ap (λ k. PagesUsed k slots) (used_is (at_next.kept.observable ∙ o) at_next.runs) ∙ ap (PagesUsed (page_count next.tree next.params)) slots_is ∙ sym (ap (λ (s : Step). s.reply) (space_step next.tree next.params))
           ∙ ap (λ (t : Tree). (step t Space next.params).reply) tree_is ∙ ap (λ (p : Parameters). (step (trees work.left) Space p).reply) at_next.params in
           let digest_is : reply_of digest ≡ (step (trees work.left) Digest first.params).reply =
-          applies.reply (so_far.kept.observable ∙ o) ∙ ap (λ (t : Tree). (step t Digest now.params).reply) (so_far.tree tt o ∙ ap trees all_done)
+          applies.answer (so_far.kept.observable ∙ o) ∙ ap (λ (t : Tree). (step t Digest now.params).reply) (so_far.tree tt o ∙ ap trees all_done)
           ∙ ap (λ (p : Parameters). (step (trees work.left) Digest p).reply) so_far.params in
           let replies : List model.Reply = generated_replies first.tree work.generator work.left first.params in
           let front : List ℕ = counts_text (count_answered replies) (count_refused replies) in

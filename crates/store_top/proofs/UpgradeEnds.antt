@@ -32,14 +32,14 @@ use Rattle.store_core.proofs.Unchanged.{standing_represents, stands_reading}
 use Rattle.image_subcommands.specs.declared.status.Status.TheVariants as statuses
 use Rattle.image_subcommands.specs.Endings.{attach_status, apply_status, status_of}
 use Rattle.image_subcommands.specs.Outside.{Outside, outside_of, KeepsOutside}
-use Rattle.image_subcommands.specs.Statuses.{IsUpgradeStatus, IsRefusedImage, done_of_work}
+use Rattle.image_subcommands.specs.Statuses.{Subcommand as words, IsStatusOf, IsRefusedImage, done_of_work}
 use Rattle.image_subcommands.proofs.ReportLemmas.{rose}
 use Rattle.store_top.specs.UpgradeCall.{writes_behind, syncs_behind, RepresentsEither, KeepsVersion, UpgradesTree, IsUpgrade}
 use Rattle.store_top.proofs.RunEnds.{no_image_by, damaged_by, says_no_image, says_damaged, named_by, memory_left, memory_only, quiet_unopened}
 
 -- ---- no store was had
 
-upgrade_so : (fault : AttachFault) → IsUpgradeStatus (attach_status fault)
+upgrade_so : (fault : AttachFault) → IsStatusOf words.Upgrade (attach_status fault)
 upgrade_so faults.Disk = refl
 upgrade_so faults.NoMemory = refl
 upgrade_so faults.NotImage = refl
@@ -99,7 +99,7 @@ module _ {D R W : Type 0} (disk_of : D → DiskState) where
 -- ---- a store was upgraded
 
 -- how an upgrade ends that answers so
-ends_so : (result : Result (Unit {0}) ApplyFault) → IsUpgradeStatus (status_of apply_status result)
+ends_so : (result : Result (Unit {0}) ApplyFault) → IsStatusOf words.Upgrade (status_of apply_status result)
 ends_so (Ok value) = refl
 ends_so (Err apply.Disk) = refl
 ends_so (Err apply.NoMemory) = refl

@@ -21,7 +21,7 @@ use Rattle.image_subcommands.specs.Outside.{Outside, IsIdle}
 use Rattle.image_check.specs.Standing.{RepresentsSome}
 use Rattle.store_top.specs.Promises.{PromisesImage, PromisesCrashes}
 use Rattle.store_top.specs.Runs.{IsUnchanged}
-use Rattle.image_subcommands.specs.Statuses.{IsBigStatus, IsSummed, IsRefusedImage, IsPastHeader, IsBetweenLines, MayComeFirst, ComesExactly}
+use Rattle.image_subcommands.specs.Statuses.{Subcommand as words, IsStatusOf, IsSummed, IsRefusedImage, IsPastHeader, IsBetweenLines, MayComeFirst, ComesExactly}
 
 module _ {D R W : Type 0} (disk_of : D → DiskState) (sink_of : W → SinkState) where
   -- Commands over an image that represents the tree t.
@@ -59,7 +59,7 @@ module _ {D R W : Type 0} (disk_of : D → DiskState) (sink_of : W → SinkState
 
   pub record IsBig (number count : ℕ) (before : Outside D R W) (after : Outcome D R W) : Type 0 where
     -- how it ends
-    pub ends : IsBigStatus after.status
+    pub ends : IsStatusOf words.Big after.status
     pub named : IsPastHeader after.status → (p : Parameters) × HasParameters (disk_of before.disk) p
     -- how many commands were carried out: all of them where they were summed up
     pub all_done : IsSummed after.status → after.done ≡ count

@@ -7,7 +7,7 @@ use Rattle.store_model.specs.Trees.{Tree}
 use Rattle.store_model.specs.Commands.{Command, Reply, line, reply_text}
 use Rattle.store_model.specs.Commands.Command.{Space, Digest}
 use Rattle.store_model.specs.Commands.Reply.{Acknowledged, Content, Listing, AttributeListing, PagesUsed, ImageDigest, Refused}
-use Rattle.store_model.specs.Steps.{Step, step}
+use Rattle.store_model.specs.Steps.{step}
 use Rattle.store_model.specs.Scripts.{replies_by, tree_by}
 use Rattle.store_model.specs.declared.refusal.Refusal.{Refusal}
 use Rattle.script_lines.specs.declared.command.Command as orders
@@ -18,22 +18,19 @@ use Rattle.script_lines.specs.SinkState as sinks
 use Rattle.disk_model.specs.DiskState.{DiskState}
 use Rattle.disk_model.specs.DiskState as disks
 use Rattle.gate_journal.specs.Disks.{KeepsDisk}
+use Rattle.store_core.specs.Groups.{step_under}
 use Rattle.store_core.specs.StoreState.{StoreState}
 use Rattle.image_subcommands.specs.declared.status.Status.{Status}
 use Rattle.image_subcommands.specs.declared.status.Status.TheVariants as statuses
 use Rattle.store_top.specs.declared.generated.Generated.{Generated}
 use Rattle.store_top.specs.Runs.{ChangesByLines}
-use Rattle.image_subcommands.specs.Statuses.{IsEndOfBig, IsSummed, disk_faults_by, sink_faults_by}
+use Rattle.image_subcommands.specs.Statuses.{Subcommand as words, IsEndOf, IsSummed, disk_faults_by, sink_faults_by}
 use Rattle.store_top.specs.Turns.{Start}
 
 -- the first commands that a number gives
 unfoldable pub first_commands : ℕ → ℕ → List Command
 first_commands number zero = []
 first_commands number (suc n) = first_commands number n ++ generated number n ∷ []
-
--- the step of a command under these parameters
-abbrev pub step_under : Parameters → Tree → Command → Step
-step_under p t c = step t c p
 
 -- the replies to so many of them
 abbrev pub generated_replies : Tree → ℕ → ℕ → Parameters → List Reply
@@ -80,7 +77,7 @@ pub record PrintsSummary (status : Status) (text : List ℕ) (old new : SinkStat
 -- Commands of a number were carried out from a store on, so many of them, and summed up where all were; the call ended so.
 pub record AnswersGenerated {D W : Type 0} (disk_of : D → DiskState) (sink_of : W → SinkState) (number count : ℕ) (status : Status) (done : ℕ)
     (store store_new : StoreState D) (sink sink_new : W) : Type 0 where
-  pub ends : IsEndOfBig status
+  pub ends : IsEndOf words.Big status
   pub all_done : IsSummed status → done ≡ count
   pub done_limit : done ≤ count
   pub disk_kept : KeepsDisk (disk_of store.disk) (disk_of store_new.disk)
@@ -118,7 +115,7 @@ module _ (start : Start) where
 
   -- The commands ended so, with so many carried out: with the last of them, or by a fault.
   pub record GeneratedEnds (first new : Generated) (done : ℕ) (status : Status) : Type 0 where
-    pub ends : IsEndOfBig status
+    pub ends : IsEndOf words.Big status
     pub done_limit : done ≤ first.left
     pub cut_short : (status ≡ statuses.Done → ⊥) → IsSummed status → ⊥
     pub sink_spared : (faults : ℕ) → faults ≡ sink_faults_by status faults

@@ -1,14 +1,14 @@
 -- What a run promises: the replies that were written, the image, and what a crash leaves.
 --
 -- Each is said over the status and the count `done` that a call answered, over the trees t_0, t_1, .. of the run
--- (a function of the number of lines carried out) and the list of all its replies, so that a call with other lines and
--- other replies can promise the same.
+-- (a function of the number of lines carried out) and the texts of all its replies, one for each line, so that a call
+-- with other lines and other answers can promise the same.
 use Rattle.std.specs.Prelude.{◌≡◌, ℕ, ◌+◌, ◌-◌, ◌≤◌, ◌⊎◌, List, [], ◌++◌, length, take, drop}
+use Rattle.std.specs.List.{concat}
 use Rattle.store_model.specs.Parameters.{Parameters}
 use Rattle.store_model.specs.Trees.{Tree}
-use Rattle.store_model.specs.Commands.{Reply}
 use Rattle.store_model.specs.Images.{Represents}
-use Rattle.store_model.specs.Scripts.{replies_text, script_limit}
+use Rattle.store_model.specs.Scripts.{script_limit}
 use Rattle.disk_model.specs.DiskState.{DiskState, MayLeaveOnly, IsDurable}
 use Rattle.disk_model.specs.DiskCalls.{LeavesOnly}
 use Rattle.script_lines.specs.Lines.{ended_lines}
@@ -24,31 +24,31 @@ pub record IsFrontOf (part text : List ℕ) : Type 0 where
   pub whole : text ≡ part ++ rest
 
 -- the replies of all lines but the last that was carried out, and of that one a part
-pub record WroteInPart (done : ℕ) (replies : List Reply) (written : List ℕ) : Type 0 where
+pub record WroteInPart (done : ℕ) (texts : List (List ℕ)) (written : List ℕ) : Type 0 where
   pub part : List ℕ
-  pub front : IsFrontOf part (replies_text (take 1 (drop (done - 1) replies)))
-  pub written_is : written ≡ replies_text (take (done - 1) replies) ++ part
+  pub front : IsFrontOf part (concat (take 1 (drop (done - 1) texts)))
+  pub written_is : written ≡ concat (take (done - 1) texts) ++ part
 
 -- The replies that were written to a sink that tells it.
-pub record PromisesReplies (status : Status) (done : ℕ) (replies : List Reply) (written : List ℕ) : Type 0 where
+pub record PromisesReplies (status : Status) (done : ℕ) (texts : List (List ℕ)) (written : List ℕ) : Type 0 where
   -- each line was answered
-  pub all : status ≡ statuses.Done → written ≡ replies_text replies
+  pub all : status ≡ statuses.Done → written ≡ concat texts
   -- the lines that were carried out were answered
-  pub answered : IsCutShort status → written ≡ replies_text (take done replies)
+  pub answered : IsCutShort status → written ≡ concat (take done texts)
   -- so they were but for the last of them, and of its reply there is a part
-  pub in_part : status ≡ statuses.SinkFault → WroteInPart done replies written
+  pub in_part : status ≡ statuses.SinkFault → WroteInPart done texts written
 
 -- The lines that were carried out, whatever the sink tells. `taken` is what was taken from the source and `left` what is left
 -- there.
-pub record CountsReplies (status : Status) (done : ℕ) (replies : List Reply) (taken left : List ℕ) : Type 0 where
+pub record CountsReplies (status : Status) (done : ℕ) (texts : List (List ℕ)) (taken left : List ℕ) : Type 0 where
   -- the source is at its end, and each line was carried out
-  pub all : status ≡ statuses.Done → (left ≡ []) × (done ≡ length replies)
+  pub all : status ≡ statuses.Done → (left ≡ []) × (done ≡ length texts)
   -- each line that was ended among the bytes taken was carried out; of a script that is too long, among as many as it
   -- may have
   pub ended : status ≡ statuses.SourceFault → done ≡ length (ended_lines taken)
   pub ended_in_limit : status ≡ statuses.TooLong → done ≡ length (ended_lines (take script_limit (taken ++ left)))
   -- no more lines were carried out than there are, and the reply that could not be written was that of one of them
-  pub counted : done ≤ length replies
+  pub counted : done ≤ length texts
   pub some_line : status ≡ statuses.SinkFault → 1 ≤ done
 
 -- The image, on a disk that was in one state before the call and is in another after it.

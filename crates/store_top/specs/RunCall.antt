@@ -1,70 +1,13 @@
 -- What `run` promises.
-use Rattle.std.specs.Prelude.{◌≡◌, ◌⊎◌, ◌≤◌, length}
-use Rattle.store_model.specs.Parameters.{Parameters}
-use Rattle.store_model.specs.Trees.{Tree}
-use Rattle.store_model.specs.Images.{Represents}
-use Rattle.store_model.specs.Scripts.{lines, script_limit}
-use Rattle.store_base.specs.Counts.{Rose}
-use Rattle.disk_model.specs.DiskState.{DiskState, MayLeaveOnly}
-use Rattle.disk_model.specs.DiskState as disks
-use Rattle.disk_model.specs.DiskCalls.{LeavesOnly}
-use Rattle.gate_journal.specs.Phases.{HasEmptyJournal}
-use Rattle.gate_journal.specs.Disks.{IsOnlySynced, IsUnwritten}
-use Rattle.gate_journal.specs.Headers.{HasParameters}
-use Rattle.image_check.specs.Verdicts.{IsNoImage, IsDamaged}
+use Rattle.disk_model.specs.DiskState.{DiskState}
 use Rattle.script_lines.specs.SourceState.{SourceState}
-use Rattle.script_lines.specs.SourceState as sources
 use Rattle.script_lines.specs.SinkState.{SinkState}
 use Rattle.image_subcommands.specs.declared.outcome.Outcome.{Outcome}
-use Rattle.image_subcommands.specs.declared.status.Status.TheVariants as statuses
-use Rattle.store_top.specs.Costs.{CountsRun}
-use Rattle.image_subcommands.specs.Outside.{Outside, IsIdle}
-use Rattle.image_check.specs.Standing.{RepresentsSome}
-use Rattle.store_top.specs.Promises.{PromisesImage, PromisesCrashes}
-use Rattle.store_top.specs.Runs.{IsUnchanged, RepliesKept, KeepsLimit, run_replies, run_trees}
-use Rattle.image_subcommands.specs.Statuses.{IsRunStatus, IsRefusedImage, IsPastHeader, IsBetweenLines, MayComeFirst, ComesExactly}
+use Rattle.image_subcommands.specs.Outside.{Outside}
+use Rattle.image_subcommands.specs.Statuses.{Subcommand as words}
+use Rattle.store_top.specs.Runs.{run_texts, run_trees}
+use Rattle.store_top.specs.ScriptCall.{AnswersScript}
 
-module _ {D R W : Type 0} (disk_of : D → DiskState) (source_of : R → SourceState) (sink_of : W → SinkState) where
-  -- A run over an image that represents the tree t, of a script that the source tells.
-  pub record RunsFrom (t : Tree) (p : Parameters) (before : Outside D R W) (after : Outcome D R W) : Type 0 where
-    pub replies : RepliesKept after.status after.done (run_replies t (source_of before.source).left p) (source_of before.source) (source_of after.source) (sink_of before.sink) (sink_of after.sink)
-    pub image : PromisesImage after.status after.done (run_trees t (source_of before.source).left p) (disk_of before.disk) (disk_of after.disk) p
-    -- Just so many writes and syncs are made as opening the image takes and the commits of the slots in which its trees differ. So
-    -- over an image with an empty journal, lines that change nothing write nothing, whatever stands between them.
-    pub counts : CountsRun after.status after.done (run_trees t (source_of before.source).left p) p (disk_of before.disk) (disk_of after.disk)
-    pub quiet : HasEmptyJournal p.slots (disk_of before.disk).bytes → (after.status ≡ statuses.DiskFault → ⊥)
-        → IsUnchanged (run_trees t (source_of before.source).left p) after.done → IsUnwritten (disk_of before.disk) (disk_of after.disk)
-    -- every line is answered where the script keeps its limit, no call failed and memory was there
-    pub complete : length (source_of before.source).left ≤ script_limit
-        → (Rose (disk_of before.disk).faults (disk_of after.disk).faults → ⊥)
-        → (Rose (source_of before.source).faults (source_of after.source).faults → ⊥)
-        → (Rose (sink_of before.sink).faults (sink_of after.sink).faults → ⊥)
-        → ((after.status ≡ statuses.Done) × (after.done ≡ length (lines (source_of before.source).left))) ⊎ (after.status ≡ statuses.NoMemory)
-
-  -- A run over an image that represents no tree: it is left as it is, and a crash leaves what one before the call might have.
-  pub record RunsNothing (before : Outside D R W) (after : Outcome D R W) : Type 0 where
-    pub idle : IsIdle before after
-    pub synced : IsOnlySynced (disk_of before.disk) (disk_of after.disk)
-    pub crash : LeavesOnly (disk_of before.disk) (disk_of after.disk) (disk_of before.disk).crash_images
-
-  -- A run over a disk that tells its bytes.
-  pub record RunsDisk (before : Outside D R W) (after : Outcome D R W) : Type 0 where
-    -- how it ends
-    pub not_image : ComesExactly statuses.NotImage (IsNoImage (disk_of before.disk)) MayComeFirst after.status
-    pub damaged : ComesExactly statuses.Damaged (IsDamaged (disk_of before.disk)) MayComeFirst after.status
-    pub represented : IsBetweenLines after.status → RepresentsSome (disk_of before.disk)
-    -- what stands then, where the image is none or damaged
-    pub nothing : ((t : Tree) (p : Parameters) → Represents (disk_of before.disk).bytes t p → ⊥) → RunsNothing before after
-    -- and where it represents a tree
-    pub runs : sources.IsObservable (source_of before.source) → (t : Tree) (p : Parameters) → Represents (disk_of before.disk).bytes t p → RunsFrom t p before after
-    pub crashes : sources.IsObservable (source_of before.source) → (t : Tree) (p : Parameters) → MayLeaveOnly (disk_of before.disk) (λ image. Represents image t p)
-        → PromisesCrashes after.status after.done (run_trees t (source_of before.source).left p) (disk_of before.disk) (disk_of after.disk) p
-
-  pub record IsRun (before : Outside D R W) (after : Outcome D R W) : Type 0 where
-    -- how it ends
-    pub ends : IsRunStatus after.status
-    pub named : IsPastHeader after.status → (p : Parameters) × HasParameters (disk_of before.disk) p
-    pub limit : sources.IsObservable (source_of before.source) → KeepsLimit after.status (source_of before.source) (source_of after.source)
-    pub observed : disks.IsObservable (disk_of before.disk) → RunsDisk before after
-    -- where the image is refused nothing is taken or written
-    pub refused : IsRefusedImage after.status → IsIdle before after
+-- the lines of a script are answered, each as a command
+abbrev pub IsRun : {D R W : Type 0} → (D → DiskState) → (R → SourceState) → (W → SinkState) → Outside D R W → Outcome D R W → Type 0
+IsRun disk_of source_of sink_of before after = AnswersScript words.Run run_texts run_trees disk_of source_of sink_of before after

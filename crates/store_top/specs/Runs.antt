@@ -1,11 +1,12 @@
--- What answering a script does: the replies and trees of its lines, and what a loop over them leaves.
-use Rattle.std.specs.Prelude.{◌≡◌, ◌⊎◌, ℕ, ◌+◌, ◌≤◌, true, false, List, [], ◌++◌, length, take, Result, Ok, Err, IfOk, nat_lt, if◌then◌else◌, Option, Some, None, ◌<◌, IsTrue, ◌↔◌, IsOk, IsOkAnd, ◌∷◌}
+-- What answering a script does: the replies, their texts and the trees of its lines, and what a loop over them leaves.
+use Rattle.std.specs.Prelude.{◌≡◌, ◌⊎◌, ℕ, ◌+◌, ◌≤◌, true, false, List, [], ◌++◌, length, take, map, Result, Ok, Err, IfOk, nat_lt, if◌then◌else◌, Option, Some, None, ◌<◌, IsTrue, ◌↔◌, IsOk, IsOkAnd, ◌∷◌}
 use Rattle.store_model.specs.declared.refusal.Refusal.{Refusal}
 use Rattle.store_model.specs.declared.refusal.Refusal.TheVariants as refusals
 use Rattle.store_model.specs.Parameters.{Parameters}
 use Rattle.store_model.specs.Trees.{Tree}
 use Rattle.store_model.specs.Images.{Represents}
 use Rattle.store_model.specs.Commands as model
+use Rattle.store_model.specs.Commands.{reply_text}
 use Rattle.store_model.specs.Commands.Reply.{Refused}
 use Rattle.store_model.specs.Grammar.{parse}
 use Rattle.store_model.specs.Scripts.{lines, line_limit, script_limit, replies, tree_after}
@@ -36,6 +37,10 @@ use Rattle.store_top.specs.Promises.{PromisesReplies, CountsReplies, PromisesCra
 abbrev pub run_replies : Tree → List ℕ → Parameters → List model.Reply
 run_replies t script p = replies t (lines script) p
 
+-- their texts, one for each line
+abbrev pub run_texts : Tree → List ℕ → Parameters → List (List ℕ)
+run_texts t script p = map reply_text (run_replies t script p)
+
 -- the tree after so many of its lines; after the last of them it stays
 abbrev pub run_trees : Tree → List ℕ → Parameters → ℕ → Tree
 run_trees t script p k = tree_after t (take k (lines script)) p
@@ -45,17 +50,17 @@ abbrev pub IsUnchanged : (ℕ → Tree) → ℕ → Type 0
 IsUnchanged trees done = (k : ℕ) → k ≤ done → trees k ≡ trees 0
 
 -- a call that ended so wrote these bytes to the sink, as is promised of the replies
-pub record WritesReplies (status : Status) (done : ℕ) (replies : List model.Reply) (old new : SinkState) : Type 0 where
+pub record WritesReplies (status : Status) (done : ℕ) (texts : List (List ℕ)) (old new : SinkState) : Type 0 where
   pub written : List ℕ
   pub written_is : new.written ≡ old.written ++ written
-  pub promised : PromisesReplies status done replies written
+  pub promised : PromisesReplies status done texts written
 
--- It took these bytes from the source and carried out so many lines, and the replies were written to a sink that tells it.
-pub record RepliesKept (status : Status) (done : ℕ) (replies : List model.Reply) (source_old source_new : SourceState) (sink_old sink_new : SinkState) : Type 0 where
+-- It took these bytes from the source and carried out so many lines, and these texts were written to a sink that tells it.
+pub record RepliesKept (status : Status) (done : ℕ) (texts : List (List ℕ)) (source_old source_new : SourceState) (sink_old sink_new : SinkState) : Type 0 where
   pub taken : List ℕ
   pub taken_is : source_old.left ≡ taken ++ source_new.left
-  pub counted : CountsReplies status done replies taken source_new.left
-  pub written : sinks.IsObservable sink_old → WritesReplies status done replies sink_old sink_new
+  pub counted : CountsReplies status done texts taken source_new.left
+  pub written : sinks.IsObservable sink_old → WritesReplies status done texts sink_old sink_new
 
 -- so many bytes were taken from the source
 pub record HasTaken (count : ℕ) (old new : SourceState) : Type 0 where
@@ -76,21 +81,25 @@ pub record KeepsLimit (status : Status) (old new : SourceState) : Type 0 where
 unfoldable pub reading : List ℕ → Result model.Command Refusal
 reading text = if nat_lt line_limit (length text) then Err refusals.Long else parse text
 
-module _ {R : Type 0} (source_of : R → SourceState) where
+-- what the program read of a line is what it asks for
+abbrev pub IsAskedIn : Result Command Refusal → List ℕ → Type 0
+IsAskedIn asked text = reading_of asked ≡ reading text
+
+-- the bytes that may still come fall where a line was read
+abbrev pub FallsAt : {R Q : Type 0} → LineState R → LineState R → Option Q → Type 0
+FallsAt old new (Some asked) = unread new < unread old
+FallsAt old new None = unread new ≤ unread old
+
+module _ {R Q : Type 0} (source_of : R → SourceState) (IsAsked : Q → List ℕ → Type 0) where
   -- what was read of a source that tells its bytes: the next line, its end, or none for a fault
-  abbrev pub NextReading : LineState R → LineState R → Result (Option (Result Command Refusal)) LineFault → Type 0
-  NextReading old new (Ok (Some asked)) = (text : List ℕ) × (reading_of asked ≡ reading text) × Answers source_of old new (text ∷ [])
+  abbrev pub NextReading : LineState R → LineState R → Result (Option Q) LineFault → Type 0
+  NextReading old new (Ok (Some asked)) = (text : List ℕ) × IsAsked asked text × Answers source_of old new (text ∷ [])
   NextReading old new (Ok None) = Answers source_of old new [] × (to_come source_of new ≡ [])
   NextReading old new (Err causes.Source) = FailsBetween source_of old new
   NextReading old new (Err causes.TooLong) = PassesLimit source_of old new
 
-  -- the bytes that may still come fall where a line was read
-  abbrev pub FallsAt : LineState R → LineState R → Option (Result Command Refusal) → Type 0
-  FallsAt old new (Some asked) = unread new < unread old
-  FallsAt old new None = unread new ≤ unread old
-
   -- The next line is read, with what it asks for.
-  pub record ReadsLine (old new : LineState R) (result : Result (Option (Result Command Refusal)) LineFault) : Type 0 where
+  pub record ReadsLine (old new : LineState R) (result : Result (Option Q) LineFault) : Type 0 where
     pub source : KeepsSource (source_of old.source) (source_of new.source) result
     pub live : IsTrue new.is_live ↔ IsOk result
     pub limit : new.limit ≡ old.limit
@@ -98,16 +107,16 @@ module _ {R : Type 0} (source_of : R → SourceState) where
     pub falls : IfOk result (FallsAt old new)
     pub next : sources.IsObservable (source_of old.source) → NextReading old new result
 
--- a line was refused: nothing was called, and nothing changed
-pub record IsRefusedLine {D : Type 0} (refusal : Refusal) (old new : StoreState D) (result : Result Reply ApplyFault) : Type 0 where
-  pub reply : IsOkAnd result (λ reply. reply_of reply ≡ Refused refusal)
+-- A line was refused: the refusal is the reply, nothing was called, and nothing changed.
+pub record IsRefusedLine {S A : Type 0} (IsReply : A → Type 0) (old new : S) (result : Result A ApplyFault) : Type 0 where
+  pub reply : IsOkAnd result IsReply
   pub same : new ≡ old
 
 module _ {D : Type 0} (disk_of : D → DiskState) where
   -- What a line asks for is answered: a command is carried out, and a refusal is the reply.
   abbrev pub AnswersReading : Result model.Command Refusal → StoreState D → StoreState D → Result Reply ApplyFault → Type 0
   AnswersReading (Ok command) old new result = Applies disk_of command old new result
-  AnswersReading (Err refusal) old new result = IsRefusedLine refusal old new result
+  AnswersReading (Err refusal) old new result = IsRefusedLine (λ reply. reply_of reply ≡ Refused refusal) old new result
 
 -- ---- all lines
 

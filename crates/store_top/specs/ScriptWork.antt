@@ -1,35 +1,18 @@
 -- A script as a work: the lines of a reader, whose replies go to a sink.
-use Rattle.std.specs.Prelude.{◌≡◌, ℕ, ◌≤◌, true, IsTrue, List, ◌++◌, length, Result, Ok, Some}
-use Rattle.store_model.specs.Parameters.{Parameters}
+use Rattle.std.specs.Prelude.{◌≡◌, ℕ, true, IsTrue, List, Result, Ok, Some}
 use Rattle.store_model.specs.Trees.{Tree}
-use Rattle.store_model.specs.Scripts.{replies, tree_after, replies_text}
 use Rattle.store_model.specs.declared.refusal.Refusal.{Refusal}
 use Rattle.script_lines.specs.SourceState.{SourceState}
 use Rattle.script_lines.specs.SourceState as sources
 use Rattle.script_lines.specs.SinkState.{SinkState}
-use Rattle.script_lines.specs.LineState.{LineState, Answers, left}
+use Rattle.script_lines.specs.LineState.{LineState, left}
 use Rattle.script_lines.specs.declared.command.Command.{Command}
 use Rattle.store_top.specs.declared.lines.Script.{Script}
 use Rattle.image_subcommands.specs.declared.status.Status.{Status}
-use Rattle.image_subcommands.specs.declared.status.Status.TheVariants as statuses
-use Rattle.store_top.specs.Runs.{ReadsLine, RepliesKept, KeepsLimit, IsUnread, run_replies, run_trees}
-use Rattle.image_subcommands.specs.Statuses.{IsEndOfRun, source_faults_by, sink_faults_by}
+use Rattle.image_subcommands.specs.Statuses.{Subcommand as words}
+use Rattle.store_top.specs.Runs.{ReadsLine, IsAskedIn, run_texts, run_trees}
+use Rattle.store_top.specs.ScriptLines.{LinesKept, LinesEnd}
 use Rattle.store_top.specs.Turns.{Start}
-
--- the lines that were answered from the start of a script on, with the tree after them and what was written
-pub record Halfway {R : Type 0} (state : R → SourceState) (first now : LineState R) (sink_first sink_now : SinkState) (t_first t_now : Tree) (p : Parameters) (done : ℕ) : Type 0 where
-  pub texts : List (List ℕ)
-  pub answers : Answers state first now texts
-  pub count : done ≡ length texts
-  pub tree : t_now ≡ tree_after t_first texts p
-  pub written : IsTrue sink_first.is_observable → sink_now.written ≡ sink_first.written ++ replies_text (replies t_first texts p)
-
--- What a work that ended so leaves of the source and the sink: each tells its bytes where it did, and the status tells which failed.
-pub record KeepsEnds (status : Status) (source source_new : SourceState) (sink sink_new : SinkState) : Type 0 where
-  pub source_observable : source_new.is_observable ≡ source.is_observable
-  pub sink_observable : sink_new.is_observable ≡ sink.is_observable
-  pub source_faults : source_new.faults ≡ source_faults_by status source.faults
-  pub sink_faults : sink_new.faults ≡ sink_faults_by status sink.faults
 
 module _ {R W : Type 0} (source_of : R → SourceState) (sink_of : W → SinkState) where
   -- whether the source tells its bytes
@@ -44,26 +27,20 @@ module _ {R W : Type 0} (source_of : R → SourceState) (sink_of : W → SinkSta
   abbrev pub script_trees : Script R W → Start → ℕ → Tree
   script_trees script start k = run_trees start.tree (left source_of script.reader) start.params k
 
+  -- the texts of its replies
+  abbrev pub script_texts : Script R W → Start → List (List ℕ)
+  script_texts script start = run_texts start.tree (left source_of script.reader) start.params
+
   -- Between two lines: those before were answered.
-  pub record ScriptKept (start : Start) (first now : Script R W) (done : ℕ) : Type 0 where
-    pub unread : IsUnread first.reader
-    pub limit : now.reader.limit ≡ first.reader.limit
-    pub in_limit : now.reader.taken ≤ now.reader.limit
-    pub kept : KeepsEnds statuses.Done (source_of first.reader.source) (source_of now.reader.source) (sink_of first.sink) (sink_of now.sink)
-    pub answered : ScriptTold first → (texts : List (List ℕ)) × Answers source_of first.reader now.reader texts
-    pub half : ScriptTold first → IsTrue start.tells
-        → Halfway source_of first.reader now.reader (sink_of first.sink) (sink_of now.sink) start.tree (script_trees first start done) start.params done
+  abbrev pub ScriptKept : Start → Script R W → Script R W → ℕ → Type 0
+  ScriptKept start first now done = LinesKept source_of sink_of (script_texts first start) (IsTrue start.tells) first.reader now.reader first.sink now.sink done
 
   -- A line was read, and is not answered yet.
   pub record ScriptDue (start : Start) (first now : Script R W) (done : ℕ) (asked : Result Command Refusal) : Type 0 where
     pub before : LineState R
     pub kept : ScriptKept start first (record { reader = before; sink = now.sink }) done
-    pub reads : ReadsLine source_of before now.reader (Ok (Some asked))
+    pub reads : ReadsLine source_of IsAskedIn before now.reader (Ok (Some asked))
 
   -- The lines ended so, with so many carried out.
-  pub record ScriptEnds (start : Start) (first new : Script R W) (done : ℕ) (status : Status) : Type 0 where
-    pub ends : IsEndOfRun status
-    pub kept : KeepsEnds status (source_of first.reader.source) (source_of new.reader.source) (sink_of first.sink) (sink_of new.sink)
-    pub limit : ScriptTold first → KeepsLimit status (source_of first.reader.source) (source_of new.reader.source)
-    pub replies : ScriptTold first → IsTrue start.tells
-        → RepliesKept status done (run_replies start.tree (left source_of first.reader) start.params) (source_of first.reader.source) (source_of new.reader.source) (sink_of first.sink) (sink_of new.sink)
+  abbrev pub ScriptEnds : Start → Script R W → Script R W → ℕ → Status → Type 0
+  ScriptEnds start first new done status = LinesEnd source_of sink_of words.Run (script_texts first start) (IsTrue start.tells) first.reader new.reader first.sink new.sink done status

@@ -40,18 +40,23 @@ pub record Start : Type 0 where
 abbrev pub start_of : {D : Type 0} → (D → DiskState) → StoreState D → Start
 start_of disk_of store = record { tells = (disk_of store.disk).is_observable; tree = store.tree; params = store.params }
 
--- what is asked for, where the command stands in a place that was lent; nothing at the end
-abbrev pub asked_for : Command → Asked → Option (Result Command Refusal)
-asked_for command asking.Command = Some (Ok command)
-asked_for command (asking.Refused refusal) = Some (Err refusal)
-asked_for command asking.End = None
+-- what is asked for, where it stands in a place that was lent; nothing at the end
+abbrev pub asked_for : {Q : Type 0} → Q → Asked → Option (Result Q Refusal)
+asked_for placed asking.Placed = Some (Ok placed)
+asked_for placed (asking.Refused refusal) = Some (Err refusal)
+asked_for placed asking.End = None
 
-abbrev pub asked_in : {E : Type 0} → Command → Result Asked E → Result (Option (Result Command Refusal)) E
-asked_in command (Ok asked) = Ok (asked_for command asked)
-asked_in command (Err error) = Err error
+-- what is asked for where it was read into the place, or was refused
+abbrev pub asked_by : Result (Unit {0}) Refusal → Asked
+asked_by (Ok read) = asking.Placed
+asked_by (Err refusal) = asking.Refused refusal
+
+abbrev pub asked_in : {Q E : Type 0} → Q → Result Asked E → Result (Option (Result Q Refusal)) E
+asked_in placed (Ok asked) = Ok (asked_for placed asked)
+asked_in placed (Err error) = Err error
 
 -- what may be asked for falls where something is
-abbrev pub LeavesLess : ℕ → ℕ → Option (Result Command Refusal) → Type 0
+abbrev pub LeavesLess : {Q : Type 0} → ℕ → ℕ → Option Q → Type 0
 LeavesLess old new (Some asked) = new < old
 LeavesLess old new None = new ≤ old
 
@@ -117,12 +122,16 @@ module _ {D : Type 0} (disk_of : D → DiskState) (Told : Type 0) (trees : ℕ �
 
 -- ---- all turns
 
-module _ {D : Type 0} (disk_of : D → DiskState) where
+module _ {Q S A : Type 0} (Answers : Q → S → S → Result A ApplyFault → Type 0) where
   -- What is asked for is answered, in the place of a reply. Where nothing is, nothing is done, and that is told by `false`.
-  abbrev pub AnswersAsked : Option (Result Command Refusal) → StoreState D → StoreState D → Reply → Result Bool ApplyFault → Type 0
-  AnswersAsked (Some asked) old new reply (Ok answered) = (answered ≡ true) × AnswersReading disk_of (reading_of asked) old new (Ok reply)
-  AnswersAsked (Some asked) old new reply (Err fault) = AnswersReading disk_of (reading_of asked) old new (Err fault)
+  abbrev pub AnswersAsked : Option Q → S → S → A → Result Bool ApplyFault → Type 0
+  AnswersAsked (Some asked) old new reply (Ok answered) = (answered ≡ true) × Answers asked old new (Ok reply)
+  AnswersAsked (Some asked) old new reply (Err fault) = Answers asked old new (Err fault)
   AnswersAsked None old new reply result = (result ≡ Ok false) × (new ≡ old)
+
+-- a command that was read is carried out, and what was read as none is refused
+abbrev pub AnswersCommand : {D : Type 0} → (D → DiskState) → Result Command Refusal → StoreState D → StoreState D → Result Reply ApplyFault → Type 0
+AnswersCommand disk_of asked old new result = AnswersReading disk_of (reading_of asked) old new result
 
 module _ {D M : Type 0} (disk_of : D → DiskState) where
   -- A work of which nothing was asked yet, for this store.

@@ -21,7 +21,7 @@ use Rattle.image_subcommands.specs.declared.outcome.Outcome.{Outcome}
 use Rattle.image_subcommands.specs.declared.status.Status.{Status}
 use Rattle.image_subcommands.specs.declared.status.Status.TheVariants as statuses
 use Rattle.image_subcommands.specs.Outside.{Outside}
-use Rattle.image_subcommands.specs.Statuses.{IsUpgradeStatus, IsPastHeader, MayComeFirst, ComesExactly, done_of_work}
+use Rattle.image_subcommands.specs.Statuses.{Subcommand as words, IsStatusOf, IsPastHeader, MayComeFirst, ComesExactly, done_of_work}
 
 -- the writes behind the opening of an image that was of this version, where so many slots differ between the two versions
 abbrev pub writes_behind : Version → ℕ → ℕ
@@ -81,7 +81,7 @@ pub record UpgradesDisk (status : Status) (old new : DiskState) : Type 0 where
 module _ {D R W : Type 0} (disk_of : D → DiskState) where
   pub record IsUpgrade (before : Outside D R W) (after : Outcome D R W) : Type 0 where
     -- how it ends
-    pub ends : IsUpgradeStatus after.status
+    pub ends : IsStatusOf words.Upgrade after.status
     pub done : after.done ≡ done_of_work after.status
     pub named : IsPastHeader after.status → (p : Parameters) × HasParameters (disk_of before.disk) p
     -- what stands then

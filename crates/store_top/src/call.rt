@@ -3,19 +3,21 @@
 ghost use Rattle.std.specs.Prelude.{◌≡◌, ◌≢◌, ◌⊎◌, ℕ, Some, None};
 ghost use Rattle.store_model.specs.Parameters.{Parameters};
 ghost use Rattle.store_model.specs.Words.{request_of};
-ghost use Rattle.store_model.specs.Words.Request.{Format, Run, Check, Scrub, Wipe, Upgrade, Big};
+ghost use Rattle.store_model.specs.Words.Request.{Format, Run, Session, Check, Scrub, Wipe, Upgrade, Big};
 ghost use Rattle.store_top.specs.BigCall.{IsBig};
 ghost use Rattle.image_subcommands.specs.CheckCall.{IsCheck};
 ghost use Rattle.image_subcommands.specs.FormatCall.{IsFormat};
 ghost use Rattle.image_subcommands.specs.Outside.{KeepsOutside, CallsNothing, outside_of};
 ghost use Rattle.store_top.specs.RunCall.{IsRun};
 ghost use Rattle.image_subcommands.specs.ScrubCall.{IsScrub};
+ghost use Rattle.store_top.specs.SessionCall.{IsSession};
 ghost use Rattle.store_top.specs.UpgradeCall.{IsUpgrade};
 ghost use Rattle.image_subcommands.specs.WipeCall.{IsWipe};
 ghost use Rattle.command_line.specs.Requests.{request_seen};
 
 use crate::big::big;
 use crate::run::run;
+use crate::session::session;
 use crate::uncalled::{no_memory, usage};
 use crate::upgrade::upgrade;
 use command_line::{Request, Words};
@@ -26,10 +28,10 @@ use std::alloc::Global;
 use store_base::NoMemory;
 
 /// Carries out the words of a command line on a disk: `format` and `format2` make the image of the empty tree, of
-/// version 1 and 2, `run` answers the script that the source has and writes the replies to the sink, `check` prints a
-/// line that tells what the disk holds, `scrub` recovers the image, makes its free slots zero and prints such a line,
-/// `wipe` makes every byte zero, `upgrade` makes the image one of version 2, `big` carries out the commands that a
-/// number gives and prints four lines that sum them up.
+/// version 1 and 2, `run` answers the script that the source has and writes the replies to the sink, `session` does so
+/// with a script of calls on sessions, `check` prints a line that tells what the disk holds, `scrub` recovers the image,
+/// makes its free slots zero and prints such a line, `wipe` makes every byte zero, `upgrade` makes the image one of
+/// version 2, `big` carries out the commands that a number gives and prints four lines that sum them up.
 ///
 /// Words that are not well formed end with `Usage`, and then nothing is called; nor is anything called where memory
 /// runs out while the words are read. What each subcommand promises is one record: how it ends, which status comes
@@ -52,6 +54,7 @@ pub fn top<D: Disk, R: Source, W: Sink>(
     // What each subcommand does.
     ensures format { (p : Parameters) → request_of words.now ≡ Some (Format p) → IsFormat D.state p (outside_of disk source sink) result }
     ensures run { request_of words.now ≡ Some Run → IsRun D.state R.state W.state (outside_of disk source sink) result }
+    ensures session { request_of words.now ≡ Some Session → IsSession D.state R.state W.state (outside_of disk source sink) result }
     ensures check { request_of words.now ≡ Some Check → IsCheck D.state W.state (outside_of disk source sink) result }
     ensures scrub { request_of words.now ≡ Some Scrub → IsScrub D.state W.state (outside_of disk source sink) result }
     ensures wipe { request_of words.now ≡ Some Wipe → IsWipe D.state (outside_of disk source sink) result }
@@ -77,6 +80,7 @@ fn serve_request<D: Disk, R: Source, W: Sink>(
     ensures outside { KeepsOutside result.status (D.state disk) (D.state result.disk) (R.state source) (R.state result.source) (W.state sink) (W.state result.sink) }
     ensures format { (p : Parameters) → request_seen request ≡ Format p → IsFormat D.state p (outside_of disk source sink) result }
     ensures run { request_seen request ≡ Run → IsRun D.state R.state W.state (outside_of disk source sink) result }
+    ensures session { request_seen request ≡ Session → IsSession D.state R.state W.state (outside_of disk source sink) result }
     ensures check { request_seen request ≡ Check → IsCheck D.state W.state (outside_of disk source sink) result }
     ensures scrub { request_seen request ≡ Scrub → IsScrub D.state W.state (outside_of disk source sink) result }
     ensures wipe { request_seen request ≡ Wipe → IsWipe D.state (outside_of disk source sink) result }
@@ -86,6 +90,7 @@ fn serve_request<D: Disk, R: Source, W: Sink>(
     match request {
         Request::Format(params) => format_disk(&params, disk, source, sink),
         Request::Run => run(alloc, disk, source, sink),
+        Request::Session => session(alloc, disk, source, sink),
         Request::Check => check_disk(disk, source, sink),
         Request::Scrub => scrub_disk(disk, source, sink),
         Request::Wipe => wipe_disk(disk, source, sink),

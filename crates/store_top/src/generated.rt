@@ -57,7 +57,7 @@ impl Work for Generated {
         }
         self.left -= 1;
         *command = self.generator.next();
-        Ok(Asked::Command)
+        Ok(Asked::Placed)
     }
 
     fn answered(&mut self, reply: &Reply) -> Result<(), Status> {

@@ -8,6 +8,7 @@ ghost use Rattle.image_subcommands.specs.FormatCall.{IsFormat};
 ghost use Rattle.image_subcommands.specs.Outside.{KeepsOutside, CallsNothing, outside_of};
 ghost use Rattle.store_top.specs.RunCall.{IsRun};
 ghost use Rattle.image_subcommands.specs.ScrubCall.{IsScrub};
+ghost use Rattle.store_top.specs.SessionCall.{IsSession};
 ghost use Rattle.store_top.specs.UpgradeCall.{IsUpgrade};
 ghost use Rattle.image_subcommands.specs.WipeCall.{IsWipe};
 
@@ -35,6 +36,7 @@ pub(crate) fn no_memory<D: Disk, R: Source, W: Sink>(
     ensures outside { KeepsOutside result.status (D.state disk) (D.state result.disk) (R.state source) (R.state result.source) (W.state sink) (W.state result.sink) }
     ensures format { (p : Parameters) → IsFormat D.state p (outside_of disk source sink) result }
     ensures run { IsRun D.state R.state W.state (outside_of disk source sink) result }
+    ensures session { IsSession D.state R.state W.state (outside_of disk source sink) result }
     ensures check { IsCheck D.state W.state (outside_of disk source sink) result }
     ensures scrub { IsScrub D.state W.state (outside_of disk source sink) result }
     ensures wipe { IsWipe D.state (outside_of disk source sink) result }

@@ -1,10 +1,8 @@
 //! The one loop that answers commands, whatever they come from.
 
-ghost use Rattle.std.specs.Prelude.{◌≡◌, Some};
-ghost use Rattle.script_lines.specs.InPlace.{in_place};
-ghost use Rattle.script_lines.specs.declared.command.Command.{Command};
+ghost use Rattle.std.specs.Prelude.{◌≡◌};
 ghost use Rattle.store_top.specs.Runs.{IsReady};
-ghost use Rattle.store_top.specs.Turns.{AnswersAll, AnswersAsked, Begins, asked_for};
+ghost use Rattle.store_top.specs.Turns.{AnswersAll, AnswersAsked, AnswersCommand, Begins, asked_by, asked_for};
 
 use disk_model::Disk;
 use image_subcommands::Status;
@@ -12,11 +10,11 @@ use script_lines::{Command, Reply};
 use store_core::{ApplyFault, Store};
 use store_model::Refusal;
 
-/// What a work asks for next.
+/// What is asked for next, where one place was lent for all that may be.
 #[derive(Clone, Copy)]
 pub enum Asked {
-    /// The command that stands in the place that was lent.
-    Command,
+    /// What stands in the place that was lent: a command, or a line of a session.
+    Placed,
     /// Nothing that could be carried out: the refusal is the reply.
     Refused(Refusal),
     /// Nothing more: the work is at its end.
@@ -26,10 +24,10 @@ pub enum Asked {
 impl Asked {
     /// What a line asks for that was read into the place that was lent.
     pub fn by_reading(reading: Result<(), Refusal>) -> Asked
-        ensures { (command : Command) → asked_for command result ≡ Some (in_place command reading) }
+        ensures { result ≡ asked_by reading }
     {
         match reading {
-            Ok(()) => Asked::Command,
+            Ok(()) => Asked::Placed,
             Err(refusal) => Asked::Refused(refusal),
         }
     }
@@ -95,10 +93,10 @@ fn answer_asked<D: Disk>(
     command: &Command,
     reply: &mut Reply,
 ) -> Result<bool, ApplyFault>
-    ensures { AnswersAsked D.state (asked_for command.now asked) store.old store.new reply.new result }
+    ensures { AnswersAsked (AnswersCommand D.state) (asked_for command.now asked) store.old store.new reply.new result }
 {
     match asked {
-        Asked::Command => {
+        Asked::Placed => {
             store.apply_into(command, reply)?;
             Ok(true)
         }

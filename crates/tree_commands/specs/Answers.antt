@@ -15,23 +15,6 @@ use Rattle.script_lines.specs.Replies.{reply_of}
 use Rattle.ordered_pairs.specs.PairsState.{PairsState, IsObservable}
 use Rattle.tree_pairs.specs.TreeCalls.{HoldsTree, uncounted_step}
 
--- whether a command may change the tree
-abbrev pub is_change : Command → Bool
-is_change (Make p) = true
-is_change (Write p at bytes) = true
-is_change (Cut p len) = true
-is_change (Rename p q) = true
-is_change (Remove p) = true
-is_change (Prune p) = true
-is_change (ListChildren p) = false
-is_change (Read p at len) = false
-is_change Space = false
-is_change Digest = false
-is_change (SetAttribute p a bytes) = true
-is_change (UnsetAttribute p a) = true
-is_change (GetAttribute p a) = false
-is_change (ListAttributes p) = false
-
 -- whether a command only looks at the pairs of the tree
 abbrev pub is_look : Command → Bool
 is_look (Make p) = false

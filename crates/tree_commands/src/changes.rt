@@ -5,7 +5,7 @@ ghost use Rattle.store_model.specs.Commands.Command.{Write};
 ghost use Rattle.store_model.specs.Commands.Reply.{Acknowledged};
 ghost use Rattle.script_lines.specs.Parsing.{command_of};
 ghost use Rattle.tree_pairs.specs.TreeCalls.{CarriesOutUnder, HasRoom};
-ghost use Rattle.tree_commands.specs.Answers.{is_change};
+ghost use Rattle.script_lines.specs.Sessions.{is_change};
 
 use dir_tree::{make, remove, set_attr, unset_attr};
 use file_blocks::{cut, write_at};

@@ -3,7 +3,7 @@
 
 ghost use Rattle.std.specs.Prelude.{◌≡◌, true};
 ghost use Rattle.script_lines.specs.Parsing.{command_of};
-ghost use Rattle.tree_commands.specs.Answers.{is_change};
+ghost use Rattle.script_lines.specs.Sessions.{is_change};
 
 use super::paths::path;
 use super::short_files::{Run, change_few, empty_list, has_runs};

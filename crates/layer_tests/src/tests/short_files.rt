@@ -3,7 +3,7 @@
 
 ghost use Rattle.std.specs.Prelude.{◌≡◌, true};
 ghost use Rattle.script_lines.specs.Parsing.{command_of};
-ghost use Rattle.tree_commands.specs.Answers.{is_change};
+ghost use Rattle.script_lines.specs.Sessions.{is_change};
 
 use file_blocks::read_at;
 use ordered_pairs::MapPairs;

@@ -9,11 +9,12 @@ use std::process::Abort;
 
 /// What a subcommand is called with what stands before it on a command line, in the order of the help; first the
 /// command line itself.
-static SUBCOMMANDS: [(Option<Subcommand>, &str); 9] = [
+static SUBCOMMANDS: [(Option<Subcommand>, &str); 10] = [
     (None, "./hstore IMAGE"),
     (Some(Subcommand::Format), "./hstore IMAGE format"),
     (Some(Subcommand::Format2), "./hstore IMAGE format2"),
     (Some(Subcommand::Run), "./hstore IMAGE run"),
+    (Some(Subcommand::Session), "./hstore IMAGE session"),
     (Some(Subcommand::Check), "./hstore IMAGE check"),
     (Some(Subcommand::Scrub), "./hstore IMAGE scrub"),
     (Some(Subcommand::Wipe), "./hstore IMAGE wipe"),
@@ -88,6 +89,7 @@ Subcommands:
   format   Makes an image of version 1 with nothing in it.
   format2  Makes an image of version 2 with nothing in it.
   run      Answers the script on standard input, with a reply for each line.
+  session  Commits changes in groups, each whole or not at all.
   check    Tells what the file is, and changes nothing.
   scrub    Makes zeros of whatever the free slots of an image hold.
   wipe     Makes every byte of the file zero, whatever the file is.
@@ -135,6 +137,15 @@ Usage: ./hstore IMAGE run
 A script's commands are make, write, cut, rename, remove, prune, list, read, set, unset, get, attrs,
 space and digest.
 What a line changes is safe in the file before its reply is printed.
+== session
+Commits changes in groups, each whole or not at all.
+
+Usage: ./hstore IMAGE session
+
+It answers lines on standard input: begin, ask, stage, commit and drop. A commit carries out together
+what its session staged, where each question of the session still has its answer.
+A question sees the tree as it was last committed, and not what its session staged.
+What a commit changes is safe in the file before its reply is printed.
 == check
 Tells what the file is, and changes nothing.
 

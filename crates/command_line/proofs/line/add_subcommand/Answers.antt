@@ -12,6 +12,7 @@ local_subcommand : (subcommand : Subcommand) (command : Command) → IsSubcomman
 local_subcommand subcommands.Format command is = is.subcommand.local
 local_subcommand subcommands.Format2 command is = is.subcommand.local
 local_subcommand subcommands.Run command is = is.local
+local_subcommand subcommands.Session command is = is.local
 local_subcommand subcommands.Check command is = is.local
 local_subcommand subcommands.Scrub command is = is.local
 local_subcommand subcommands.Wipe command is = is.local

@@ -12,14 +12,15 @@ use Rattle.command_line.specs.declared.line.Subcommand.TheVariants as subcommand
 use Rattle.command_line.proofs.line.command.Goals as goal
 
 abbrev all : List Subcommand
-all = subcommands.Format ∷ subcommands.Format2 ∷ subcommands.Run ∷ subcommands.Check ∷ subcommands.Scrub ∷ subcommands.Wipe ∷ subcommands.Upgrade ∷ subcommands.Big ∷ []
+all = subcommands.Format ∷ subcommands.Format2 ∷ subcommands.Run ∷ subcommands.Session ∷ subcommands.Check ∷ subcommands.Scrub ∷ subcommands.Wipe ∷ subcommands.Upgrade ∷ subcommands.Big ∷ []
 
 pub loop-subcommand-init : goal.loop-subcommand-init
 loop-subcommand-init c = λ whole added.
     let format = added.1 in
     let format_two = added.2 in
     let run = format_two.2 in
-    let check = run.2 in
+    let session = run.2 in
+    let check = session.2 in
     let scrub = check.2 in
     let wipe = scrub.2 in
     let upgrade = wipe.2 in
@@ -28,14 +29,15 @@ loop-subcommand-init c = λ whole added.
     let one = ap₂ with_subcommand c.without_subcommands-line.ensures.line (ap top format.subcommand.subcommand_is) in
     let two = ap₂ with_subcommand one (ap top format_two.1.subcommand.subcommand_is) in
     let three = ap₂ with_subcommand two (ap top run.1.subcommand_is) in
-    let four = ap₂ with_subcommand three (ap top check.1.subcommand_is) in
-    let five = ap₂ with_subcommand four (ap top scrub.1.subcommand_is) in
-    let six = ap₂ with_subcommand five (ap top wipe.1.subcommand_is) in
-    let seven = ap₂ with_subcommand six (ap top upgrade.1.subcommand_is) in
+    let four = ap₂ with_subcommand three (ap top session.1.subcommand_is) in
+    let five = ap₂ with_subcommand four (ap top check.1.subcommand_is) in
+    let six = ap₂ with_subcommand five (ap top scrub.1.subcommand_is) in
+    let seven = ap₂ with_subcommand six (ap top wipe.1.subcommand_is) in
+    let eight = ap₂ with_subcommand seven (ap top upgrade.1.subcommand_is) in
     record {
       draws = λ (version : Version). elim version as (λ _. ValueParser) [ One ↦ format.draws | Two ↦ format_two.1.draws ];
       takes_draws = λ (version : Version). elim version as (λ version. TakesDraws (elim version as (λ _. ValueParser) [ One ↦ format.draws | Two ↦ format_two.1.draws ])) [ One ↦ format.takes_draws | Two ↦ format_two.1.takes_draws ];
-      line_is = big.2 ∙ ap₂ with_subcommand seven (ap top big.1.subcommand_is);
+      line_is = big.2 ∙ ap₂ with_subcommand eight (ap top big.1.subcommand_is);
     }
 
 -- the next subcommand goes behind those that are there

@@ -25,6 +25,10 @@ pub returns-in-Run : goal.returns-in-Run
 returns-in-Run c = subst (λ (subcommand : Subcommand). IfOk c.subcommand_with-in-Run.result (IsSubcommandOf subcommand)) (sym c.in-Run.is)
     (IfOk-weaker c.subcommand_with-in-Run.result _ _ (λ command built. record { subcommand_is = built.subcommand_is; local = built.local }) c.subcommand_with-in-Run.ensures)
 
+pub returns-in-Session : goal.returns-in-Session
+returns-in-Session c = subst (λ (subcommand : Subcommand). IfOk c.subcommand_with-in-Session.result (IsSubcommandOf subcommand)) (sym c.in-Session.is)
+    (IfOk-weaker c.subcommand_with-in-Session.result _ _ (λ command built. record { subcommand_is = built.subcommand_is; local = built.local }) c.subcommand_with-in-Session.ensures)
+
 pub returns-in-Check : goal.returns-in-Check
 returns-in-Check c = subst (λ (subcommand : Subcommand). IfOk c.subcommand_with-in-Check.result (IsSubcommandOf subcommand)) (sym c.in-Check.is)
     (IfOk-weaker c.subcommand_with-in-Check.result _ _ (λ command built. record { subcommand_is = built.subcommand_is; local = built.local }) c.subcommand_with-in-Check.ensures)

@@ -7,6 +7,10 @@ pub returns-in-run-clause-value : goal.returns-in-run-clause-value
 unfolding request_of
 returns-in-run-clause-value c = rw c.in-run.is refl
 
+pub returns-in-session-clause-value : goal.returns-in-session-clause-value
+unfolding request_of
+returns-in-session-clause-value c = rw c.in-session.is refl
+
 pub returns-in-check-clause-value : goal.returns-in-check-clause-value
 unfolding request_of
 returns-in-check-clause-value c = rw c.in-check.is refl
@@ -24,4 +28,4 @@ unfolding request_of
 returns-in-upgrade-clause-value c = rw c.in-upgrade.is refl
 
 pub returns-in_default-clause-value : goal.returns-in_default-clause-value
-returns-in_default-clause-value c = sym (other_single c.args.name.now c.in_default.not-run c.in_default.not-check c.in_default.not-scrub c.in_default.not-wipe c.in_default.not-upgrade)
+returns-in_default-clause-value c = sym (other_single c.args.name.now c.in_default.not-run c.in_default.not-session c.in_default.not-check c.in_default.not-scrub c.in_default.not-wipe c.in_default.not-upgrade)

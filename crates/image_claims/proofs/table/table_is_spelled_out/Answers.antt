@@ -1,4 +1,4 @@
-use Rattle.image_claims.proofs.EndingLemmas.{numbers, format_ends, run_ends, check_ends, scrub_ends, wipe_ends, upgrade_ends, big_ends, mirror_ends, may_end_format, may_end_run, may_end_check, may_end_scrub, may_end_wipe, may_end_upgrade, may_end_big, may_end_mirror}
+use Rattle.image_claims.proofs.EndingLemmas.{numbers, format_ends, run_ends, session_ends, check_ends, scrub_ends, wipe_ends, upgrade_ends, big_ends, mirror_ends, may_end_format, may_end_run, may_end_session, may_end_check, may_end_scrub, may_end_wipe, may_end_upgrade, may_end_big, may_end_mirror}
 use Rattle.image_claims.proofs.table.table_is_spelled_out.Goals as goal
 
 pub returns-clause-numbers : goal.returns-clause-numbers
@@ -9,6 +9,9 @@ returns-clause-format c p status = (format_ends status, may_end_format status)
 
 pub returns-clause-run : goal.returns-clause-run
 returns-clause-run c status = (run_ends status, may_end_run status)
+
+pub returns-clause-session : goal.returns-clause-session
+returns-clause-session c status = (session_ends status, may_end_session status)
 
 pub returns-clause-check : goal.returns-clause-check
 returns-clause-check c status = (check_ends status, may_end_check status)

@@ -8,6 +8,7 @@ returns g c = record {
   outside = c.top.ensures.outside;
   format = c.top.ensures.format;
   run = c.top.ensures.run;
+  session = c.top.ensures.session;
   check = c.top.ensures.check;
   scrub = c.top.ensures.scrub;
   wipe = c.top.ensures.wipe;

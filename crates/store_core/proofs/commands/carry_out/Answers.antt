@@ -12,7 +12,7 @@ use Rattle.script_lines.specs.Parsing.{command_of}
 use Rattle.script_lines.specs.Replies.{reply_of}
 use Rattle.page_store.specs.StagedState.{Follows-refl}
 use Rattle.store_core.specs.StagedTree.{TreeList, AreAt}
-use Rattle.store_core.specs.Steps.{EndsStep}
+use Rattle.store_core.specs.Steps.{IsReplyTo, EndsCommand}
 use Rattle.store_core.proofs.ListSteps.{keeps_stays, follows_stay}
 use Rattle.store_core.proofs.StagedSteps.{read_step, same_staged}
 use Rattle.tree_commands.proofs.StepLemmas.{space_step}
@@ -32,11 +32,11 @@ returns-in-Space-clause-call g c t list =
     let to = step t Space p in
     let still = Follows-refl state staged (g.met.D.Disk.sound staged.disk) in
     let told = subst (λ (v : TreeList g.row.D.Denot). IsObservable (state v.pages.disk) → AreAt state t p v.pages → reply_of c.tell_space.new.reply ≡ to.reply) c.pairs.view_is (λ observable at. c.tell_space.ensures observable t list.fitting at) in
-    let ends : EndsStep state t to p staged staged (Ok c.tell_space.new.reply) = record {
-      step = read_step state t to p staged staged (Ok c.tell_space.new.reply) list.fitting list.pages c.requires.runs still refl (λ e. cc) (λ observable. ap (λ (s : Step). s.tree) (space_step t p)) (λ observable. told observable list.pages);
+    let ends : EndsCommand state t to p staged staged (Ok c.tell_space.new.reply) = record {
+      step = read_step state t to.tree (IsReplyTo to) p staged staged (Ok c.tell_space.new.reply) list.fitting list.pages c.requires.runs still refl (λ e. cc) (λ observable. ap (λ (s : Step). s.tree) (space_step t p)) (λ observable. told observable list.pages);
       none_staged = same_staged state t p staged staged list.pages c.requires.runs still (λ observable. refl);
     } in
-    subst (λ (x : Command). EndsStep state t (step t x p) p staged staged (Ok c.tell_space.new.reply)) (sym (ap command_of c.in-Space.is)) ends
+    subst (λ (x : Command). EndsCommand state t (step t x p) p staged staged (Ok c.tell_space.new.reply)) (sym (ap command_of c.in-Space.is)) ends
 
 -- the version lacks the command
 pub returns-then-lacks_version-clause-call : goal.returns-then-lacks_version-clause-call
@@ -48,8 +48,8 @@ returns-then-lacks_version-clause-call g c t list =
     let reply = replies.No refusals.Version in
     let still = Follows-refl state staged (g.met.D.Disk.sound staged.disk) in
     let is = step_of_version t command p (sym c.lacks_version.ensures ∙ c.if-lacks_version.true) in
-    let ends : EndsStep state t (step t command p) p staged staged (Ok reply) = record {
-      step = read_step state t (step t command p) p staged staged (Ok reply) list.fitting list.pages c.requires.runs still refl (λ e. cc) (λ observable. ap (λ (s : Step). s.tree) is) (λ observable. sym (ap (λ (s : Step). s.reply) is));
+    let ends : EndsCommand state t (step t command p) p staged staged (Ok reply) = record {
+      step = read_step state t (step t command p).tree (IsReplyTo (step t command p)) p staged staged (Ok reply) list.fitting list.pages c.requires.runs still refl (λ e. cc) (λ observable. ap (λ (s : Step). s.tree) is) (λ observable. sym (ap (λ (s : Step). s.reply) is));
       none_staged = same_staged state t p staged staged list.pages c.requires.runs still (λ observable. refl);
     } in
-    subst (λ (r : Reply). EndsStep state t (step t command p) p staged staged (Ok r)) (sym c.put_refusal.ensures) ends
+    subst (λ (r : Reply). EndsCommand state t (step t command p) p staged staged (Ok r)) (sym c.put_refusal.ensures) ends

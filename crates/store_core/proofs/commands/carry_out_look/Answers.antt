@@ -8,7 +8,7 @@ use Rattle.skip_levels.specs.PagePairs.{KeepsList}
 use Rattle.page_store.specs.StagedState.{StagedState, pages_state}
 use Rattle.store_core.specs.StagedTree.{TreeList}
 use Rattle.store_core.proofs.AnswerSteps.{answered_at, failed_at}
-use Rattle.store_core.proofs.ListSteps.{AnswersList, looked_list, keeps_stays, back_stays, answers_at, whole_behind, same_behind, table_behind}
+use Rattle.store_core.proofs.ListSteps.{AnswersList, looked_list, keeps_stays, back_stays, answers_at, whole_behind, same_behind, table_behind, over_table}
 use Rattle.tree_commands.proofs.StepLemmas.{look_other}
 use Rattle.store_core.proofs.commands.carry_out_look.Given.{Over}
 use Rattle.store_core.proofs.commands.carry_out_look.Goals as goal
@@ -32,14 +32,14 @@ invariant_of-pairs g c =
 pub give_up-requires : goal.give_up-requires
 give_up-requires g c =
     let some = c.requires.list in
-    table_behind g.D.Disk.state some.0 some.1.0 c.args.pairs.now some.1.1 c.requires.runs c.answer.new.pairs c.in-Err.ensures.follows
+    table_behind g.D.Disk.state some.0 some.0 some.1.0 c.args.pairs.now (over_table some.1.1 c.requires.runs) c.requires.runs c.answer.new.pairs c.in-Err.ensures.follows
 
 pub returns-in-Ok-clause-call : goal.returns-in-Ok-clause-call
 returns-in-Ok-clause-call g c t p has list =
     let state = g.D.Disk.state in
     let command = command_of c.args.command.now in
     answered_at state t command p c.args.pairs.now.pages c.pairs.inside.pages list.fitting list.pages c.requires.runs c.requires.command has c.answer.new.reply c.discard.new.self (Ok c.answer.new.reply) refl c.discard.ensures
-    (look_other t command p c.requires.looks (reply_of c.answer.new.reply)) (answers_at state t p c.args.pairs.now list c.requires.runs command _ (Ok c.answer.new.reply) (answered g c p.version))
+    (look_other t command p c.requires.looks (reply_of c.answer.new.reply)) (answers_at state t t p c.args.pairs.now (over_table list c.requires.runs) c.requires.runs command _ (Ok c.answer.new.reply) (answered g c p.version))
 
 pub returns-in-Ok-clause-list : goal.returns-in-Ok-clause-list
 returns-in-Ok-clause-list g c =
@@ -48,12 +48,12 @@ returns-in-Ok-clause-list g c =
     let is = answered g c some.1.0.version in
     record {
       draw = is.follows.1;
-      whole = λ observable. whole_behind state some.0 some.1.0 c.args.pairs.now some.1.1 c.requires.runs (command_of c.args.command.now) _ c.answer.new.reply is
+      whole = λ observable. whole_behind state some.0 some.0 some.1.0 c.args.pairs.now (over_table some.1.1 c.requires.runs) c.requires.runs (command_of c.args.command.now) _ c.answer.new.reply is
           (ap (λ (x : StagedState g.row.D.Denot AnyDraw). (state x.disk).is_observable) (sym c.discard.ensures) ∙ observable);
     }
 
 pub returns-in-Err-clause-call : goal.returns-in-Err-clause-call
 returns-in-Err-clause-call g c t p has list =
     failed_at g.D.Disk.state t (command_of c.args.command.now) p c.args.pairs.now.pages c.answer.new.pairs.pages list.fitting list.pages c.requires.runs c.requires.command has c.in-Err.fault c.into.result c.give_up.new.pairs.pages (Err c.in-Err.fault) refl c.give_up.ensures.pages
-    c.into.ensures (answers_at g.D.Disk.state t p c.args.pairs.now list c.requires.runs (command_of c.args.command.now) c.answer.new.pairs (Err c.in-Err.fault)
+    c.into.ensures (answers_at g.D.Disk.state t t p c.args.pairs.now (over_table list c.requires.runs) c.requires.runs (command_of c.args.command.now) c.answer.new.pairs (Err c.in-Err.fault)
     (looked_list g.D.Disk.state p.version (command_of c.args.command.now) c.args.pairs.now c.answer.new.pairs (Err c.in-Err.fault) c.in-Err.ensures.follows c.in-Err.ensures.call))

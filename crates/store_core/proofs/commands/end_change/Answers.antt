@@ -10,7 +10,7 @@ use Rattle.image_check.specs.declared.fault.ApplyFault.{ApplyFault}
 use Rattle.tree_commands.specs.Answers.{change_reply}
 use Rattle.tree_commands.specs.Counted.{counted_step}
 use Rattle.store_core.specs.StagedTree.{TreeList, IsStagedFor}
-use Rattle.store_core.specs.Steps.{settled_reply, EndsStep}
+use Rattle.store_core.specs.Steps.{settled_reply, EndsCommand}
 use Rattle.store_core.proofs.ListSteps.{keeps_stays, settle_stays, settled_stays, table_behind_settle}
 use Rattle.store_core.proofs.StagedSteps.{settled}
 use Rattle.store_core.proofs.commands.end_change.Goals as goal
@@ -45,8 +45,8 @@ returns-in-Ok-clause-call g c t next p staged =
     let runs = ap (λ (v : TreeList g.row.D.Denot). v.pages.is_spent) c.pairs.view_is ∙ c.requires.runs in
     let here = subst (λ (v : TreeList g.row.D.Denot). IsStagedFor state t next p v.pages) (sym c.pairs.view_is) staged in
     let ends = settled state t next p s.pages c.settle.new.self (Ok tt) g.met.D.Disk.sound here runs c.in-Ok.ensures.call in
-    subst (λ (v : TreeList g.row.D.Denot). EndsStep state t (counted_step t next p) p v.pages c.discard.new.self (Ok replies.Ok)) c.pairs.view_is
-    (subst (λ (x : StagedState g.row.D.Denot AnyDraw). EndsStep state t (counted_step t next p) p s.pages x (Ok replies.Ok)) (sym c.discard.ensures) ends)
+    subst (λ (v : TreeList g.row.D.Denot). EndsCommand state t (counted_step t next p) p v.pages c.discard.new.self (Ok replies.Ok)) c.pairs.view_is
+    (subst (λ (x : StagedState g.row.D.Denot AnyDraw). EndsCommand state t (counted_step t next p) p s.pages x (Ok replies.Ok)) (sym c.discard.ensures) ends)
 
 pub returns-in-Err-clause-call : goal.returns-in-Err-clause-call
 returns-in-Err-clause-call g c t next p staged =
@@ -55,6 +55,6 @@ returns-in-Err-clause-call g c t next p staged =
     let runs = ap (λ (v : TreeList g.row.D.Denot). v.pages.is_spent) c.pairs.view_is ∙ c.requires.runs in
     let here = subst (λ (v : TreeList g.row.D.Denot). IsStagedFor state t next p v.pages) (sym c.pairs.view_is) staged in
     let ends = settled state t next p s.pages c.settle.new.self (Err c.in-Err.fault) g.met.D.Disk.sound here runs c.in-Err.ensures.call in
-    subst (λ (v : TreeList g.row.D.Denot). EndsStep state t (counted_step t next p) p v.pages c.give_up.new.pairs.pages (change_reply c.answer_to.result)) c.pairs.view_is
-    (subst (λ (r : Result Reply ApplyFault). EndsStep state t (counted_step t next p) p s.pages c.give_up.new.pairs.pages r) (sym c.answer_to.ensures)
-    (subst (λ (x : StagedState g.row.D.Denot AnyDraw). EndsStep state t (counted_step t next p) p s.pages x (settled_reply (Err c.in-Err.fault))) (sym c.give_up.ensures.pages) ends))
+    subst (λ (v : TreeList g.row.D.Denot). EndsCommand state t (counted_step t next p) p v.pages c.give_up.new.pairs.pages (change_reply c.answer_to.result)) c.pairs.view_is
+    (subst (λ (r : Result Reply ApplyFault). EndsCommand state t (counted_step t next p) p s.pages c.give_up.new.pairs.pages r) (sym c.answer_to.ensures)
+    (subst (λ (x : StagedState g.row.D.Denot AnyDraw). EndsCommand state t (counted_step t next p) p s.pages x (settled_reply (Err c.in-Err.fault))) (sym c.give_up.ensures.pages) ends))

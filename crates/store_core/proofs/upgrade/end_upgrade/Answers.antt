@@ -1,14 +1,13 @@
-use Rattle.std.proofs.Common.{◌≡◌, Result, Ok, Err, sym, ap, subst, ◌∙◌}
+use Rattle.std.proofs.Common.{◌≡◌, Ok, Err, sym, ap, subst, ◌∙◌}
 use Rattle.store_model.specs.declared.version.Version.TheVariants.{One}
 use Rattle.store_model.specs.Draws.{draw_of}
 use Rattle.seeded_draw.specs.declared.any.AnyDraw.{AnyDraw}
 use Rattle.seeded_draw.specs.AnyDrawn.{any_draw}
-use Rattle.skip_levels.specs.PagePairs.{KeepsList}
-use Rattle.page_store.specs.StagedState.{StagedState, pages_state}
+use Rattle.page_store.specs.StagedState.{StagedState}
 use Rattle.image_check.specs.declared.fault.ApplyFault.{ApplyFault}
 use Rattle.store_core.specs.StagedTree.{TreeList, IsUpgradeStaged}
-use Rattle.store_core.specs.Steps.{upgrade_fault, EndsUpgrade}
-use Rattle.store_core.proofs.ListSteps.{keeps_stays, settle_stays, settled_stays, table_behind_settle}
+use Rattle.store_core.specs.Steps.{settle_cause, EndsUpgrade}
+use Rattle.store_core.proofs.ListSteps.{keeps_stays, settle_stays, table_behind_settle}
 use Rattle.store_core.proofs.UpgradeSteps.{upgraded}
 use Rattle.store_core.proofs.upgrade.end_upgrade.Goals as goal
 
@@ -46,4 +45,4 @@ returns-in-Err-clause-call g c t p staged =
     let ends = upgraded state t p s.pages c.settle_upgrade.new.self (Err c.in-Err.fault) g.met.D.Disk.sound here runs c.in-Err.ensures.call in
     subst (λ (v : TreeList g.row.D.Denot). EndsUpgrade state t p v.pages c.give_up.new.pairs.pages (Err c.cause_of.result)) c.pairs.view_is
     (subst (λ (f : ApplyFault). EndsUpgrade state t p s.pages c.give_up.new.pairs.pages (Err f)) (sym c.cause_of.ensures)
-    (subst (λ (x : StagedState g.row.D.Denot AnyDraw). EndsUpgrade state t p s.pages x (Err (upgrade_fault c.in-Err.fault))) (sym c.give_up.ensures.pages) ends))
+    (subst (λ (x : StagedState g.row.D.Denot AnyDraw). EndsUpgrade state t p s.pages x (Err (settle_cause c.in-Err.fault))) (sym c.give_up.ensures.pages) ends))

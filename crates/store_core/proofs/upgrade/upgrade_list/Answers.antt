@@ -1,16 +1,16 @@
-use Rattle.std.proofs.Common.{Ok, Err, sym, ap, subst, ◌∙◌}
+use Rattle.std.proofs.Common.{Err, sym, ap, subst, ◌∙◌}
 use Rattle.seeded_draw.specs.declared.any.AnyDraw.{AnyDraw}
 use Rattle.seeded_draw.specs.AnyDrawn.{any_draw}
 use Rattle.page_store.specs.StagedState.{StagedState}
 use Rattle.image_check.specs.declared.fault.ApplyFault.{ApplyFault}
 use Rattle.store_core.specs.Steps.{EndsUpgrade}
 use Rattle.image_check.specs.Faults.{apply_fault_of}
-use Rattle.store_core.proofs.ListSteps.{room_at, table_behind}
+use Rattle.store_core.proofs.ListSteps.{room_at, table_behind, over_table}
 use Rattle.store_core.proofs.UpgradeLists.{whole_upgraded, upgrade_staged, list_upgraded, list_failed}
 use Rattle.store_core.proofs.upgrade.upgrade_list.Goals as goal
 
 pub inline_short_files-requires : goal.inline_short_files-requires
-inline_short_files-requires g c = let some = c.requires.list in record { room = room_at g.D.Disk.state some.0 some.1.0 c.args.pairs.now some.1.1.0 c.requires.runs }
+inline_short_files-requires g c = let some = c.requires.list in record { room = room_at g.D.Disk.state some.0 some.0 some.1.0 c.args.pairs.now (over_table some.1.1.0 c.requires.runs) c.requires.runs }
 
 pub end_upgrade-requires-clause-whole : goal.end_upgrade-requires-clause-whole
 end_upgrade-requires-clause-whole g c =
@@ -36,7 +36,7 @@ returns-in-Ok-clause-call g c t p list =
 pub give_up-requires : goal.give_up-requires
 give_up-requires g c =
     let some = c.requires.list in
-    table_behind g.D.Disk.state some.0 some.1.0 c.args.pairs.now some.1.1.0 c.requires.runs c.inline_short_files.new.pairs c.in-Err.ensures.follows
+    table_behind g.D.Disk.state some.0 some.0 some.1.0 c.args.pairs.now (over_table some.1.1.0 c.requires.runs) c.requires.runs c.inline_short_files.new.pairs c.in-Err.ensures.follows
 
 pub returns-in-Err-clause-call : goal.returns-in-Err-clause-call
 returns-in-Err-clause-call g c t p list =

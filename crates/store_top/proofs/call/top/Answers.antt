@@ -16,6 +16,9 @@ returns-in-Ok-Some-clause-format g c p is = c.serve_request.ensures.format p (sa
 pub returns-in-Ok-Some-clause-run : goal.returns-in-Ok-Some-clause-run
 returns-in-Ok-Some-clause-run g c is = c.serve_request.ensures.run (same_asked request_seen c.in-Ok-Some.field-0-is c.in-Ok-Some.ensures.value is)
 
+pub returns-in-Ok-Some-clause-session : goal.returns-in-Ok-Some-clause-session
+returns-in-Ok-Some-clause-session g c is = c.serve_request.ensures.session (same_asked request_seen c.in-Ok-Some.field-0-is c.in-Ok-Some.ensures.value is)
+
 pub returns-in-Ok-Some-clause-check : goal.returns-in-Ok-Some-clause-check
 returns-in-Ok-Some-clause-check g c is = c.serve_request.ensures.check (same_asked request_seen c.in-Ok-Some.field-0-is c.in-Ok-Some.ensures.value is)
 

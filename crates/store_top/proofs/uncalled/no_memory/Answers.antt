@@ -6,9 +6,10 @@ use Rattle.image_subcommands.specs.ScrubCall.{IsScrub}
 use Rattle.image_subcommands.specs.WipeCall.{IsWipe}
 use Rattle.store_top.specs.BigCall.{IsBig}
 use Rattle.store_top.specs.RunCall.{IsRun}
+use Rattle.store_top.specs.SessionCall.{IsSession}
 use Rattle.store_top.specs.UpgradeCall.{IsUpgrade}
 use Rattle.image_subcommands.proofs.UncalledLemmas.{format_uncalled, check_uncalled, scrub_uncalled, wipe_uncalled}
-use Rattle.store_top.proofs.UncalledLemmas.{run_uncalled, upgrade_uncalled, big_uncalled}
+use Rattle.store_top.proofs.UncalledLemmas.{run_uncalled, session_uncalled, upgrade_uncalled, big_uncalled}
 use Rattle.store_top.proofs.uncalled.no_memory.Goals as goal
 
 pub returns-clause-format : goal.returns-clause-format
@@ -20,6 +21,11 @@ pub returns-clause-run : goal.returns-clause-run
 returns-clause-run g c =
     let before = outside_of c.args.disk c.args.source c.args.sink in
     subst (λ after. IsRun g.D.Disk.state g.R.Source.state g.W.Sink.state before after) (sym c.idle.ensures) (run_uncalled g.D.Disk.state g.R.Source.state g.W.Sink.state g.met.D.Disk.sound before)
+
+pub returns-clause-session : goal.returns-clause-session
+returns-clause-session g c =
+    let before = outside_of c.args.disk c.args.source c.args.sink in
+    subst (λ after. IsSession g.D.Disk.state g.R.Source.state g.W.Sink.state before after) (sym c.idle.ensures) (session_uncalled g.D.Disk.state g.R.Source.state g.W.Sink.state g.met.D.Disk.sound before)
 
 pub returns-clause-check : goal.returns-clause-check
 returns-clause-check g c =

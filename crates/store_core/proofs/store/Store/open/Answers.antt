@@ -1,7 +1,6 @@
-use Rattle.std.proofs.Common.{length, sym, ap, subst, ◌∙◌}
+use Rattle.std.proofs.Common.{sym, ap, subst, ◌∙◌}
 use Rattle.store_model.specs.Draws.{Draw, draw_of}
 use Rattle.store_model.specs.PageMaps.{PageMap}
-use Rattle.store_model.specs.Placement.{Table, pages_in}
 use Rattle.seeded_draw.specs.AnyDrawn.{any_draw}
 use Rattle.seeded_draw.specs.declared.any.AnyDraw.{AnyDraw}
 use Rattle.page_store.specs.PageImages.{pages_in_table, SlotStandsAt}
@@ -11,7 +10,7 @@ use Rattle.store_core.specs.StagedTree.{AreAt}
 use Rattle.store_core.specs.StoreFields.{HoldsKnown}
 use Rattle.store_core.proofs.AnswerSteps.{list_at}
 use Rattle.store_core.proofs.OpeningLemmas.{open_pages}
-use Rattle.store_core.proofs.TreePages.{tree_holds, held_count, stands_pages, table_pages, table_count}
+use Rattle.store_core.proofs.TreePages.{tree_holds, held_count, stands_pages, table_pages}
 use Rattle.store_core.proofs.store.Store.open.Goals as goal
 
 pub new-pages-requires-clause-drawn : goal.new-pages-requires-clause-drawn

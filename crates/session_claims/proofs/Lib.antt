@@ -1,0 +1,5 @@
+pub mod AnsweredLemmas
+pub mod EventLemmas
+pub mod GroupLemmas
+pub mod StagedLemmas
+pub mod TreeLemmas

@@ -1,0 +1,45 @@
+//! The one call of the program, with the word `session`. Every function of the sentences comes to the program by it.
+
+ghost use Rattle.std.specs.Prelude.{◌≡◌, IfOk, Some};
+ghost use Rattle.store_model.specs.Words.{request_of};
+ghost use Rattle.store_model.specs.Words.Request.{Session};
+ghost use Rattle.script_lines.specs.Memory.{source_state, sink_state};
+ghost use Rattle.image_subcommands.specs.Outside.{outside_of};
+ghost use Rattle.image_subcommands.specs.Statuses.{Subcommand as words};
+ghost use Rattle.store_top.specs.ScriptCall.{AnswersScript};
+ghost use Rattle.store_top.specs.SessionRuns.{session_texts};
+ghost use Rattle.script_claims.specs.Machines.{meaning};
+ghost use Rattle.session_claims.specs.Groups.{committed_trees};
+
+use script_claims::{Disk, Ended, serve};
+use script_lines::{MemSink, MemSource};
+use session_core::every_history_is_serial;
+use std::alloc::Global;
+use store_base::NoMemory;
+use store_top::Words;
+
+/// Answers a script of calls on sessions, on an image, as the program does. The trees that it leads to are those of the groups that
+/// its lines commit: so the law of sessions says.
+///
+/// `NoMemory`: nothing was called.
+pub(crate) fn hold(
+    alloc: Global,
+    disk: Disk,
+    source: MemSource,
+    sink: MemSink,
+) -> Result<Ended, NoMemory>
+    ensures { IfOk result (AnswersScript words.Session session_texts committed_trees meaning source_state sink_state (outside_of disk source sink)) }
+{
+    every_history_is_serial();
+    let words = session_word(alloc)?;
+    Ok(serve(alloc, &words, disk, source, sink))
+}
+
+/// The command line of the one word `session`.
+fn session_word(alloc: Global) -> Result<Words, NoMemory>
+    ensures { IfOk result (λ words. request_of words ≡ Some Session) }
+{
+    let mut words = Words::new(alloc);
+    words.push("session")?;
+    Ok(words)
+}

@@ -1,0 +1,11 @@
+pub mod AnswerLemmas
+pub mod CallLemmas
+pub mod CommitLemmas
+pub mod HistoryLemmas
+pub mod MachineLemmas
+pub mod PlaceCalls
+pub mod PlacesLemmas
+pub mod QuestionLemmas
+pub mod RunLemmas
+pub mod StoreLemmas
+pub mod ToldLemmas

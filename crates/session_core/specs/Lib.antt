@@ -1,0 +1,6 @@
+pub mod Machine
+pub mod Noted
+pub mod SessionCalls
+pub mod SessionState
+pub mod SessionSteps
+pub mod Traces

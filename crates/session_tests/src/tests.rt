@@ -1,0 +1,8 @@
+//! The tests, a module for each kind, and those that they share: `lines`, with a table of them, and `support`.
+
+mod calls;
+mod faults;
+mod groups;
+mod lines;
+mod stops;
+mod support;
