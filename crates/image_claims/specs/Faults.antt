@@ -48,7 +48,8 @@ abbrev pub IsDoneOrLacks : Status → Type 0
 IsDoneOrLacks status = IsOneOf status (Done ∷ NoMemory ∷ [])
 
 -- What is asked for can be done: a disk of the image's length that does not begin as one is formatted, an image that represents
--- a tree is run, checked and upgraded, and sessions are held on it, one of which scrubbing leaves a tree's is scrubbed. Each disk is wiped.
+-- a tree is run, checked and upgraded, and answers a script of sessions, one of which scrubbing leaves a tree's is scrubbed. Each
+-- disk is wiped.
 abbrev pub CanBeDone : Request → DiskState → SourceState → Type 0
 CanBeDone (Format p) disk source = disks.IsObservable disk × (disk.size ≡ image_len p.slots) × (slice_index disk.bytes 0 ≢ first_byte)
 CanBeDone Run disk source = disks.IsObservable disk × sources.IsObservable source × (length source.left ≤ script_limit) × ((t : Tree) × (p : Parameters) × Represents disk.bytes t p)
@@ -92,8 +93,9 @@ OpensStore Wipe = ⊥
 OpensStore Upgrade = Unit {0}
 OpensStore (Big number count) = Unit {0}
 
--- What `run`, `session`, `upgrade` and `big` do with a disk that is no image, or a damaged one: no command is carried out, nothing taken and nothing
--- printed, and of a disk that tells its bytes nothing is written. They come past its header only where it has the length of an image.
+-- What `run`, `session`, `upgrade` and `big` do with a disk that is no image, or a damaged one: no command is carried out, nothing
+-- taken and nothing printed, and of a disk that tells its bytes nothing is written. They come past its header only where it has the
+-- length of an image.
 pub record RefusesImage {R W : Type 0} (status : Status) (done : ℕ) (disk disk_new : DiskState) (source source_new : R) (sink sink_new : W) : Type 0 where
   pub done_is : IsOneOf status (NotImage ∷ Damaged ∷ []) → done ≡ 0
   pub source_is : IsOneOf status (NotImage ∷ Damaged ∷ []) → source_new ≡ source

@@ -16,9 +16,9 @@ use script_lines::{MemSink, MemSource};
 use std::alloc::Global;
 use store_base::NoMemory;
 
-/// Answers a script of calls on sessions, on an image. However it ends, each group that was acknowledged stays: with status
-/// 0, 3, 4 or 6 the image is that of the tree of the groups that just the lines commit that were carried out, durably, and
-/// each status tells which lines they are.
+/// Answers a script of calls on sessions, on an image. However it ends, each group that was acknowledged stays: with
+/// status 0, 3, 4 or 6 the image is that of the tree of the groups that just the lines commit that were carried out,
+/// durably, and each status tells which lines they are.
 ///
 /// `NoMemory`: nothing was called.
 pub fn what_a_session_acknowledged_stays(

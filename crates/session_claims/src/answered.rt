@@ -13,8 +13,9 @@ use script_lines::{MemSink, MemSource};
 use std::alloc::Global;
 use store_base::NoMemory;
 
-/// Answers a script of calls on sessions, on an image. With status 0 each of its lines was answered, and the image is that of
-/// the tree of the groups that the lines commit, whatever pieces the script came in: what was only staged is not in it.
+/// Answers a script of calls on sessions, on an image. With status 0 each of its lines was answered, and the image is
+/// that of the tree of the groups that the lines commit, whatever pieces the script came in: what was only staged is
+/// not in it.
 ///
 /// `NoMemory`: nothing was called.
 pub fn a_session_is_answered(

@@ -14,9 +14,9 @@ use script_lines::{MemSink, MemSource};
 use std::alloc::Global;
 use store_base::NoMemory;
 
-/// Answers a script of calls on sessions, on an image. It makes just the writes and syncs of opening the image, and for each
-/// commit whose group changes d slots 5 d + 2 writes and 5 syncs; other lines make none. Where the disk fails it makes
-/// no more than with the line in progress.
+/// Answers a script of calls on sessions, on an image. It makes just the writes and syncs of opening the image, and
+/// for each commit whose group changes d slots 5 d + 2 writes and 5 syncs; other lines make none. Where the disk fails
+/// it makes no more than with the line in progress.
 ///
 /// `NoMemory`: nothing was called.
 pub fn a_session_costs_its_commits(

@@ -19,12 +19,13 @@ use script_lines::{MemSink, MemSource};
 use std::alloc::Global;
 use store_base::NoMemory;
 
-/// Answers a script of calls on sessions on a disk that fails from its call `from` on, and then runs no line on an image that a
-/// crash may have left, whichever of these it is. Where the run ends with 0 the image is, byte for byte, that of the tree of the
-/// groups that just the lines commit whose replies were written, or those of one line more: each group is in it whole or not
-/// at all, and each whose commit was answered `ok` is in it. Where the crash came at some moment before, what it left is an image
-/// of the tree of the groups that some of the lines commit, and the run leaves the one of that tree. The run ends
-/// with 0 unless a call of it fails or memory is short. The first call keeps what it acknowledged, however it ends.
+/// Answers a script of calls on sessions on a disk that fails from its call `from` on, and then runs no line on an
+/// image that a crash may have left, whichever of these it is. Where the run ends with 0 the image is, byte for byte,
+/// that of the tree of the groups that just the lines commit whose replies were written, or those of one line more:
+/// each group is in it whole or not at all, and each whose commit was answered `ok` is in it. Where the crash came at
+/// some moment before, what it left is an image of the tree of the groups that some of the lines commit, and the run
+/// leaves the one of that tree. The run ends with 0 unless a call of it fails or memory is short. The first call keeps
+/// what it acknowledged, however it ends.
 ///
 /// `NoMemory`: there was none for the run's disk and sink, or for the word `session` or `run`.
 pub fn a_crash_leaves_whole_groups(

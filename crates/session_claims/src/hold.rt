@@ -18,8 +18,8 @@ use std::alloc::Global;
 use store_base::NoMemory;
 use store_top::Words;
 
-/// Answers a script of calls on sessions, on an image, as the program does. The trees that it leads to are those of the groups that
-/// its lines commit: so the law of sessions says.
+/// Answers a script of calls on sessions, on an image, as the program does. The trees that it leads to are those of
+/// the groups that its lines commit: so the law of sessions says.
 ///
 /// `NoMemory`: nothing was called.
 pub(crate) fn hold(

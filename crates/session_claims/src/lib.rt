@@ -1,6 +1,6 @@
 //! The mission's sentences about sessions: proved functions over disks, sources and sinks in memory that call the
-//! program with the word `session`, and whose contracts a keeper of ballots understands. They speak of bytes, scripts, replies,
-//! statuses and trees, and of the groups of changes that lines commit.
+//! program with the word `session`, and whose contracts a keeper of ballots understands. They speak of bytes, scripts,
+//! replies, statuses and trees, and of the groups of changes that lines commit.
 //!
 //! `hold` alone calls the program; every other function comes to it. What leads from the program's record to a
 //! sentence stands in lemmas over this record alone, in proofs/.

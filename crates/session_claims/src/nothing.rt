@@ -10,8 +10,9 @@ use script_lines::{MemSink, MemSource};
 use std::alloc::Global;
 use store_base::NoMemory;
 
-/// Answers a script of calls on sessions, on bytes that are the image of no tree. It does nothing, as a run: nothing is taken,
-/// answered or written, and it ends with 7 or 8, by what the bytes are, unless the disk fails or memory is short.
+/// Answers a script of calls on sessions, on bytes that are the image of no tree. It does nothing, as a run: nothing
+/// is taken, answered or written, and it ends with 7 or 8, by what the bytes are, unless the disk fails or memory is
+/// short.
 ///
 /// `NoMemory`: nothing was called.
 pub fn a_session_on_no_tree_does_nothing(

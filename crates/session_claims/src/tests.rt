@@ -1,5 +1,5 @@
-//! Each sentence once, with ample memory, against statuses, replies, costs and images that were worked out by hand from
-//! the script language and the format.
+//! Each sentence once, with ample memory, against statuses, replies, costs and images that were worked out by hand
+//! from the script language and the format.
 //!
 //! The images have one slot, one level, the draw `ruler` and a seed of zeros. An image is written as its bytes other
 //! than zero, each with its place, behind the text that it begins with.
@@ -34,8 +34,8 @@ const ROOM: usize = 1_048_576;
 /// More calls of the disk than one commit makes.
 const MOST_CALLS: u64 = 60;
 
-/// How many writes and syncs such a script makes: two syncs to open the image, and seven writes and five syncs for the one
-/// slot of its group. While one of them fails it is not done.
+/// How many writes and syncs such a script makes: two syncs to open the image, and seven writes and five syncs for the
+/// one slot of its group. While one of them fails it is not done.
 const LEAST_CALLS: u64 = 14;
 
 /// How a call is to end: its status, the lines carried out, what is written, the image, and the writes and syncs.
@@ -154,8 +154,8 @@ fn nothing_is_done_without_a_tree(rt: HostRuntime) {
     expect_end(&rt, alloc, ended, &nothing);
 }
 
-/// Looks whether a script that fails from this call on, and a run on this image that it leaves, come to the whole group or to
-/// none of it. Tells what the disk reads behind the first call, and whether it ended with 0.
+/// Looks whether a script that fails from this call on, and a run on this image that it leaves, come to the whole
+/// group or to none of it. Tells what the disk reads behind the first call, and whether it ended with 0.
 fn crash_at(rt: &impl Abort, alloc: Global, from: u64, left: &[u8]) -> (Vec<u8>, bool) {
     let disk = MemDisk::new(alloc, &image_of(rt, alloc, EMPTY), ROOM).expect(rt, "memory");
     let (source, sink) = (source_of(rt, alloc, SCRIPT), sink_of(rt, alloc));
