@@ -2,7 +2,7 @@
 # What a shell completes behind `hstore`: the image as a file, the words, and what is known of their arguments. `hstore
 # --install` puts it where bash looks for it. .ci/person compares the words with those of help.
 _hstore() {
-    local words='format format2 run session check scrub wipe upgrade big mirror' choices='' files=''
+    local words='format format2 run session check scrub wipe upgrade dump load big mirror' choices='' files=''
     case "$COMP_CWORD ${COMP_WORDS[1]} ${COMP_WORDS[2]-}" in
         '1 '*) choices='help --help --version --install --uninstall' files=-f ;;
         '2 help '*) choices="$words" ;;

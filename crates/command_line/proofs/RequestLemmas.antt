@@ -13,11 +13,11 @@ use Rattle.store_model.specs.Lists.{same_bytes}
 use Rattle.store_model.specs.Grammar.{◌>>=◌, number_limit, number_of, on_word}
 use Rattle.store_model.specs.Parameters.{slots_limit, height_limit}
 use Rattle.store_model.specs.Words.{Request, commands_limit, kind_of_word, number_in, request_of, seed_of_word, version_of_word}
-use Rattle.store_model.specs.Words.Request.{Format, Run, Session, Check, Scrub, Wipe, Upgrade, Big}
+use Rattle.store_model.specs.Words.Request.{Format, Run, Session, Check, Scrub, Wipe, Upgrade, Dump, Load, Big}
 use Rattle.store_model.proofs.ListsLemmas.{first_true}
 use Rattle.command_line.specs.Line.{HoldsLine, IsLine, TakesDraws, format_word}
 use Rattle.command_line.proofs.LineLemmas.{some_same}
-use Rattle.command_line.proofs.TakenLines.{IsTaken, run_taken, session_taken, check_taken, scrub_taken, wipe_taken, upgrade_taken, big_taken, format_taken}
+use Rattle.command_line.proofs.TakenLines.{IsTaken, run_taken, session_taken, check_taken, scrub_taken, wipe_taken, upgrade_taken, dump_taken, load_taken, big_taken, format_taken}
 use Rattle.command_line.proofs.ValueLemmas.{draw_names, draw_passes, draw_plain, number_limited, number_plain, number_passes, range_passes, range_plain, seed_plain}
 
 -- where one of two words was found, it is the first, or the other was found
@@ -47,7 +47,8 @@ word_of_version word version e =
     (by_word word (codes "format") _ _ version e)
 
 module _ (draws : Version → ValueParser) (takes : (version : Version) → TakesDraws (draws version)) where
-  single : (word : Text) (request : Request) → on_word word (codes "run") (Some Run) (on_word word (codes "session") (Some Session) (on_word word (codes "check") (Some Check) (on_word word (codes "scrub") (Some Scrub) (on_word word (codes "wipe") (Some Wipe) (on_word word (codes "upgrade") (Some Upgrade) None))))) ≡ Some request
+  single : (word : Text) (request : Request) → on_word word (codes "run") (Some Run) (on_word word (codes "session") (Some Session) (on_word word (codes "check") (Some Check) (on_word word (codes "scrub") (Some Scrub) (on_word word (codes "wipe") (Some Wipe) (on_word word (codes "upgrade") (Some Upgrade)
+      (on_word word (codes "dump") (Some Dump) (on_word word (codes "load") (Some Load) None))))))) ≡ Some request
       → IsTaken draws (word ∷ [])
   single word request e =
       let taken = λ (name : Text) (is : word ≡ name) (so : IsTaken draws (name ∷ [])). subst (λ w. IsTaken draws (w ∷ [])) (sym is) so in
@@ -57,7 +58,11 @@ module _ (draws : Version → ValueParser) (takes : (version : Version) → Take
       (λ not_check. ⊎_elim (λ scrub. taken (codes "scrub") scrub.0 (scrub_taken draws))
       (λ not_scrub. ⊎_elim (λ wipe. taken (codes "wipe") wipe.0 (wipe_taken draws))
       (λ not_wipe. ⊎_elim (λ upgrade. taken (codes "upgrade") upgrade.0 (upgrade_taken draws))
+      (λ not_upgrade. ⊎_elim (λ dump. taken (codes "dump") dump.0 (dump_taken draws))
+      (λ not_dump. ⊎_elim (λ load. taken (codes "load") load.0 (load_taken draws))
       (λ none. nothing request none)
+      (by_word word (codes "load") _ _ request not_dump))
+      (by_word word (codes "dump") _ _ request not_upgrade))
       (by_word word (codes "upgrade") _ _ request not_wipe))
       (by_word word (codes "wipe") _ _ request not_scrub))
       (by_word word (codes "scrub") _ _ request not_check))

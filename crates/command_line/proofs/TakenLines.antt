@@ -92,6 +92,12 @@ wipe_taken draws = single_taken draws (codes "wipe") refl refl refl refl
 pub upgrade_taken : (draws : Version → ValueParser) → IsTaken draws (codes "upgrade" ∷ [])
 upgrade_taken draws = single_taken draws (codes "upgrade") refl refl refl refl
 
+pub dump_taken : (draws : Version → ValueParser) → IsTaken draws (codes "dump" ∷ [])
+dump_taken draws = single_taken draws (codes "dump") refl refl refl refl
+
+pub load_taken : (draws : Version → ValueParser) → IsTaken draws (codes "load" ∷ [])
+load_taken draws = single_taken draws (codes "load") refl refl refl refl
+
 -- ---- `big`
 
 -- the value passes

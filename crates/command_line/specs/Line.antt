@@ -42,7 +42,8 @@ big_subcommand = without_help (codes "big") (argument (codes "NUMBER") (parsers.
 abbrev pub subcommands_of : (Version → ValueParser) → List Shape
 subcommands_of draws =
     format_subcommand One (draws One) ∷ format_subcommand Two (draws Two) ∷ without_help (codes "run") [] ∷ without_help (codes "session") [] ∷ without_help (codes "check") []
-    ∷ without_help (codes "scrub") [] ∷ without_help (codes "wipe") [] ∷ without_help (codes "upgrade") [] ∷ big_subcommand ∷ []
+    ∷ without_help (codes "scrub") [] ∷ without_help (codes "wipe") [] ∷ without_help (codes "upgrade") []
+    ∷ without_help (codes "dump") [] ∷ without_help (codes "load") [] ∷ big_subcommand ∷ []
 
 -- the command line with no subcommands: one is required, and the program's name is not among them
 abbrev pub without_subcommands : App
@@ -82,6 +83,8 @@ IsSubcommandOf subcommands.Check = IsSubcommand (without_help (codes "check") []
 IsSubcommandOf subcommands.Scrub = IsSubcommand (without_help (codes "scrub") [])
 IsSubcommandOf subcommands.Wipe = IsSubcommand (without_help (codes "wipe") [])
 IsSubcommandOf subcommands.Upgrade = IsSubcommand (without_help (codes "upgrade") [])
+IsSubcommandOf subcommands.Dump = IsSubcommand (without_help (codes "dump") [])
+IsSubcommandOf subcommands.Load = IsSubcommand (without_help (codes "load") [])
 IsSubcommandOf subcommands.Big = IsSubcommand big_subcommand
 
 -- the command line is as it is defined here

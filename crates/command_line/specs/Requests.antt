@@ -3,7 +3,7 @@ use Rattle.std.specs.Prelude.{◌≡◌, ◌≤◌, List, [], ◌∷◌, Option,
 use Rattle.clap.specs.Walk.{Text}
 use Rattle.store_model.specs.Parameters.{IsParameters, image_len}
 use Rattle.store_model.specs.Words.{Request, commands_limit}
-use Rattle.store_model.specs.Words.Request.{Format, Run, Session, Check, Scrub, Wipe, Upgrade, Big}
+use Rattle.store_model.specs.Words.Request.{Format, Run, Session, Check, Scrub, Wipe, Upgrade, Dump, Load, Big}
 use Rattle.command_line.specs.Line.{format_word}
 use Rattle.command_line.specs.declared.request.Request as own
 use Rattle.command_line.specs.declared.request.Request.TheVariants as own_requests
@@ -21,6 +21,8 @@ request_seen own_requests.Check = Check
 request_seen own_requests.Scrub = Scrub
 request_seen own_requests.Wipe = Wipe
 request_seen own_requests.Upgrade = Upgrade
+request_seen own_requests.Dump = Dump
+request_seen own_requests.Load = Load
 request_seen (own_requests.Big number count) = Big number count
 
 -- the parameters of a request, if it has some, are in range
@@ -32,6 +34,8 @@ IsInRange own_requests.Check = Unit {0}
 IsInRange own_requests.Scrub = Unit {0}
 IsInRange own_requests.Wipe = Unit {0}
 IsInRange own_requests.Upgrade = Unit {0}
+IsInRange own_requests.Dump = Unit {0}
+IsInRange own_requests.Load = Unit {0}
 IsInRange (own_requests.Big number count) = (1 ≤ count) × (count ≤ commands_limit)
 
 -- the words of a line that was read
@@ -49,6 +53,8 @@ wanted_by Check = Existing
 wanted_by Scrub = Existing
 wanted_by Wipe = Existing
 wanted_by Upgrade = Existing
+wanted_by Dump = Existing
+wanted_by Load = Existing
 wanted_by (Big number count) = Existing
 
 abbrev pub wanted_of : Option Request → Wanted

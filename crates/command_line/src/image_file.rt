@@ -51,6 +51,8 @@ impl Request {
             | Request::Scrub
             | Request::Wipe
             | Request::Upgrade
+            | Request::Dump
+            | Request::Load
             | Request::Big(..) => Wanted::Existing,
         }
     }
@@ -67,6 +69,8 @@ impl Request {
             | Request::Scrub
             | Request::Wipe
             | Request::Upgrade
+            | Request::Dump
+            | Request::Load
             | Request::Big(..) => Access::Writing,
         }
     }

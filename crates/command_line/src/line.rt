@@ -8,7 +8,9 @@ ghost use Rattle.clap.specs.declared.builder.command.Command.TheViews.{out-Comma
 ghost use Rattle.command_line.specs.Building.{AddsArguments, AddsSubcommand, IsBuilt, rule_told};
 ghost use Rattle.command_line.specs.Line.{IsLine, IsSubcommandOf, without_help, without_subcommands};
 
-use self::Subcommand::{Big, Check, Format, Format2, Run, Scrub, Session, Upgrade, Wipe};
+use self::Subcommand::{
+    Big, Check, Dump, Format, Format2, Load, Run, Scrub, Session, Upgrade, Wipe,
+};
 use clap::builder::ValueParser;
 use clap::{Arg, Command};
 use std::alloc::{AllocError, Global};
@@ -36,6 +38,10 @@ pub enum Subcommand {
     Wipe,
     /// `upgrade`.
     Upgrade,
+    /// `dump`.
+    Dump,
+    /// `load`.
+    Load,
     /// `big NUMBER COUNT`.
     Big,
 }
@@ -86,8 +92,8 @@ static BIG: [Argument; 2] = [
 ];
 
 /// The subcommands, in the order of the help.
-static SUBCOMMANDS: [Subcommand; 9] = [
-    Format, Format2, Run, Session, Check, Scrub, Wipe, Upgrade, Big,
+static SUBCOMMANDS: [Subcommand; 11] = [
+    Format, Format2, Run, Session, Check, Scrub, Wipe, Upgrade, Dump, Load, Big,
 ];
 
 /// What `clap` has as the argument, which is required and has one value, which passes the parser.
@@ -202,6 +208,23 @@ const UPGRADE_NOTES: &str =
     "The image holds what it held, and none of its bytes tells that it was of version 1. It cannot be taken\n\
     back. On an image of version 2 nothing is done.";
 
+/// What `dump` does.
+const DUMP_ABOUT: &str = "Prints the commands that make what the image holds.";
+
+/// What is to be known of `dump` besides.
+const DUMP_NOTES: &str =
+    "They are `make`, `write` and `set`, a line each, in the order of paths: a listing, which `load` takes.\n\
+    The front of a listing is a listing too: the status tells whether all of it was printed.";
+
+/// What `load` does.
+const LOAD_ABOUT: &str = "Makes what a listing on standard input tells, in an empty image.";
+
+/// What is to be known of `load` besides.
+const LOAD_NOTES: &str =
+    "A listing is what `dump` prints, of an image of any size, height, draw and seed. Its tree comes into the\n\
+    image whole or not at all. Where it has no room, `no full NEED SLOTS` is printed: how many slots it\n\
+    needs, and how many there are.";
+
 /// What `big` does.
 const BIG_ABOUT: &str = "Carries out generated commands, and prints what came of them.";
 
@@ -229,6 +252,8 @@ pub fn command_of<'a>(alloc: Global, subcommand: Subcommand) -> Result<Command<'
         Subcommand::Scrub => subcommand_with(alloc, "scrub", SCRUB_ABOUT, SCRUB_NOTES, &[]),
         Subcommand::Wipe => subcommand_with(alloc, "wipe", WIPE_ABOUT, WIPE_NOTES, &[]),
         Subcommand::Upgrade => subcommand_with(alloc, "upgrade", UPGRADE_ABOUT, UPGRADE_NOTES, &[]),
+        Subcommand::Dump => subcommand_with(alloc, "dump", DUMP_ABOUT, DUMP_NOTES, &[]),
+        Subcommand::Load => subcommand_with(alloc, "load", LOAD_ABOUT, LOAD_NOTES, &[]),
         Subcommand::Big => subcommand_with(alloc, "big", BIG_ABOUT, BIG_NOTES, &BIG),
     }
 }

@@ -31,6 +31,10 @@ pub enum Request {
     Wipe,
     /// Makes the image one of version 2.
     Upgrade,
+    /// Prints the commands that make what the image holds.
+    Dump,
+    /// Makes what a listing tells, in an empty image.
+    Load,
     /// Carries out generated commands: their number, which tells which they are, and how many, 1 to 1,000,000.
     Big(u32, u32),
 }
@@ -47,6 +51,8 @@ pub(crate) fn single_request(name: &str) -> Option<Request>
         "scrub" => Some(Request::Scrub),
         "wipe" => Some(Request::Wipe),
         "upgrade" => Some(Request::Upgrade),
+        "dump" => Some(Request::Dump),
+        "load" => Some(Request::Load),
         _ => None,
     }
 }

@@ -2,9 +2,9 @@
 use Rattle.std.proofs.Common.{◌≡◌, ◌⊎◌, List, [], ◌∷◌, ℕ, false, IsTrue, refl, sym, ap, subst, ◌∙◌, inl, inr, ⊎_elim}
 use Rattle.std.specs.List.{AllByRecursion}
 use Rattle.std.proofs.lemmas.Bool.{false≢true, cases_Bool}
-use Rattle.store_model.specs.Words.Request.{Run, Session, Check, Scrub, Wipe, Upgrade}
+use Rattle.store_model.specs.Words.Request.{Run, Session, Check, Scrub, Wipe, Upgrade, Dump, Load}
 use Rattle.image_subcommands.specs.declared.status.Status.{Status}
-use Rattle.image_subcommands.specs.declared.status.Status.TheVariants.{Done, Usage, SourceFault, SinkFault, DiskFault, TooLong, NotImage, Damaged, NoMemory, AlreadyImage, WrongLength, Unequal}
+use Rattle.image_subcommands.specs.declared.status.Status.TheVariants.{Done, Usage, SourceFault, SinkFault, DiskFault, TooLong, NotImage, Damaged, NoMemory, AlreadyImage, WrongLength, Unequal, NotEmpty, BadListing, TooFull}
 use Rattle.image_subcommands.specs.Statuses.{row, Subcommand as words, IsStatusOf, IsJudged, IsRefusedImage, IsRefusedDisk, SparesSecond, IsMirrored, IsPastHeader, IsSummed, IsBetweenLines, MayComeFirst, one_if, done_of_work, done_of_verdict, done_of_mirror}
 use Rattle.image_subcommands.specs.Reports.{IsUnreported}
 use Rattle.script_claims.proofs.RunWays.{ends_as_run}
@@ -31,6 +31,9 @@ format_ends NoMemory h = inr (inr (inl refl))
 format_ends AlreadyImage h = inr (inr (inr (inl refl)))
 format_ends WrongLength h = inr (inr (inr (inr (inl refl))))
 format_ends Unequal h = absurd (false≢true h)
+format_ends NotEmpty h = absurd (false≢true h)
+format_ends BadListing h = absurd (false≢true h)
+format_ends TooFull h = absurd (false≢true h)
 
 -- how `run` may end
 pub run_ends : (status : Status) → IsStatusOf words.Run status → IsOneOf status (endings Run)
@@ -46,6 +49,9 @@ run_ends NoMemory h = inr (inr (inr (inr (inr (inr (inr (inl refl)))))))
 run_ends AlreadyImage h = absurd (false≢true h)
 run_ends WrongLength h = absurd (false≢true h)
 run_ends Unequal h = absurd (false≢true h)
+run_ends NotEmpty h = absurd (false≢true h)
+run_ends BadListing h = absurd (false≢true h)
+run_ends TooFull h = absurd (false≢true h)
 
 -- how `session` may end
 pub session_ends : (status : Status) → IsStatusOf words.Session status → IsOneOf status (endings Session)
@@ -65,6 +71,9 @@ check_ends NoMemory h = inr (inr (inr (inr (inr (inl refl)))))
 check_ends AlreadyImage h = absurd (false≢true h)
 check_ends WrongLength h = absurd (false≢true h)
 check_ends Unequal h = absurd (false≢true h)
+check_ends NotEmpty h = absurd (false≢true h)
+check_ends BadListing h = absurd (false≢true h)
+check_ends TooFull h = absurd (false≢true h)
 
 -- how `scrub` may end
 pub scrub_ends : (status : Status) → IsStatusOf words.Scrub status → IsOneOf status (endings Scrub)
@@ -80,6 +89,9 @@ scrub_ends NoMemory h = inr (inr (inr (inr (inr (inl refl)))))
 scrub_ends AlreadyImage h = absurd (false≢true h)
 scrub_ends WrongLength h = absurd (false≢true h)
 scrub_ends Unequal h = absurd (false≢true h)
+scrub_ends NotEmpty h = absurd (false≢true h)
+scrub_ends BadListing h = absurd (false≢true h)
+scrub_ends TooFull h = absurd (false≢true h)
 
 -- how `wipe` may end
 pub wipe_ends : (status : Status) → IsStatusOf words.Wipe status → IsOneOf status (endings Wipe)
@@ -95,6 +107,9 @@ wipe_ends NoMemory h = inr (inr (inl refl))
 wipe_ends AlreadyImage h = absurd (false≢true h)
 wipe_ends WrongLength h = absurd (false≢true h)
 wipe_ends Unequal h = absurd (false≢true h)
+wipe_ends NotEmpty h = absurd (false≢true h)
+wipe_ends BadListing h = absurd (false≢true h)
+wipe_ends TooFull h = absurd (false≢true h)
 
 -- how `upgrade` may end
 pub upgrade_ends : (status : Status) → IsStatusOf words.Upgrade status → IsOneOf status (endings Upgrade)
@@ -110,6 +125,45 @@ upgrade_ends NoMemory h = inr (inr (inr (inr (inl refl))))
 upgrade_ends AlreadyImage h = absurd (false≢true h)
 upgrade_ends WrongLength h = absurd (false≢true h)
 upgrade_ends Unequal h = absurd (false≢true h)
+upgrade_ends NotEmpty h = absurd (false≢true h)
+upgrade_ends BadListing h = absurd (false≢true h)
+upgrade_ends TooFull h = absurd (false≢true h)
+
+-- how `dump` may end
+pub dump_ends : (status : Status) → IsStatusOf words.Dump status → IsOneOf status (endings Dump)
+dump_ends Done h = inl refl
+dump_ends Usage h = absurd (false≢true h)
+dump_ends SourceFault h = absurd (false≢true h)
+dump_ends SinkFault h = inr (inl refl)
+dump_ends DiskFault h = inr (inr (inl refl))
+dump_ends TooLong h = absurd (false≢true h)
+dump_ends NotImage h = inr (inr (inr (inl refl)))
+dump_ends Damaged h = inr (inr (inr (inr (inl refl))))
+dump_ends NoMemory h = inr (inr (inr (inr (inr (inl refl)))))
+dump_ends AlreadyImage h = absurd (false≢true h)
+dump_ends WrongLength h = absurd (false≢true h)
+dump_ends Unequal h = absurd (false≢true h)
+dump_ends NotEmpty h = absurd (false≢true h)
+dump_ends BadListing h = absurd (false≢true h)
+dump_ends TooFull h = absurd (false≢true h)
+
+-- how `load` may end
+pub load_ends : (status : Status) → IsStatusOf words.Load status → IsOneOf status (endings Load)
+load_ends Done h = inl refl
+load_ends Usage h = absurd (false≢true h)
+load_ends SourceFault h = inr (inl refl)
+load_ends SinkFault h = inr (inr (inl refl))
+load_ends DiskFault h = inr (inr (inr (inl refl)))
+load_ends TooLong h = inr (inr (inr (inr (inl refl))))
+load_ends NotImage h = inr (inr (inr (inr (inr (inl refl)))))
+load_ends Damaged h = inr (inr (inr (inr (inr (inr (inl refl))))))
+load_ends NoMemory h = inr (inr (inr (inr (inr (inr (inr (inl refl)))))))
+load_ends AlreadyImage h = absurd (false≢true h)
+load_ends WrongLength h = absurd (false≢true h)
+load_ends Unequal h = absurd (false≢true h)
+load_ends NotEmpty h = inr (inr (inr (inr (inr (inr (inr (inr (inl refl))))))))
+load_ends BadListing h = inr (inr (inr (inr (inr (inr (inr (inr (inr (inl refl)))))))))
+load_ends TooFull h = inr (inr (inr (inr (inr (inr (inr (inr (inr (inr (inl refl))))))))))
 
 -- how `big` may end
 pub big_ends : (status : Status) → IsStatusOf words.Big status → IsOneOf status (Done ∷ SinkFault ∷ DiskFault ∷ NotImage ∷ Damaged ∷ NoMemory ∷ [])
@@ -125,6 +179,9 @@ big_ends NoMemory h = inr (inr (inr (inr (inr (inl refl)))))
 big_ends AlreadyImage h = absurd (false≢true h)
 big_ends WrongLength h = absurd (false≢true h)
 big_ends Unequal h = absurd (false≢true h)
+big_ends NotEmpty h = absurd (false≢true h)
+big_ends BadListing h = absurd (false≢true h)
+big_ends TooFull h = absurd (false≢true h)
 
 -- how a mirror may end
 pub mirror_ends : (status : Status) → IsStatusOf words.Mirror status → IsOneOf status mirror_endings
@@ -140,6 +197,9 @@ mirror_ends NoMemory h = inr (inr (inr (inr (inr (inl refl)))))
 mirror_ends AlreadyImage h = absurd (false≢true h)
 mirror_ends WrongLength h = absurd (false≢true h)
 mirror_ends Unequal h = inr (inr (inr (inr (inr (inr (inl refl))))))
+mirror_ends NotEmpty h = absurd (false≢true h)
+mirror_ends BadListing h = absurd (false≢true h)
+mirror_ends TooFull h = absurd (false≢true h)
 
 -- and where it has made the second image the first
 pub mirrored_ends : (status : Status) → IsMirrored status → IsOneOf status (Done ∷ SinkFault ∷ [])
@@ -155,6 +215,9 @@ mirrored_ends NoMemory h = absurd (false≢true h)
 mirrored_ends AlreadyImage h = absurd (false≢true h)
 mirrored_ends WrongLength h = absurd (false≢true h)
 mirrored_ends Unequal h = absurd (false≢true h)
+mirrored_ends NotEmpty h = absurd (false≢true h)
+mirrored_ends BadListing h = absurd (false≢true h)
+mirrored_ends TooFull h = absurd (false≢true h)
 
 -- what may come before a disk is judged
 pub comes_first : (status : Status) → MayComeFirst status → IsOneOf status (DiskFault ∷ NoMemory ∷ [])
@@ -170,6 +233,9 @@ comes_first NoMemory h = inr (inl refl)
 comes_first AlreadyImage h = absurd (false≢true h)
 comes_first WrongLength h = absurd (false≢true h)
 comes_first Unequal h = absurd (false≢true h)
+comes_first NotEmpty h = absurd (false≢true h)
+comes_first BadListing h = absurd (false≢true h)
+comes_first TooFull h = absurd (false≢true h)
 
 -- a call ends as is expected, or for what may come before
 pub reported : (expected status : Status) → (status ≡ expected) ⊎ IsUnreported status → IsOneOf status (expected ∷ SinkFault ∷ DiskFault ∷ NoMemory ∷ [])
@@ -205,6 +271,12 @@ may_end_wipe status is = one_of (IsStatusOf words.Wipe) (Done ∷ DiskFault ∷ 
 pub may_end_upgrade : (status : Status) → IsOneOf status (Done ∷ DiskFault ∷ NotImage ∷ Damaged ∷ NoMemory ∷ []) → IsStatusOf words.Upgrade status
 may_end_upgrade status is = one_of (IsStatusOf words.Upgrade) (Done ∷ DiskFault ∷ NotImage ∷ Damaged ∷ NoMemory ∷ []) (refl, (refl, (refl, (refl, (refl, tt))))) status is
 
+pub may_end_dump : (status : Status) → IsOneOf status (endings Dump) → IsStatusOf words.Dump status
+may_end_dump status is = one_of (IsStatusOf words.Dump) (endings Dump) (refl, (refl, (refl, (refl, (refl, (refl, tt)))))) status is
+
+pub may_end_load : (status : Status) → IsOneOf status (endings Load) → IsStatusOf words.Load status
+may_end_load status is = one_of (IsStatusOf words.Load) (endings Load) (refl, (refl, (refl, (refl, (refl, (refl, (refl, (refl, (refl, (refl, (refl, tt))))))))))) status is
+
 pub may_end_big : (status : Status) → IsOneOf status (Done ∷ SinkFault ∷ DiskFault ∷ NotImage ∷ Damaged ∷ NoMemory ∷ []) → IsStatusOf words.Big status
 may_end_big status is = one_of (IsStatusOf words.Big) (Done ∷ SinkFault ∷ DiskFault ∷ NotImage ∷ Damaged ∷ NoMemory ∷ []) (refl, (refl, (refl, (refl, (refl, (refl, tt)))))) status is
 
@@ -226,8 +298,9 @@ is_unjudged status is = one_of (λ (s : Status). IsJudged s → ⊥) (DiskFault 
 pub is_refused_image : (status : Status) → IsOneOf status (NotImage ∷ Damaged ∷ []) → IsRefusedImage status
 is_refused_image status is = one_of IsRefusedImage (NotImage ∷ Damaged ∷ []) (refl, (refl, tt)) status is
 
-pub is_past_header : (status : Status) → IsOneOf status (Done ∷ SourceFault ∷ SinkFault ∷ TooLong ∷ Damaged ∷ []) → IsPastHeader status
-is_past_header status is = one_of IsPastHeader (Done ∷ SourceFault ∷ SinkFault ∷ TooLong ∷ Damaged ∷ []) (refl, (refl, (refl, (refl, (refl, tt))))) status is
+pub is_past_header : (status : Status) → IsOneOf status (Done ∷ SourceFault ∷ SinkFault ∷ TooLong ∷ Damaged ∷ NotEmpty ∷ BadListing ∷ TooFull ∷ []) → IsPastHeader status
+is_past_header status is = one_of IsPastHeader (Done ∷ SourceFault ∷ SinkFault ∷ TooLong ∷ Damaged ∷ NotEmpty ∷ BadListing ∷ TooFull ∷ [])
+    (refl, (refl, (refl, (refl, (refl, (refl, (refl, (refl, tt)))))))) status is
 
 pub is_refused_and_summed : (status : Status) → IsOneOf status (NotImage ∷ Damaged ∷ []) → IsSummed status → ⊥
 is_refused_and_summed status is = one_of (λ (s : Status). IsSummed s → ⊥) (NotImage ∷ Damaged ∷ []) ((λ h. false≢true h), ((λ h. false≢true h), tt)) status is
@@ -259,6 +332,9 @@ numbers NoMemory = refl
 numbers AlreadyImage = refl
 numbers WrongLength = refl
 numbers Unequal = refl
+numbers NotEmpty = refl
+numbers BadListing = refl
+numbers TooFull = refl
 
 -- ---- the counts
 
@@ -268,7 +344,7 @@ no_work status lacks so = false≢true (sym lacks ∙ one_of (λ (s : Status). I
 no_verdict : (status : Status) → (row status).is_judged ≡ false → IsOneOf status (Done ∷ SinkFault ∷ NotImage ∷ Damaged ∷ []) → ⊥
 no_verdict status lacks so = false≢true (sym lacks ∙ one_of IsJudged (Done ∷ SinkFault ∷ NotImage ∷ Damaged ∷ []) (refl, (refl, (refl, (refl, tt)))) status so)
 
--- that of `format` and `wipe`
+-- that of `format`, `wipe`, `upgrade`, `dump` and `load`
 pub counts_work : (status : Status) (done : ℕ) → done ≡ done_of_work status → CountsOne (Done ∷ []) status done
 counts_work Done done is = record { one = λ so. is; none = λ other. absurd (other (inl refl)) }
 counts_work Usage done is = record { one = λ so. absurd (no_work Usage refl so); none = λ other. is }
@@ -282,6 +358,9 @@ counts_work NoMemory done is = record { one = λ so. absurd (no_work NoMemory re
 counts_work AlreadyImage done is = record { one = λ so. absurd (no_work AlreadyImage refl so); none = λ other. is }
 counts_work WrongLength done is = record { one = λ so. absurd (no_work WrongLength refl so); none = λ other. is }
 counts_work Unequal done is = record { one = λ so. absurd (no_work Unequal refl so); none = λ other. is }
+counts_work NotEmpty done is = record { one = λ so. absurd (no_work NotEmpty refl so); none = λ other. is }
+counts_work BadListing done is = record { one = λ so. absurd (no_work BadListing refl so); none = λ other. is }
+counts_work TooFull done is = record { one = λ so. absurd (no_work TooFull refl so); none = λ other. is }
 
 -- that of `check` and `scrub`
 pub counts_verdict : (status : Status) (done : ℕ) → done ≡ done_of_verdict status → CountsOne (Done ∷ SinkFault ∷ NotImage ∷ Damaged ∷ []) status done
@@ -297,6 +376,9 @@ counts_verdict NoMemory done is = record { one = λ so. absurd (no_verdict NoMem
 counts_verdict AlreadyImage done is = record { one = λ so. absurd (no_verdict AlreadyImage refl so); none = λ other. is }
 counts_verdict WrongLength done is = record { one = λ so. absurd (no_verdict WrongLength refl so); none = λ other. is }
 counts_verdict Unequal done is = record { one = λ so. absurd (no_verdict Unequal refl so); none = λ other. is }
+counts_verdict NotEmpty done is = record { one = λ so. absurd (no_verdict NotEmpty refl so); none = λ other. is }
+counts_verdict BadListing done is = record { one = λ so. absurd (no_verdict BadListing refl so); none = λ other. is }
+counts_verdict TooFull done is = record { one = λ so. absurd (no_verdict TooFull refl so); none = λ other. is }
 
 -- that of a mirror
 pub counts_mirror : (status : Status) (done : ℕ) → done ≡ done_of_mirror status → CountsOne (Done ∷ SinkFault ∷ []) status done

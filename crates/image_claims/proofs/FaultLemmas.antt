@@ -1,8 +1,8 @@
 -- Which failed call a status tells, and when a call is done.
 use Rattle.std.proofs.Common.{◌≡◌, ◌∙◌, ◌⊎◌, ℕ, List, [], ◌∷◌, refl, ap, inl, inr, ⊎_elim}
 use Rattle.store_model.specs.Parameters.{Parameters}
-use Rattle.store_model.specs.Words.Request.{Format, Run, Session, Check, Scrub, Wipe, Upgrade, Big}
-use Rattle.store_model.specs.Trees.{Tree}
+use Rattle.store_model.specs.Words.Request.{Format, Run, Session, Check, Scrub, Wipe, Upgrade, Dump, Load, Big}
+use Rattle.store_model.specs.Trees.{Tree, empty_tree}
 use Rattle.store_model.specs.Images.{Represents}
 use Rattle.disk_model.specs.DiskState.{DiskState, IsObservable}
 use Rattle.image_check.specs.Verdicts.{IsNoImage, IsDamaged}
@@ -10,13 +10,15 @@ use Rattle.script_lines.specs.SourceState.{SourceState}
 use Rattle.script_lines.specs.SinkState.{SinkState}
 use Rattle.image_subcommands.specs.declared.outcome.Outcome.{Outcome}
 use Rattle.image_subcommands.specs.declared.status.Status.{Status}
-use Rattle.image_subcommands.specs.declared.status.Status.TheVariants.{Done, Usage, SourceFault, SinkFault, DiskFault, TooLong, NotImage, Damaged, NoMemory, AlreadyImage, WrongLength, Unequal}
+use Rattle.image_subcommands.specs.declared.status.Status.TheVariants.{Done, Usage, SourceFault, SinkFault, DiskFault, TooLong, NotImage, Damaged, NoMemory, AlreadyImage, WrongLength, Unequal, NotEmpty, BadListing, TooFull}
 use Rattle.image_subcommands.specs.CheckCall.{IsCheck}
 use Rattle.image_subcommands.specs.FormatCall.{IsFormat}
 use Rattle.image_subcommands.specs.Outside.{Outside, KeepsOutside}
 use Rattle.image_subcommands.specs.ScrubCall.{IsScrub}
 use Rattle.image_subcommands.specs.Statuses.{Subcommand, disk_faults_by, source_faults_by, sink_faults_by, done_of_work}
 use Rattle.image_subcommands.specs.WipeCall.{IsWipe}
+use Rattle.listing_subcommands.specs.DumpCall.{IsDump}
+use Rattle.listing_subcommands.specs.LoadCall.{IsLoad}
 use Rattle.store_top.specs.BigCall.{IsBig}
 use Rattle.store_top.specs.ScriptCall.{AnswersScript}
 use Rattle.store_top.specs.SessionCall.{IsSession}
@@ -40,6 +42,9 @@ disk_counts NoMemory old new is = record { raised_so = λ e. absurd (cc); same =
 disk_counts AlreadyImage old new is = record { raised_so = λ e. absurd (cc); same = λ other. is }
 disk_counts WrongLength old new is = record { raised_so = λ e. absurd (cc); same = λ other. is }
 disk_counts Unequal old new is = record { raised_so = λ e. absurd (cc); same = λ other. is }
+disk_counts NotEmpty old new is = record { raised_so = λ e. absurd (cc); same = λ other. is }
+disk_counts BadListing old new is = record { raised_so = λ e. absurd (cc); same = λ other. is }
+disk_counts TooFull old new is = record { raised_so = λ e. absurd (cc); same = λ other. is }
 
 pub source_counts : (status : Status) (old new : ℕ) → new ≡ source_faults_by status old → CountsFault status SourceFault old new
 source_counts Done old new is = record { raised_so = λ e. absurd (cc); same = λ other. is }
@@ -54,6 +59,9 @@ source_counts NoMemory old new is = record { raised_so = λ e. absurd (cc); same
 source_counts AlreadyImage old new is = record { raised_so = λ e. absurd (cc); same = λ other. is }
 source_counts WrongLength old new is = record { raised_so = λ e. absurd (cc); same = λ other. is }
 source_counts Unequal old new is = record { raised_so = λ e. absurd (cc); same = λ other. is }
+source_counts NotEmpty old new is = record { raised_so = λ e. absurd (cc); same = λ other. is }
+source_counts BadListing old new is = record { raised_so = λ e. absurd (cc); same = λ other. is }
+source_counts TooFull old new is = record { raised_so = λ e. absurd (cc); same = λ other. is }
 
 pub sink_counts : (status : Status) (old new : ℕ) → new ≡ sink_faults_by status old → CountsFault status SinkFault old new
 sink_counts Done old new is = record { raised_so = λ e. absurd (cc); same = λ other. is }
@@ -68,6 +76,9 @@ sink_counts NoMemory old new is = record { raised_so = λ e. absurd (cc); same =
 sink_counts AlreadyImage old new is = record { raised_so = λ e. absurd (cc); same = λ other. is }
 sink_counts WrongLength old new is = record { raised_so = λ e. absurd (cc); same = λ other. is }
 sink_counts Unequal old new is = record { raised_so = λ e. absurd (cc); same = λ other. is }
+sink_counts NotEmpty old new is = record { raised_so = λ e. absurd (cc); same = λ other. is }
+sink_counts BadListing old new is = record { raised_so = λ e. absurd (cc); same = λ other. is }
+sink_counts TooFull old new is = record { raised_so = λ e. absurd (cc); same = λ other. is }
 
 pub fails_by_status : (status : Status) (disk disk_new : DiskState) (source source_new : SourceState) (sink sink_new : SinkState) → KeepsOutside status disk disk_new source source_new sink sink_new → FailsByStatus status disk disk_new source source_new sink sink_new
 fails_by_status status disk disk_new source source_new sink sink_new is = record {
@@ -133,6 +144,22 @@ module _ {D R W : Type 0} (disk_of : D → DiskState) (source_of : R → SourceS
     lines = λ can none. tt;
   }
 
+  pub dump_done : IsDump disk_of sink_of before after → DoesWhatCanBeDone Dump after.status after.done (disk_of before.disk) (disk_of after.disk) (source_of before.source) (source_of after.source) (sink_of before.sink) (sink_of after.sink)
+  dump_done is = record {
+    done_or_lacks = λ can none. done_or_lacks after.status (((is.observed can.0).dumps can.1.0 can.1.1 can.1.2).complete none.disk_well none.sink_well);
+    lines = λ can none. tt;
+  }
+
+  pub load_done : IsLoad disk_of source_of sink_of before after → DoesWhatCanBeDone Load after.status after.done (disk_of before.disk) (disk_of after.disk) (source_of before.source) (source_of after.source) (sink_of before.sink) (sink_of after.sink)
+  load_done is = record {
+    done_or_lacks = λ can none.
+        let loadable = can.3 in
+        let listed = loadable.2 in
+        done_or_lacks after.status
+        (((is.observed can.0).loads can.1 empty_tree loadable.0 loadable.1).complete refl listed.0 (record { under = listed.1; listing = listed.2 }) listed.3 can.2 none.disk_well none.source_well);
+    lines = λ can none. tt;
+  }
+
   pub big_done : (number count : ℕ) → IsBig disk_of sink_of number count before after → DoesWhatCanBeDone (Big number count) after.status after.done (disk_of before.disk) (disk_of after.disk) (source_of before.source) (source_of after.source) (sink_of before.sink) (sink_of after.sink)
   big_done number count is = record {
     done_or_lacks = λ can none. done_or_lacks after.status (((is.observed can.0).runs can.1.0 can.1.1 can.1.2).complete none.disk_well none.sink_well);
@@ -182,6 +209,28 @@ module _ {D R W : Type 0} (disk_of : D → DiskState) (before : Outside D R W) (
     unwritten = λ so told.
         let upgrades = is.observed told in
         (upgrades.nothing (no_tree_there after.status (disk_of before.disk) told so upgrades.not_image.only upgrades.damaged.only)).synced;
+    length_is = λ so. let named = is.named (is_past_header after.status so) in (named.0, named.1.in_range, named.1.size_is);
+  }
+
+  pub dump_refuses : (sink_of : W → SinkState) → IsDump disk_of sink_of before after → RefusesImage after.status after.done (disk_of before.disk) (disk_of after.disk) before.source after.source before.sink after.sink
+  dump_refuses sink_of is = record {
+    done_is = λ so. is.done ∙ none_where_refused after.status so;
+    source_is = λ so. is.source;
+    sink_is = λ so. is.refused (is_refused_image after.status so);
+    unwritten = λ so told.
+        let dumps = is.observed told in
+        (dumps.nothing (no_tree_there after.status (disk_of before.disk) told so dumps.not_image.only dumps.damaged.only)).synced;
+    length_is = λ so. let named = is.named (is_past_header after.status so) in (named.0, named.1.in_range, named.1.size_is);
+  }
+
+  pub load_refuses : (source_of : R → SourceState) (sink_of : W → SinkState) → IsLoad disk_of source_of sink_of before after → RefusesImage after.status after.done (disk_of before.disk) (disk_of after.disk) before.source after.source before.sink after.sink
+  load_refuses source_of sink_of is = record {
+    done_is = λ so. (is.refused (is_refused_image after.status so)).done;
+    source_is = λ so. (is.refused (is_refused_image after.status so)).source;
+    sink_is = λ so. (is.refused (is_refused_image after.status so)).sink;
+    unwritten = λ so told.
+        let loads = is.observed told in
+        (loads.nothing (no_tree_there after.status (disk_of before.disk) told so loads.not_image.only loads.damaged.only)).1.synced;
     length_is = λ so. let named = is.named (is_past_header after.status so) in (named.0, named.1.in_range, named.1.size_is);
   }
 

@@ -1,9 +1,9 @@
 -- How a call may end: the statuses of each subcommand and their numbers, spelled out.
 use Rattle.std.specs.Prelude.{◌≡◌, ◌⊎◌, ℕ, List, [], ◌∷◌}
 use Rattle.store_model.specs.Words.{Request}
-use Rattle.store_model.specs.Words.Request.{Format, Run, Session, Check, Scrub, Wipe, Upgrade, Big}
+use Rattle.store_model.specs.Words.Request.{Format, Run, Session, Check, Scrub, Wipe, Upgrade, Dump, Load, Big}
 use Rattle.image_subcommands.specs.declared.status.Status.{Status}
-use Rattle.image_subcommands.specs.declared.status.Status.TheVariants.{Done, Usage, SourceFault, SinkFault, DiskFault, TooLong, NotImage, Damaged, NoMemory, AlreadyImage, WrongLength, Unequal}
+use Rattle.image_subcommands.specs.declared.status.Status.TheVariants.{Done, Usage, SourceFault, SinkFault, DiskFault, TooLong, NotImage, Damaged, NoMemory, AlreadyImage, WrongLength, Unequal, NotEmpty, BadListing, TooFull}
 
 -- the status is one of these
 abbrev pub IsOneOf : Status → List Status → Type 0
@@ -29,6 +29,9 @@ number NoMemory = 9
 number AlreadyImage = 10
 number WrongLength = 11
 number Unequal = 13
+number NotEmpty = 14
+number BadListing = 15
+number TooFull = 16
 
 -- the statuses by which each subcommand may end
 abbrev pub endings : Request → List Status
@@ -39,6 +42,8 @@ endings Check = Done ∷ SinkFault ∷ DiskFault ∷ NotImage ∷ Damaged ∷ No
 endings Scrub = Done ∷ SinkFault ∷ DiskFault ∷ NotImage ∷ Damaged ∷ NoMemory ∷ []
 endings Wipe = Done ∷ DiskFault ∷ NoMemory ∷ []
 endings Upgrade = Done ∷ DiskFault ∷ NotImage ∷ Damaged ∷ NoMemory ∷ []
+endings Dump = Done ∷ SinkFault ∷ DiskFault ∷ NotImage ∷ Damaged ∷ NoMemory ∷ []
+endings Load = Done ∷ SourceFault ∷ SinkFault ∷ DiskFault ∷ TooLong ∷ NotImage ∷ Damaged ∷ NoMemory ∷ NotEmpty ∷ BadListing ∷ TooFull ∷ []
 endings (Big number count) = Done ∷ SinkFault ∷ DiskFault ∷ NotImage ∷ Damaged ∷ NoMemory ∷ []
 
 -- those by which a mirror may end
@@ -59,6 +64,8 @@ CountsWork Check status done = CountsOne (Done ∷ SinkFault ∷ NotImage ∷ Da
 CountsWork Scrub status done = CountsOne (Done ∷ SinkFault ∷ NotImage ∷ Damaged ∷ []) status done
 CountsWork Wipe status done = CountsOne (Done ∷ []) status done
 CountsWork Upgrade status done = CountsOne (Done ∷ []) status done
+CountsWork Dump status done = CountsOne (Done ∷ []) status done
+CountsWork Load status done = CountsOne (Done ∷ []) status done
 CountsWork (Big number count) status done = Unit {0}
 
 -- Words that are not well formed do nothing: nothing is called, and the call says so, or that memory ran out.

@@ -1,11 +1,12 @@
 -- Which failed call a status tells, and when a call is done.
-use Rattle.std.specs.Prelude.{◌≡◌, ◌≢◌, ◌≤◌, ℕ, [], ◌∷◌, length, slice_index}
+use Rattle.std.specs.Prelude.{◌≡◌, ◌≢◌, ◌≤◌, ℕ, List, [], ◌∷◌, length, slice_index}
 use Rattle.store_model.specs.Parameters.{Parameters, IsParameters, image_len}
-use Rattle.store_model.specs.Trees.{Tree}
+use Rattle.store_model.specs.Trees.{Tree, empty_tree}
+use Rattle.store_model.specs.Pages.{page_count, IsTreeUnder}
 use Rattle.store_model.specs.Images.{first_byte, Represents}
 use Rattle.store_model.specs.Scripts.{lines, script_limit}
 use Rattle.store_model.specs.Words.{Request}
-use Rattle.store_model.specs.Words.Request.{Format, Run, Session, Check, Scrub, Wipe, Upgrade, Big}
+use Rattle.store_model.specs.Words.Request.{Format, Run, Session, Check, Scrub, Wipe, Upgrade, Dump, Load, Big}
 use Rattle.store_base.specs.Counts.{raised, Rose}
 use Rattle.disk_model.specs.DiskState.{DiskState}
 use Rattle.disk_model.specs.DiskState as disks
@@ -15,7 +16,8 @@ use Rattle.script_lines.specs.SourceState.{SourceState}
 use Rattle.script_lines.specs.SourceState as sources
 use Rattle.script_lines.specs.SinkState.{SinkState}
 use Rattle.image_subcommands.specs.declared.status.Status.{Status}
-use Rattle.image_subcommands.specs.declared.status.Status.TheVariants.{Done, SourceFault, SinkFault, DiskFault, TooLong, NotImage, Damaged, NoMemory, AlreadyImage, WrongLength}
+use Rattle.image_subcommands.specs.declared.status.Status.TheVariants.{Done, SourceFault, SinkFault, DiskFault, TooLong, NotImage, Damaged, NoMemory, AlreadyImage, WrongLength, NotEmpty, BadListing, TooFull}
+use Rattle.tree_listing.specs.Dumps.{IsListing}
 use Rattle.image_claims.specs.Endings.{IsOneOf, EndsExactly}
 
 -- the count of failed calls is one more where the call ended so, and else as it was
@@ -47,9 +49,13 @@ pub record NoneFailed (disk disk_new : DiskState) (source source_new : SourceSta
 abbrev pub IsDoneOrLacks : Status → Type 0
 IsDoneOrLacks status = IsOneOf status (Done ∷ NoMemory ∷ [])
 
+-- a tree whose listing the script is can be loaded: the image is that of the empty tree, and it fits
+abbrev pub CanBeLoaded : DiskState → List ℕ → Type 0
+CanBeLoaded disk script = (p : Parameters) × Represents disk.bytes empty_tree p × ((t : Tree) × IsTreeUnder t p × IsListing t script × (page_count t p ≤ p.slots))
+
 -- What is asked for can be done: a disk of the image's length that does not begin as one is formatted, an image that represents
--- a tree is run, checked and upgraded, and answers a script of sessions, one of which scrubbing leaves a tree's is scrubbed. Each
--- disk is wiped.
+-- a tree is run, checked, upgraded and dumped, and answers a script of sessions, one of which scrubbing leaves a tree's is scrubbed,
+-- and into one of the empty tree a listing is loaded. Each disk is wiped.
 abbrev pub CanBeDone : Request → DiskState → SourceState → Type 0
 CanBeDone (Format p) disk source = disks.IsObservable disk × (disk.size ≡ image_len p.slots) × (slice_index disk.bytes 0 ≢ first_byte)
 CanBeDone Run disk source = disks.IsObservable disk × sources.IsObservable source × (length source.left ≤ script_limit) × ((t : Tree) × (p : Parameters) × Represents disk.bytes t p)
@@ -58,6 +64,8 @@ CanBeDone Check disk source = disks.IsObservable disk × ((t : Tree) × (p : Par
 CanBeDone Scrub disk source = disks.IsObservable disk × ((t : Tree) × (p : Parameters) × ScrubsTo disk.bytes t p)
 CanBeDone Wipe disk source = Unit {0}
 CanBeDone Upgrade disk source = disks.IsObservable disk × ((t : Tree) × (p : Parameters) × Represents disk.bytes t p)
+CanBeDone Dump disk source = disks.IsObservable disk × ((t : Tree) × (p : Parameters) × Represents disk.bytes t p)
+CanBeDone Load disk source = disks.IsObservable disk × sources.IsObservable source × (length source.left ≤ script_limit) × CanBeLoaded disk source.left
 CanBeDone (Big number count) disk source = disks.IsObservable disk × ((t : Tree) × (p : Parameters) × Represents disk.bytes t p)
 
 -- the count `done` of a run and of sessions that are done: each line was carried out
@@ -69,6 +77,8 @@ CountsLines Check status done source = Unit {0}
 CountsLines Scrub status done source = Unit {0}
 CountsLines Wipe status done source = Unit {0}
 CountsLines Upgrade status done source = Unit {0}
+CountsLines Dump status done source = Unit {0}
+CountsLines Load status done source = Unit {0}
 CountsLines (Big number count) status done source = Unit {0}
 
 -- Where no call failed and memory was there, what can be done is done.
@@ -91,9 +101,11 @@ OpensStore Check = ⊥
 OpensStore Scrub = ⊥
 OpensStore Wipe = ⊥
 OpensStore Upgrade = Unit {0}
+OpensStore Dump = Unit {0}
+OpensStore Load = Unit {0}
 OpensStore (Big number count) = Unit {0}
 
--- What `run`, `session`, `upgrade` and `big` do with a disk that is no image, or a damaged one: no command is carried out, nothing
+-- What `run`, `session`, `upgrade`, `dump`, `load` and `big` do with a disk that is no image, or a damaged one: no command is carried out, nothing
 -- taken and nothing printed, and of a disk that tells its bytes nothing is written. They come past its header only where it has the
 -- length of an image.
 pub record RefusesImage {R W : Type 0} (status : Status) (done : ℕ) (disk disk_new : DiskState) (source source_new : R) (sink sink_new : W) : Type 0 where
@@ -101,4 +113,4 @@ pub record RefusesImage {R W : Type 0} (status : Status) (done : ℕ) (disk disk
   pub source_is : IsOneOf status (NotImage ∷ Damaged ∷ []) → source_new ≡ source
   pub sink_is : IsOneOf status (NotImage ∷ Damaged ∷ []) → sink_new ≡ sink
   pub unwritten : IsOneOf status (NotImage ∷ Damaged ∷ []) → disks.IsObservable disk → IsOnlySynced disk disk_new
-  pub length_is : IsOneOf status (Done ∷ SourceFault ∷ SinkFault ∷ TooLong ∷ Damaged ∷ []) → (p : Parameters) × IsParameters p × (disk.size ≡ image_len p.slots)
+  pub length_is : IsOneOf status (Done ∷ SourceFault ∷ SinkFault ∷ TooLong ∷ Damaged ∷ NotEmpty ∷ BadListing ∷ TooFull ∷ []) → (p : Parameters) × IsParameters p × (disk.size ≡ image_len p.slots)

@@ -16,7 +16,7 @@ use store_top::{Outcome, Words};
 /// A call with any words on any disk, source and sink, whether they tell their bytes or not. It ends by one of the statuses
 /// of its subcommand. Each call of the three that fails is the status, 5, 3 or 4, and no call fails with another status. Where
 /// none failed and memory was there, what can be done is done. A format refuses exactly the length that is not its own;
-/// a run of what is no image, and sessions on it, take nothing and write nothing.
+/// a call that would open a store of what is no image takes nothing and writes nothing.
 pub fn call_anything<D: Disk, R: Source, W: Sink>(
     alloc: Global,
     words: &Words,

@@ -1,6 +1,7 @@
 pub mod CheckLemmas
 pub mod CostLemmas
 pub mod FormatLemmas
+pub mod LineLimits
 pub mod MirrorLemmas
 pub mod OutsideLemmas
 pub mod ReportLemmas

@@ -2,6 +2,7 @@ pub mod CheckCall
 pub mod Compute
 pub mod Endings
 pub mod FormatCall
+pub mod Limits
 pub mod MirrorCall
 pub mod Outside
 pub mod Reports

@@ -3,7 +3,7 @@ use Rattle.std.specs.Prelude.{◌≡◌, ◌⊎◌, ℕ, ◌==◌, List, [], ◌
 use Rattle.std.specs.List.{list_any}
 use Rattle.store_base.specs.Counts.{raised}
 use Rattle.image_subcommands.specs.declared.status.Status.{Status}
-use Rattle.image_subcommands.specs.declared.status.Status.TheVariants.{Done, Usage, SourceFault, SinkFault, DiskFault, TooLong, NotImage, Damaged, NoMemory, AlreadyImage, WrongLength, Unequal}
+use Rattle.image_subcommands.specs.declared.status.Status.TheVariants.{Done, Usage, SourceFault, SinkFault, DiskFault, TooLong, NotImage, Damaged, NoMemory, AlreadyImage, WrongLength, Unequal, NotEmpty, BadListing, TooFull}
 
 -- what a call is asked for: a subcommand of `top`, or a mirror
 pub data Subcommand : Type 0 where
@@ -16,14 +16,16 @@ pub data Subcommand : Type 0 where
   Upgrade : Subcommand
   Big : Subcommand
   Mirror : Subcommand
+  Dump : Subcommand
+  Load : Subcommand
 
 -- all of them
 abbrev every_word : List Subcommand
-every_word = Format ∷ Run ∷ Session ∷ Check ∷ Scrub ∷ Wipe ∷ Upgrade ∷ Big ∷ Mirror ∷ []
+every_word = Format ∷ Run ∷ Session ∷ Check ∷ Scrub ∷ Wipe ∷ Upgrade ∷ Big ∷ Mirror ∷ Dump ∷ Load ∷ []
 
 -- those for which there has to be an image
 abbrev words_on_image : List Subcommand
-words_on_image = Run ∷ Session ∷ Check ∷ Scrub ∷ Upgrade ∷ Big ∷ Mirror ∷ []
+words_on_image = Run ∷ Session ∷ Check ∷ Scrub ∷ Upgrade ∷ Big ∷ Mirror ∷ Dump ∷ Load ∷ []
 
 -- the place of each in that order, by which two are told apart
 abbrev place_of : Subcommand → ℕ
@@ -36,6 +38,8 @@ place_of Wipe = 5
 place_of Upgrade = 6
 place_of Big = 7
 place_of Mirror = 8
+place_of Dump = 9
+place_of Load = 10
 
 -- whether it is one of these
 abbrev pub is_among : Subcommand → List Subcommand → Bool
@@ -98,16 +102,19 @@ with_code code = record {
 abbrev pub row : Status → Row
 row Done = record (with_code 0) { words = every_word; is_done = true; is_judged = true; is_past_header = true; is_between_lines = true; is_mirrored = true }
 row Usage = with_code 2
-row SourceFault = record (with_code 3) { words = Run ∷ Session ∷ []; failed = TheSource; is_past_header = true; is_between_lines = true; is_cut_short = true }
-row SinkFault = record (with_code 4) { words = Run ∷ Session ∷ Check ∷ Scrub ∷ Big ∷ Mirror ∷ []; failed = TheSink; is_judged = true; is_past_header = true; is_between_lines = true; is_mirrored = true }
+row SourceFault = record (with_code 3) { words = Run ∷ Session ∷ Load ∷ []; failed = TheSource; is_past_header = true; is_between_lines = true; is_cut_short = true }
+row SinkFault = record (with_code 4) { words = Run ∷ Session ∷ Check ∷ Scrub ∷ Big ∷ Mirror ∷ Dump ∷ Load ∷ []; failed = TheSink; is_judged = true; is_past_header = true; is_between_lines = true; is_mirrored = true }
 row DiskFault = record (with_code 5) { words = every_word; failed = TheDisk; is_cut_short = true; may_come_first = true }
-row TooLong = record (with_code 6) { words = Run ∷ Session ∷ []; is_past_header = true; is_between_lines = true; is_cut_short = true }
+row TooLong = record (with_code 6) { words = Run ∷ Session ∷ Load ∷ []; is_past_header = true; is_between_lines = true; is_cut_short = true }
 row NotImage = record (with_code 7) { words = words_on_image; is_judged = true; refuses_image = true; spares_second = true }
 row Damaged = record (with_code 8) { words = words_on_image; is_judged = true; refuses_image = true; is_past_header = true; spares_second = true }
 row NoMemory = record (with_code 9) { words = every_word; is_cut_short = true; may_come_first = true; spares_second = true }
 row AlreadyImage = record (with_code 10) { words = Format ∷ []; refuses_disk = true }
 row WrongLength = record (with_code 11) { words = Format ∷ []; refuses_disk = true }
 row Unequal = record (with_code 13) { words = Mirror ∷ []; spares_second = true }
+row NotEmpty = record (with_code 14) { words = Load ∷ []; is_past_header = true }
+row BadListing = record (with_code 15) { words = Load ∷ []; is_past_header = true }
+row TooFull = record (with_code 16) { words = Load ∷ []; is_past_header = true }
 
 -- ---- what follows from it
 
@@ -154,7 +161,7 @@ MayComeFirst status = IsTrue (row status).may_come_first
 abbrev pub one_if : Bool → ℕ
 one_if b = if b then 1 else 0
 
--- the count `done` of `format`, `wipe` and `upgrade`, and that of `check` and `scrub`
+-- the count `done` of `format`, `wipe`, `upgrade`, `dump` and `load`, and that of `check` and `scrub`
 abbrev pub done_of_work : Status → ℕ
 done_of_work status = one_if (row status).is_done
 

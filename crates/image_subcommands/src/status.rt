@@ -22,9 +22,9 @@ pub enum Status {
     Usage,
     /// A take from the source failed. The image is the layout of the tree after the answered lines.
     SourceFault,
-    /// A put into the sink failed. With `run` and `session` the image is the layout of the tree after the answered lines, with `big`
-    /// that of the tree after all commands; with `scrub` it is scrubbed, where scrubbing leaves the layout of a tree;
-    /// with a mirror the second image is the first.
+    /// A put into the sink failed. With `run` and `session` the image is the layout of the tree after the answered
+    /// lines, with `big` that of the tree after all commands; with `scrub` it is scrubbed, where scrubbing leaves the
+    /// layout of a tree; with a mirror the second image is the first.
     SinkFault,
     /// A read, a write or a sync of a disk failed.
     DiskFault,
@@ -34,8 +34,8 @@ pub enum Status {
     /// The disk's header, as recovery would leave it, is that of no image of its length; with a mirror, that of either
     /// disk. Nothing was written.
     NotImage,
-    /// What recovery would leave is the layout of no tree, or for `scrub` what scrubbing would leave; with a mirror, so it
-    /// is of the first image. Nothing was written.
+    /// What recovery would leave is the layout of no tree, or for `scrub` what scrubbing would leave; with a mirror, so
+    /// it is of the first image. Nothing was written.
     Damaged,
     /// Memory ran out.
     NoMemory,
@@ -45,6 +45,13 @@ pub enum Status {
     WrongLength,
     /// The images of a mirror have other parameters, or are of other versions of the format. Nothing was written.
     Unequal,
+    /// The image of a load is not empty. It is as it was, and nothing was taken from the source.
+    NotEmpty,
+    /// What a load was given is no listing. The image is as it was, and the source was read to its end.
+    BadListing,
+    /// The tree of a listing has more pages than the image has slots. The image is as it was, and both numbers are
+    /// printed.
+    TooFull,
 }
 
 impl Status {
@@ -65,10 +72,13 @@ impl Status {
             Status::AlreadyImage => 10,
             Status::WrongLength => 11,
             Status::Unequal => 13,
+            Status::NotEmpty => 14,
+            Status::BadListing => 15,
+            Status::TooFull => 16,
         }
     }
 
-    /// How many pieces of work were carried out by `format`, `wipe` or `upgrade`: one or none.
+    /// How many pieces of work were carried out by `format`, `wipe`, `upgrade`, `dump` or `load`: one or none.
     pub fn done_of_work(self) -> u64
         ensures { result ≡ done_of_work self }
     {

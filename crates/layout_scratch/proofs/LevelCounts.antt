@@ -16,7 +16,7 @@ use Rattle.layout_scratch.proofs.LevelCells.{stays, cell_of}
 use Rattle.layout_scratch.proofs.LevelPages.{pages_of_group, level_pages-first, level_pages-none, ranked_behind, ranked_front}
 
 -- how many pages a group has
-length-group_pages : (level : ℕ) (lead : Lead) (cells : List Cell) → length (group_pages level lead cells) ≡ run_count (page_room level) (length cells)
+pub length-group_pages : (level : ℕ) (lead : Lead) (cells : List Cell) → length (group_pages level lead cells) ≡ run_count (page_room level) (length cells)
 unfolding group_pages
 length-group_pages level lead cells =
     length-map (enumerate_from 0 (runs (page_room level) cells)) (λ (run : ℕ × List Cell). record { label = record { level = level; lead = lead; index = run.0 }; cells = run.1 })

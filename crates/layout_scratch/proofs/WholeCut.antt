@@ -21,26 +21,32 @@ use Rattle.layout_scratch.specs.Ranks.{pairs_of, AreRanked}
 length-by_key : (pairs : List Pair) → length (by_key pairs) ≡ length pairs
 length-by_key pairs = length_permutation pairs (by_key pairs) (IsPermutation-in_order pair_cmp pairs)
 
+-- as many as are ranked
+pub length-ranked : (ranked : List Ranked) (pairs : List Pair) → pairs_of ranked ≡ pairs → length ranked ≡ length pairs
+length-ranked ranked pairs same = sym (length-map ranked (λ (r : Ranked). r.pair.now)) ∙ ap length same
+
+-- and so many in the order of their keys
+pub length-sorted : (sorted : List Ranked) (pairs : List Pair) → pairs_of sorted ≡ by_key pairs → length sorted ≡ length pairs
+length-sorted sorted pairs same = length-ranked sorted (by_key pairs) same ∙ length-by_key pairs
+
 -- the ranked pairs: they are few, their keys rise, their levels are drawn, and the pages of their levels are all pages, which come by rank
 pub record IsWhole (d : Draw) (pairs : List Pair) (height : ℕ) (ranked : List Ranked) : Type 0 where
   pub few : length ranked ≤ sorted_limit
   pub rising : IsStrictlySortedBy pair_cmp (pairs_of ranked)
   pub levels : AreRanked d ranked
-  pub all : flat_map (level_pages d (pairs_of ranked)) (numbers_below height) ≡ pages_of_pairs d (by_key pairs)
-  pub by_rank : IsStrictlySortedBy label_cmp (map (λ page. page.label) (pages_of_pairs d (by_key pairs)))
+  pub all : flat_map (level_pages d (pairs_of ranked)) (numbers_below height) ≡ pages_of_pairs d pairs
+  pub by_rank : IsStrictlySortedBy label_cmp (map (λ page. page.label) (pages_of_pairs d pairs))
 
-pub whole : (d : Draw) (pairs : List Pair) (height : ℕ) (sorted ranked : List Ranked) → length pairs ≤ sorted_limit → height ≡ d.height → ranked ≡ sorted → pairs_of sorted ≡ by_key pairs → AreRanked d sorted → IsPairs (by_key pairs) → IsWhole d pairs height ranked
+pub whole : (d : Draw) (height : ℕ) (pairs ranked : List Ranked) → length pairs ≤ sorted_limit → height ≡ d.height → ranked ≡ pairs → AreRanked d pairs → IsPairs (pairs_of pairs) → IsWhole d (pairs_of pairs) height ranked
 unfolding pages_of_pairs
-whole d pairs height sorted ranked few height_is same sorted_are levels valid =
-    let pairs_are = ap pairs_of same ∙ sorted_are in
-    record {
-      few = omega (arith, length-map ranked (λ (r : Ranked). r.pair.now), ap length pairs_are, length-by_key pairs);
-      rising = subst (IsStrictlySortedBy pair_cmp) (sym pairs_are) (rising_from_is_sorted key_cmp (by_key pairs) valid.sorted);
-      levels = subst (AreRanked d) (sym same) levels;
-      all = ap₂ (λ s n. flat_map (level_pages d s) (numbers_below n)) pairs_are height_is;
-      by_rank = rising_labels d (by_key pairs) (record {
-        sorted = valid.sorted;
-        lengths = all_weaker _ _ (λ pair is. is.key_length) (by_key pairs) valid.pairs;
-        few = omega (arith, length-by_key pairs);
-      });
-    }
+whole d height pairs ranked few height_is same levels valid = record {
+  few = omega (arith, ap length same);
+  rising = subst (λ rs. IsStrictlySortedBy pair_cmp (pairs_of rs)) (sym same) (rising_from_is_sorted key_cmp (pairs_of pairs) valid.sorted);
+  levels = subst (AreRanked d) (sym same) levels;
+  all = ap₂ (λ rs n. flat_map (level_pages d (pairs_of rs)) (numbers_below n)) same height_is;
+  by_rank = rising_labels d (pairs_of pairs) (record {
+    sorted = valid.sorted;
+    lengths = all_weaker _ _ (λ pair is. is.key_length) (pairs_of pairs) valid.pairs;
+    few = omega (arith, length-map pairs (λ (r : Ranked). r.pair.now));
+  });
+}

@@ -1,4 +1,4 @@
-//! The pages of a list of pairs: sorted by key, cut into groups on each level, and these into pages.
+//! The pages of pairs in the order of their keys: cut into groups on each level, and these into pages.
 
 ghost use Rattle.std.specs.Prelude.{◌≡◌, ◌≤◌, ◌++◌, length, map, IfOk, IfErr, OnOk};
 ghost use Rattle.std.specs.List.{flat_map};
@@ -7,16 +7,17 @@ ghost use Rattle.store_model.specs.Parameters.{height_limit};
 ghost use Rattle.store_model.specs.Lists.{numbers_below};
 ghost use Rattle.store_model.specs.Labels.{label_cmp};
 ghost use Rattle.store_model.specs.Draws as draws;
+ghost use Rattle.store_model.specs.Pairs.{IsPairs};
 ghost use Rattle.store_model.specs.Pages.{level_pages, pages_of_pairs};
-ghost use Rattle.layout_scratch.specs.Sorting.{HasDistinctKeys, pair_cmp, by_key, sorted_limit};
+ghost use Rattle.layout_scratch.specs.Sorting.{pair_cmp, sorted_limit};
 ghost use Rattle.layout_scratch.specs.Ranks.{pairs_of, AreRanked};
-ghost use Rattle.layout_scratch.specs.Faults.{IsRefusal};
+ghost use Rattle.layout_scratch.specs.Faults.{RefusesPages};
 
 use crate::count::page_count;
 use crate::fault::ScratchFault;
 use crate::groups::{cells_of_group, first_group, lead_of_group};
-use crate::ranked::{Ranked, sorted_pairs};
-use node_pages::{PageList, PairList, append_group};
+use crate::ranked::Ranked;
+use node_pages::{PageList, append_group};
 use seeded_draw::Draw;
 use std::alloc::Global;
 use store_base::NoMemory;
@@ -53,23 +54,23 @@ fn cut_levels(alloc: Global, height: u8, ranked: &[Ranked]) -> Result<PageList, 
     Ok(pages)
 }
 
-/// The pages of these pairs, level after level and group after group. `Full` comes exactly where they are more than the
-/// draw's slots.
+/// The pages of pairs whose keys rise, level after level and group after group. `Full` comes exactly where they are more
+/// than the draw's slots.
 pub fn cut_pages<W: Draw>(
     alloc: Global,
     draw: &W,
-    pairs: &PairList,
+    pairs: Vec<Ranked>,
 ) -> Result<PageList, ScratchFault>
-    requires distinct { HasDistinctKeys pairs.now }
-    requires few { length pairs.now ≤ sorted_limit }
+    requires rising { IsPairs (pairs_of pairs.items) }
+    requires levels { AreRanked (W.drawn draw.now) pairs.items }
+    requires few { length pairs.items ≤ sorted_limit }
     requires height { (W.drawn draw.now).height ≤ height_limit }
-    ensures value { IfOk result (λ pages. pages ≡ pages_of_pairs (W.drawn draw.now) (by_key pairs.now)) }
+    ensures value { IfOk result (λ pages. pages ≡ pages_of_pairs (W.drawn draw.now) (pairs_of pairs.entry.items)) }
     ensures fits { IfOk result (λ pages. length pages ≤ (W.drawn draw.now).slots) }
     ensures ranked { IfOk result (λ pages. IsStrictlySortedBy label_cmp (map (λ page. page.label) pages)) }
-    ensures full { IfErr result (IsRefusal (W.drawn draw.now) pairs.now) }
+    ensures full { IfErr result (RefusesPages (W.drawn draw.now) (pages_of_pairs (W.drawn draw.now) (pairs_of pairs.entry.items))) }
 {
-    let sorted = sorted_pairs(alloc, draw, pairs)?;
-    let ranked = sorted.as_slice();
+    let ranked = pairs.as_slice();
     let height = draw.height();
     let need = page_count(height, ranked);
     let slots = draw.slots();

@@ -4,19 +4,36 @@ ghost use Rattle.std.specs.Prelude.{◌≡◌, ◌≤◌, length, IfOk, IfErr};
 ghost use Rattle.seeded_draw.specs.AnyDrawn.{any_draw};
 ghost use Rattle.store_model.specs.Parameters.{IsParameters, height_limit};
 ghost use Rattle.store_model.specs.Draws.{draw_of};
+ghost use Rattle.store_model.specs.Pairs.{IsPairs};
 ghost use Rattle.store_model.specs.Pages.{pages_of_pairs};
 ghost use Rattle.store_model.specs.Placement.{place};
 ghost use Rattle.layout_scratch.specs.Sorting.{HasDistinctKeys, by_key, sorted_limit};
-ghost use Rattle.layout_scratch.specs.Faults.{IsRefusal};
+ghost use Rattle.layout_scratch.specs.Ranks.{pairs_of, AreRanked};
+ghost use Rattle.layout_scratch.specs.Faults.{IsRefusal, RefusesPages};
 
 use crate::cut::cut_pages;
 use crate::fault::ScratchFault;
 use crate::layout::Layout;
 use crate::place::place_pages;
+use crate::ranked::{Ranked, ranked_pairs, sorted_pairs};
 use node_pages::PairList;
 use seeded_draw::{AnyDraw, Draw};
 use std::alloc::Global;
 use store_base::Params;
+
+/// The layout of pairs whose keys rise, under a draw.
+fn lay_out<W: Draw>(alloc: Global, draw: &W, pairs: Vec<Ranked>) -> Result<Layout, ScratchFault>
+    requires rising { IsPairs (pairs_of pairs.items) }
+    requires levels { AreRanked (W.drawn draw.now) pairs.items }
+    requires few { length pairs.items ≤ sorted_limit }
+    requires height { (W.drawn draw.now).height ≤ height_limit }
+    ensures value { IfOk result (λ layout. layout ≡ place (W.drawn draw.now) (pages_of_pairs (W.drawn draw.now) (pairs_of pairs.entry.items))) }
+    ensures fits { IfOk result (λ _. length (pages_of_pairs (W.drawn draw.now) (pairs_of pairs.entry.items)) ≤ (W.drawn draw.now).slots) }
+    ensures full { IfErr result (RefusesPages (W.drawn draw.now) (pages_of_pairs (W.drawn draw.now) (pairs_of pairs.entry.items))) }
+{
+    let pages = cut_pages(alloc, draw, pairs)?;
+    Ok(place_pages(alloc, draw, pages)?)
+}
 
 /// The layout of a list of pairs under a draw.
 fn build_by<W: Draw>(alloc: Global, draw: &W, pairs: &PairList) -> Result<Layout, ScratchFault>
@@ -27,8 +44,25 @@ fn build_by<W: Draw>(alloc: Global, draw: &W, pairs: &PairList) -> Result<Layout
     ensures fits { IfOk result (λ _. length (pages_of_pairs (W.drawn draw.now) (by_key pairs.now)) ≤ (W.drawn draw.now).slots) }
     ensures full { IfErr result (IsRefusal (W.drawn draw.now) pairs.now) }
 {
-    let pages = cut_pages(alloc, draw, pairs)?;
-    Ok(place_pages(alloc, draw, pages)?)
+    let sorted = sorted_pairs(alloc, draw, pairs)?;
+    lay_out(alloc, draw, sorted)
+}
+
+/// The layout of a list of pairs whose keys rise, under a draw.
+fn build_sorted_by<W: Draw>(
+    alloc: Global,
+    draw: &W,
+    pairs: &PairList,
+) -> Result<Layout, ScratchFault>
+    requires rising { IsPairs pairs.now }
+    requires few { length pairs.now ≤ sorted_limit }
+    requires height { (W.drawn draw.now).height ≤ height_limit }
+    ensures value { IfOk result (λ layout. layout ≡ place (W.drawn draw.now) (pages_of_pairs (W.drawn draw.now) pairs.now)) }
+    ensures fits { IfOk result (λ _. length (pages_of_pairs (W.drawn draw.now) pairs.now) ≤ (W.drawn draw.now).slots) }
+    ensures full { IfErr result (RefusesPages (W.drawn draw.now) (pages_of_pairs (W.drawn draw.now) pairs.now)) }
+{
+    let ranked = ranked_pairs(alloc, draw, pairs)?;
+    lay_out(alloc, draw, ranked)
 }
 
 /// Says that the parameters are some, so that their height is one. It costs nothing.
@@ -52,4 +86,23 @@ pub fn build(alloc: Global, params: &Params, pairs: &PairList) -> Result<Layout,
 {
     reveal_params(params);
     build_by(alloc, &AnyDraw::new(params), pairs)
+}
+
+/// The layout of a list of pairs whose keys rise, at most 268,435,456 of them, as `build`: nothing is sorted.
+///
+/// `Full` comes exactly where the pages are more than the slots, and says how many they are.
+#[tactic(auto, unfolding(store_model::specs::Draws::draw_of))]
+pub fn build_sorted(
+    alloc: Global,
+    params: &Params,
+    pairs: &PairList,
+) -> Result<Layout, ScratchFault>
+    requires rising { IsPairs pairs.now }
+    requires few { length pairs.now ≤ sorted_limit }
+    ensures value { IfOk result (λ layout. layout ≡ place (draw_of params.now) (pages_of_pairs (draw_of params.now) pairs.now)) }
+    ensures fits { IfOk result (λ _. length (pages_of_pairs (draw_of params.now) pairs.now) ≤ params.now.slots) }
+    ensures full { IfErr result (RefusesPages (draw_of params.now) (pages_of_pairs (draw_of params.now) pairs.now)) }
+{
+    reveal_params(params);
+    build_sorted_by(alloc, &AnyDraw::new(params), pairs)
 }

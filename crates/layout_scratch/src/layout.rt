@@ -1,6 +1,6 @@
 //! Layouts.
 
-ghost use Rattle.std.specs.Prelude.{◌≡◌, ◌<◌, length, Option, Some, slice_get};
+ghost use Rattle.std.specs.Prelude.{◌≡◌, ◌<◌, length, Option, Some, IfSome, is_some, slice_get};
 ghost use Rattle.store_model.specs.Pages as model;
 ghost use Rattle.store_model.specs.Placement.{pages_in};
 ghost use Rattle.store_model.specs.Images.{slot_bytes};
@@ -48,6 +48,19 @@ impl Layout {
         match self.places[at as usize] {
             Some(number) => *into = *self.pages.get(number).as_slot(),
             None => *into = [0; BLOCK],
+        }
+    }
+
+    /// The bytes of slot `at`, which has to be one of the table's, where it holds a page.
+    #[tactic(auto, unfolding(store_model::specs::Images::slot_bytes))]
+    pub fn look(&self, at: u32) -> Option<&Slot>
+        requires { at < length self.now }
+        ensures page { (held : Option model.Page) → slice_get self.now at ≡ Some held → is_some result ≡ is_some held }
+        ensures bytes { (held : Option model.Page) → slice_get self.now at ≡ Some held → IfSome result (λ slot. slot.now ≡ slot_bytes held) }
+    {
+        match self.places[at as usize] {
+            Some(number) => Some(self.pages.get(number).as_slot()),
+            None => None,
         }
     }
 }

@@ -7,6 +7,7 @@
 
 mod compare;
 mod count;
+mod counter;
 mod cut;
 mod fault;
 mod from_pairs;
@@ -16,6 +17,7 @@ mod place;
 mod ranked;
 
 pub use compare::are_layout;
+pub use counter::PageCounter;
 pub use fault::ScratchFault;
-pub use from_pairs::build;
+pub use from_pairs::{build, build_sorted};
 pub use layout::Layout;

@@ -11,7 +11,7 @@ ghost use Rattle.layout_scratch.specs.Layouts.{table_of, IsNumber};
 
 use crate::layout::Layout;
 use node_pages::PageList;
-use seeded_draw::Draw;
+use seeded_draw::{Draw, Front};
 use std::alloc::Global;
 use store_base::NoMemory;
 
@@ -37,8 +37,14 @@ fn first_free(places: &[Option<u32>], start: usize) -> Option<usize>
     }
 }
 
-/// Puts the page with this number in the first free slot of its probe sequence.
-fn put<W: Draw>(draw: &W, pages: &PageList, number: u32, places: &mut [Option<u32>])
+/// Puts the page with this number in the first free slot of its probe sequence. The front helps to draw its start.
+fn put<W: Draw>(
+    draw: &W,
+    front: &mut Front,
+    pages: &PageList,
+    number: u32,
+    places: &mut [Option<u32>],
+)
     requires slots { length places.old ≡ (W.drawn draw.now).slots }
     requires numbers { AllByRecursion (IsNumber pages.now) places.old }
     requires page { number < length pages.now }
@@ -46,7 +52,7 @@ fn put<W: Draw>(draw: &W, pages: &PageList, number: u32, places: &mut [Option<u3
     ensures value { IfSome (slice_get pages.now number) (λ page. table_of pages.now places.new
         ≡ put_first_free (W.drawn draw.now) (table_of pages.now places.old) page) }
 {
-    let start = draw.start(&pages.get(number).label()) as usize;
+    let start = draw.start_from(front, &pages.get(number).label()) as usize;
     if let Some(at) = first_free(places, start) {
         places[at] = Some(number);
     }
@@ -59,9 +65,10 @@ pub fn place_pages<W: Draw>(alloc: Global, draw: &W, pages: PageList) -> Result<
     requires fits { length pages ≤ (W.drawn draw.now).slots }
     ensures { IfOk result (λ layout. layout ≡ place (W.drawn draw.now) pages) }
 {
+    let mut front = Front::new();
     let mut places = vec![in alloc; None; draw.slots() as usize]?;
     for number in 0..pages.len() {
-        put(draw, &pages, number, &mut places);
+        put(draw, &mut front, &pages, number, &mut places);
     }
     Ok(Layout { pages, places })
 }

@@ -11,7 +11,7 @@ ghost use Rattle.layout_scratch.specs.Sorting.{HasDistinctKeys, by_key};
 ghost use Rattle.layout_scratch.specs.Ranks.{key_of, pairs_of, AreRanked};
 
 use node_pages::{PairList, reveal_pair};
-use seeded_draw::Draw;
+use seeded_draw::{Draw, Front};
 use std::alloc::Global;
 use std::cmp::Ordering;
 use store_base::{Key, NoMemory, Value};
@@ -72,7 +72,7 @@ fn reveal(pair: &(Key, Value))
 }
 
 /// The pairs as they come, each with the level of its key.
-fn ranked_pairs<'a, W: Draw>(
+pub fn ranked_pairs<'a, W: Draw>(
     alloc: Global,
     draw: &W,
     pairs: &'a PairList,
@@ -81,12 +81,13 @@ fn ranked_pairs<'a, W: Draw>(
     ensures levels { IfOk result (λ ranked. AreRanked (W.drawn draw.now) ranked.items) }
     ensures valid { IfOk result (λ _. AllByRecursion IsPair pairs.now) }
 {
+    let mut front = Front::new();
     let mut ranked = Vec::with_capacity(alloc, pairs.len() as usize)?;
     for pair in pairs.as_slice() {
         reveal(pair);
         ranked.push(Ranked {
             pair,
-            level: draw.level(&pair.0),
+            level: draw.level_from(&mut front, &pair.0),
         })?;
     }
     Ok(ranked)

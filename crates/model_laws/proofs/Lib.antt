@@ -1,4 +1,5 @@
 pub mod AttributesLemmas
+pub mod CommandsLemmasTexts
 pub mod HeadersLemmas
 pub mod PagesLemmasGroups
 pub mod PagesLemmasKeys

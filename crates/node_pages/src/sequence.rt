@@ -1,6 +1,6 @@
 //! Lists of pages and of pairs.
 
-ghost use Rattle.std.specs.Prelude.{◌≡◌, ◌<◌, ◌↔◌, [], ◌∷◌, ◌++◌, length, Some, IfOk, OnOk, OnErr, IsTrue, slice_get};
+ghost use Rattle.std.specs.Prelude.{◌≡◌, ◌<◌, ◌↔◌, [], ◌∷◌, ◌++◌, length, Some, IfOk, OnOk, OnErr, IsTrue, slice_get, slice_set};
 
 use crate::page::Page;
 use std::alloc::Global;
@@ -106,6 +106,21 @@ impl<T: Drop> Sequence<T> {
         }
         self.items.push(item)?;
         Ok(())
+    }
+
+    /// Puts an item in the place of item `i`, the first being 0.
+    pub fn set(&mut self, i: u32, item: T)
+        requires { i < length self.old }
+        ensures { self.new ≡ slice_set self.old i item }
+    {
+        self.items[i as usize] = item;
+    }
+
+    /// Leaves no item, and keeps the memory.
+    pub fn clear(&mut self)
+        ensures { self.new ≡ [] }
+    {
+        self.items.clear();
     }
 }
 

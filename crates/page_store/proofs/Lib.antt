@@ -3,6 +3,7 @@ pub mod CommitLemmas
 pub mod FindLemmas
 pub mod SettleLemmas
 pub mod SlotLemmas
+pub mod SlotSettles
 pub mod StagedCalls
 pub mod StagedLemmas
 pub mod TreeLayouts

@@ -74,7 +74,7 @@ module _ {D W : Type 0} {state : D → DiskState} {drawn : W → Draw} {p q : Pa
   abbrev Either : CommitKind → List ℕ → Type 0
   Either kind image = RepresentsPages (drawn draw) p table image ⊎ RepresentsPages (drawn draw) (params_by kind p) pages image
 
-  counted : IsObservable (state disk) → CountsPages (drawn draw) p (state disk) touched changes used settled
+  pub counted : IsObservable (state disk) → CountsPages (drawn draw) p (state disk) touched changes used settled
   counted observable = at.staged.counted observable runs
 
   represents : IsObservable (state disk) → RepresentsPages (drawn draw) p table (state disk).bytes

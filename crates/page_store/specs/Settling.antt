@@ -1,11 +1,14 @@
 -- What a settle does.
-use Rattle.std.specs.Prelude.{◌≡◌, ◌⊎◌, ℕ, ◌<◌, Bool, true, false, Result, Ok, Err, OnOk, OnErr, IsErrOf}
+use Rattle.std.specs.Prelude.{◌≡◌, ◌⊎◌, ℕ, ◌<◌, List, Bool, true, false, Result, Ok, Err, OnOk, OnErr, IsErrOf}
 use Rattle.std.specs.FinMap as maps
 use Rattle.store_model.specs.Parameters.{Parameters}
 use Rattle.store_model.specs.Draws.{Draw}
-use Rattle.store_model.specs.PageMaps.{PageMap}
+use Rattle.store_model.specs.PageMaps.{PageMap, HoldsPages}
+use Rattle.store_base.specs.Counts.{faults_after}
 use Rattle.disk_model.specs.DiskState.{DiskState, IsObservable}
 use Rattle.disk_model.specs.DiskCalls.{Rose, LeavesOnly}
+use Rattle.gate_journal.specs.Changes.{Changes, with_slots}
+use Rattle.gate_journal.specs.Costs.{CountsCommit}
 use Rattle.gate_journal.specs.Places.{ReadsOnly}
 use Rattle.gate_journal.specs.Disks.{KeepsDisk}
 use Rattle.page_store.specs.declared.commit_kind.CommitKind.{CommitKind}
@@ -14,7 +17,7 @@ use Rattle.page_store.specs.declared.fault.SettleFault.{SettleFault}
 use Rattle.page_store.specs.declared.fault.SettleFault.TheVariants as causes
 use Rattle.page_store.specs.CommitKinds.{params_by, params_after, LeavesPages, CountsBy}
 use Rattle.page_store.specs.Faults.{settle_faults_after}
-use Rattle.page_store.specs.PageImages.{SlotStandsAt, RepresentsPages, slots_between}
+use Rattle.page_store.specs.PageImages.{table_slots, SlotStandsAt, RepresentsPages, slots_between}
 use Rattle.page_store.specs.StagedState.{StagedState}
 
 -- more pages than slots, and how many of both
@@ -76,3 +79,38 @@ Settles state drawn old new result = SettlesBy Plain state drawn old new result
 -- version 2, and that is written where no page changed too.
 abbrev pub SettlesUpgrade : {D W T : Type 0} → (D → DiskState) → (W → Draw) → StagedState D W → StagedState D W → Result T SettleFault → Type 0
 SettlesUpgrade state drawn old new result = SettlesBy Upgrade state drawn old new result
+
+-- ---- slots
+
+-- Changed slots lead the table of an image to the placement of a map of so many pages.
+pub record LeadsTo (d : Draw) (p : Parameters) (changes : Changes) (image : List ℕ) (m : PageMap) (pages : ℕ) : Type 0 where
+  pub holds : HoldsPages d (table_slots p.slots (with_slots p.slots changes image)) m
+  pub count : pages ≡ maps.len m
+
+-- What a settle of so many slots does to an observable disk that stands at the one map, where they lead to the other.
+pub record SettlesSlotsTo {T E : Type 0} (d : Draw) (p : Parameters) (table map : PageMap) (count : ℕ) (old new : DiskState) (result : Result T E) : Type 0 where
+  pub stands : OnOk result (SlotStandsAt d p map new)
+  -- a crash at any moment of the call leaves an image of the one map or of the other, and the disk reads one
+  pub crash : LeavesOnly old new (λ image. RepresentsPages d p table image ⊎ RepresentsPages d p map image)
+  pub reads : RepresentsPages d p table new.bytes ⊎ RepresentsPages d p map new.bytes
+  -- these slots are committed, and no others; where there are none the disk is as it was
+  pub still : count ≡ 0 → ReadsOnly old new
+  pub counts : CountsCommit count old new result
+  -- a fault came at a write, or behind one
+  pub wrote : OnErr result (Rose old.writes new.writes)
+
+-- These slots are settled, of which nothing is staged.
+pub record SettlesSlots {D W T E : Type 0} (state : D → DiskState) (drawn : W → Draw) (changes : Changes) (pages : ℕ) (old new : StagedState D W) (result : Result T E) : Type 0 where
+  pub params : new.params ≡ old.params
+  pub draw : new.draw ≡ old.draw
+  pub lookups : new.lookups ≡ old.lookups
+  pub kept : KeepsDisk (state old.disk) (state new.disk)
+  pub faults : (state new.disk).faults ≡ faults_after (state old.disk).faults result
+  -- a fault spends the value, and nothing else does
+  pub runs : OnOk result (new.is_spent ≡ false)
+  pub spends : OnErr result (new.is_spent ≡ true)
+  -- after Ok the table has the pages to which the slots lead, and nothing is staged
+  pub table : IsObservable (state old.disk) → (m : PageMap) → LeadsTo (drawn old.draw) old.params changes (state old.disk).bytes m pages → OnOk result (new.table ≡ m)
+  pub none_staged : OnOk result (new.map ≡ new.table)
+  pub observed : IsObservable (state old.disk) → (m : PageMap) → LeadsTo (drawn old.draw) old.params changes (state old.disk).bytes m pages
+      → SettlesSlotsTo (drawn old.draw) old.params old.table m changes.count (state old.disk) (state new.disk) result

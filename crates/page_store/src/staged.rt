@@ -7,6 +7,7 @@ ghost use Rattle.store_model.specs.Labels.{label_bytes};
 ghost use Rattle.store_model.specs.Parameters.{image_len};
 ghost use Rattle.disk_model.specs.DiskState.{IsObservable};
 ghost use Rattle.sha2.specs.Sha256.{sha256};
+ghost use Rattle.gate_journal.specs.Changes.{AreChanges};
 ghost use Rattle.gate_journal.specs.Places.{AreCalls, ReadsOnly};
 ghost use Rattle.store_model.specs.PageMaps.{PageMap, IsPageMap, page_at};
 ghost use Rattle.node_pages.specs.PagesState.{IsPageGet, IsPagePut, IsPageDrop, looked_at, most_pages};
@@ -14,7 +15,7 @@ ghost use Rattle.table_memory.specs.Memos.{memo_place, IsKnown};
 ghost use Rattle.page_store.specs.PageImages.{pages_in_table, SlotStandsAt};
 ghost use Rattle.table_memory.specs.Staging.{with_change, used_after};
 ghost use Rattle.store_model.specs.declared.version.Version.TheVariants.{One};
-ghost use Rattle.page_store.specs.Settling.{SettlesBy, Settles, SettlesUpgrade};
+ghost use Rattle.page_store.specs.Settling.{SettlesBy, Settles, SettlesUpgrade, SettlesSlots, LeadsTo};
 
 use crate::changes::Changes;
 use crate::commit_kind::CommitKind;
@@ -22,9 +23,9 @@ use crate::fault::SettleFault;
 use crate::lookup::Lookup;
 use crate::overlay::Overlay;
 use crate::prepare::find_slots;
-use crate::write_back::commit_slots;
+use crate::write_back::{commit_anew, commit_slots};
 use disk_model::Disk;
-use gate_journal::Journal;
+use gate_journal::{Journal, SlotChanges};
 use node_pages::{Cell, Page, Pages};
 use seeded_draw::Draw;
 use std::alloc::Global;
@@ -244,6 +245,43 @@ impl<D: Disk, W: Draw> Staged<D, W> {
         ensures call { SettlesUpgrade D.state W.drawn self.old self.new result }
     {
         self.settle_by(CommitKind::Upgrade)
+    }
+
+    /// Changes slots of the table together, which lead to the placement of so many pages, where nothing is staged. It takes
+    /// no memory: whoever makes a whole table hands its slots over, and no page is staged.
+    ///
+    /// A commit of d slots makes 5d + 2 writes and 5 syncs, and one of none makes none. Each image that a crash at any
+    /// moment of the call may leave holds the pages that the table had or those to which the slots lead. After Ok nothing
+    /// is kept of the table that was.
+    /// `DiskFault`: it came at a write or behind one. The value is spent, and the disk has the one pages or the other.
+    pub fn settle_slots<S: SlotChanges>(&mut self, changes: &S, pages: u32) -> Result<(), DiskFault>
+        requires runs { self.old.is_spent ≡ false }
+        requires none_staged { self.old.staged ≡ [] }
+        requires changes { AreChanges self.old.params.slots (S.changes changes.now) }
+        requires table { IsObservable (D.state self.old.disk) → (m : PageMap) × LeadsTo (W.drawn self.old.draw) self.old.params (S.changes changes.now) (D.state self.old.disk).bytes m pages }
+        ensures call { SettlesSlots D.state W.drawn (S.changes changes.now) pages self.old self.new result }
+    {
+        let Lookup {
+            overlay,
+            finder: _,
+            memo,
+        } = &mut self.lookup;
+        let params = overlay.params;
+        empty(&mut overlay.touched);
+        // What is kept of the table is that of the one before, whatever comes.
+        memo.clear();
+        match commit_anew(&mut overlay.disk, &mut overlay.cache, &params, changes) {
+            Ok(()) => {
+                self.used = pages;
+                self.settled = pages;
+                Ok(())
+            }
+            // It came at a write or behind one, so the disk may have the old pages or the new ones.
+            Err(fault) => {
+                self.is_spent = true;
+                Err(fault)
+            }
+        }
     }
 
     /// Settles the pages, with a commit of this kind at the end.

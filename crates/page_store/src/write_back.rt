@@ -12,7 +12,7 @@ ghost use Rattle.page_store.specs.Committing.{CommitsAs, CommitsSlots};
 
 use crate::commit_kind::CommitKind;
 use disk_model::Disk;
-use gate_journal::Journal;
+use gate_journal::{Journal, SlotChanges};
 use store_base::{DiskFault, Params};
 use store_model::Slot;
 use table_memory::{ChangedSlots, SlotCache, Spares};
@@ -67,4 +67,26 @@ pub fn commit_slots<D: Disk>(
             Err(fault)
         }
     }
+}
+
+/// Commits changed slots of the table of a disk of these parameters, and keeps no slot any more. After `DiskFault` the
+/// disk may have the old slots or the new ones. It takes no memory.
+#[tactic(auto, using(table_memory::proofs::CacheLemmas::cache_empty))]
+pub fn commit_anew<D: Disk, S: SlotChanges>(
+    disk: &mut D,
+    cache: &mut SlotCache,
+    params: &Params,
+    changes: &S,
+) -> Result<(), DiskFault>
+    requires size { (D.state disk.old).size ≡ image_len params.now.slots }
+    requires changes { AreChanges params.now.slots (S.changes changes.now) }
+    requires durable { IsObservable (D.state disk.old) → IsDurable (D.state disk.old) }
+    requires empty { IsObservable (D.state disk.old) → HasEmptyJournal params.now.slots (D.state disk.old).bytes }
+    ensures calls { AreCalls (D.state disk.old) (D.state disk.new) result }
+    ensures observed { IsObservable (D.state disk.old) → CommitsAs CommitKind.Plain params.now.slots (S.changes changes.now) (D.state disk.old) (D.state disk.new) result }
+    ensures none { (S.changes changes.now).count ≡ 0 → disk.new ≡ disk.old }
+    ensures cached { IsSlotCacheOf params.now.slots (D.state disk.new) cache.new }
+{
+    cache.clear();
+    Journal::commit(disk, params, changes)
 }

@@ -35,6 +35,9 @@ big_way statuses.NoMemory runs image whole = inr (inr refl)
 big_way statuses.AlreadyImage runs image whole = absurd (false≢true runs)
 big_way statuses.WrongLength runs image whole = absurd (false≢true runs)
 big_way statuses.Unequal runs image whole = absurd (false≢true runs)
+big_way statuses.NotEmpty runs image whole = absurd (false≢true runs)
+big_way statuses.BadListing runs image whole = absurd (false≢true runs)
+big_way statuses.TooFull runs image whole = absurd (false≢true runs)
 
 between : (status : Status) → IsSummedUp status → IsBetweenLines status
 between status (inl e) = subst IsBetweenLines (sym e) refl

@@ -10,7 +10,7 @@ use Rattle.store_model.specs.Parameters.{Parameters, IsParameters, slots_limit, 
 use Rattle.store_model.specs.Trees.{empty_tree}
 use Rattle.store_model.specs.Grammar.{number_of, ok_value, ◌>>=◌}
 use Rattle.store_model.specs.Words.{Request, number_in, kind_of_word, seed_of_word, version_of_word, request_of, commands_limit}
-use Rattle.store_model.specs.Words.Request.{Format, Run, Session, Check, Scrub, Wipe, Upgrade, Big}
+use Rattle.store_model.specs.Words.Request.{Format, Run, Session, Check, Scrub, Wipe, Upgrade, Dump, Load, Big}
 use Rattle.store_model.proofs.TreesLemmasFits.{Fits-empty, IsTree-empty}
 use Rattle.image_check.specs.Standing.{IsFitting}
 
@@ -23,6 +23,8 @@ IsRanged Check = Unit {0}
 IsRanged Scrub = Unit {0}
 IsRanged Wipe = Unit {0}
 IsRanged Upgrade = Unit {0}
+IsRanged Dump = Unit {0}
+IsRanged Load = Unit {0}
 IsRanged (Big number count) = Unit {0}
 
 if_tested : {A : Type 0} (P : A → Type 0) (b : Bool) (x : A) → (b ≡ true → P x) → IfSome (cond b (Some x) None) P
@@ -82,7 +84,9 @@ ranged (w ∷ []) =
     (if_picked IsRanged (same_bytes w (codes "check")) (Some Check) _ tt
     (if_picked IsRanged (same_bytes w (codes "scrub")) (Some Scrub) _ tt
     (if_picked IsRanged (same_bytes w (codes "wipe")) (Some Wipe) _ tt
-    (if_picked IsRanged (same_bytes w (codes "upgrade")) (Some Upgrade) None tt tt)))))
+    (if_picked IsRanged (same_bytes w (codes "upgrade")) (Some Upgrade) _ tt
+    (if_picked IsRanged (same_bytes w (codes "dump")) (Some Dump) _ tt
+    (if_picked IsRanged (same_bytes w (codes "load")) (Some Load) None tt tt)))))))
 ranged (w ∷ a ∷ []) = tt
 ranged (w ∷ number ∷ count ∷ []) =
     if_picked IsRanged (same_bytes w (codes "big")) (number_of number >>= λ n. number_in 1 commands_limit count >>= λ k. Some (Big n k)) None

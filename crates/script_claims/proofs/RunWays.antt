@@ -35,6 +35,9 @@ way_of statuses.NoMemory runs image whole = inr (inr (inr (inr refl)))
 way_of statuses.AlreadyImage runs image whole = absurd (false≢true runs)
 way_of statuses.WrongLength runs image whole = absurd (false≢true runs)
 way_of statuses.Unequal runs image whole = absurd (false≢true runs)
+way_of statuses.NotEmpty runs image whole = absurd (false≢true runs)
+way_of statuses.BadListing runs image whole = absurd (false≢true runs)
+way_of statuses.TooFull runs image whole = absurd (false≢true runs)
 
 -- a call with this subcommand may end only as a run may
 abbrev pub EndsAsRun : Subcommand → Type 0
@@ -54,6 +57,9 @@ ends_as_run statuses.NoMemory ends = refl
 ends_as_run statuses.AlreadyImage ends = ends
 ends_as_run statuses.WrongLength ends = ends
 ends_as_run statuses.Unequal ends = ends
+ends_as_run statuses.NotEmpty ends = ends
+ends_as_run statuses.BadListing ends = ends
+ends_as_run statuses.TooFull ends = ends
 
 pub between : (status : Status) → EndsWhole status → IsBetweenLines status
 between status (inl e) = subst IsBetweenLines (sym e) refl

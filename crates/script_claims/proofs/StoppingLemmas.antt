@@ -48,6 +48,9 @@ format_cut statuses.NoMemory is other = inr (inl refl)
 format_cut statuses.AlreadyImage is other = inr (inr (inl refl))
 format_cut statuses.WrongLength is other = inr (inr (inr refl))
 format_cut statuses.Unequal is other = absurd (false≢true is)
+format_cut statuses.NotEmpty is other = absurd (false≢true is)
+format_cut statuses.BadListing is other = absurd (false≢true is)
+format_cut statuses.TooFull is other = absurd (false≢true is)
 
 -- ---- the counts of failed calls
 

@@ -19,7 +19,7 @@ use Rattle.store_model.proofs.TreesLemmasSteps.{step_of_version, step_by_refusal
 use Rattle.store_model.specs.Grammar.{parse, ◌>>=◌}
 use Rattle.store_model.specs.Scripts.{lines, line_limit, answer, answer_by, answers_by, state_by, replies_by, tree_by, replies, tree_after}
 use Rattle.store_model.specs.Words.{Request, request_of, number_in, kind_of_word, seed_of_word, version_of_word}
-use Rattle.store_model.specs.Words.Request.{Format, Run, Session, Check, Scrub, Wipe, Upgrade, Big}
+use Rattle.store_model.specs.Words.Request.{Format, Run, Session, Check, Scrub, Wipe, Upgrade, Dump, Load, Big}
 use Rattle.image_check.specs.Standing.{IsFitting}
 use Rattle.script_lines.specs.Memory.{SourceMemory, SinkMemory, source_state, sink_state}
 use Rattle.image_subcommands.specs.declared.status.Status.{Status}
@@ -44,6 +44,8 @@ upgraded_request Check = Check
 upgraded_request Scrub = Scrub
 upgraded_request Wipe = Wipe
 upgraded_request Upgrade = Upgrade
+upgraded_request Dump = Dump
+upgraded_request Load = Load
 upgraded_request (Big number count) = Big number count
 
 abbrev format_by : Version → Option ℕ → Option ℕ → Option DrawKind → Option (List ℕ) → Option Request
@@ -146,6 +148,9 @@ upgrade_cut statuses.NoMemory ends image whole other = inr refl
 upgrade_cut statuses.AlreadyImage ends image whole other = absurd (false≢true ends)
 upgrade_cut statuses.WrongLength ends image whole other = absurd (false≢true ends)
 upgrade_cut statuses.Unequal ends image whole other = absurd (false≢true ends)
+upgrade_cut statuses.NotEmpty ends image whole other = absurd (false≢true ends)
+upgrade_cut statuses.BadListing ends image whole other = absurd (false≢true ends)
+upgrade_cut statuses.TooFull ends image whole other = absurd (false≢true ends)
 
 pub upgrade_stops : (t : Tree) (p : Parameters) (disk : Disk) (source : SourceMemory) (sink : SinkMemory) (after : Ended) → IsUpgrade meaning (outside_of disk source sink) after
     → KeepsOutside after.status (meaning disk) (meaning after.disk) (source_state source) (source_state after.source) (sink_state sink) (sink_state after.sink)

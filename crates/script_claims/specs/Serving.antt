@@ -2,7 +2,7 @@
 use Rattle.std.specs.Prelude.{◌≡◌, ◌⊎◌, ℕ, List, Some, None}
 use Rattle.store_model.specs.Parameters.{Parameters}
 use Rattle.store_model.specs.Words.{request_of}
-use Rattle.store_model.specs.Words.Request.{Format, Run, Session, Check, Scrub, Wipe, Upgrade, Big}
+use Rattle.store_model.specs.Words.Request.{Format, Run, Session, Check, Scrub, Wipe, Upgrade, Dump, Load, Big}
 use Rattle.disk_model.specs.DiskState.{DiskState}
 use Rattle.script_lines.specs.SourceState.{SourceState}
 use Rattle.script_lines.specs.SinkState.{SinkState}
@@ -13,6 +13,8 @@ use Rattle.image_subcommands.specs.FormatCall.{IsFormat}
 use Rattle.image_subcommands.specs.CheckCall.{IsCheck}
 use Rattle.image_subcommands.specs.ScrubCall.{IsScrub}
 use Rattle.image_subcommands.specs.WipeCall.{IsWipe}
+use Rattle.listing_subcommands.specs.DumpCall.{IsDump}
+use Rattle.listing_subcommands.specs.LoadCall.{IsLoad}
 use Rattle.store_top.specs.RunCall.{IsRun}
 use Rattle.store_top.specs.SessionCall.{IsSession}
 use Rattle.store_top.specs.BigCall.{IsBig}
@@ -35,4 +37,6 @@ module _ {D R W : Type 0} (disk_of : D → DiskState) (source_of : R → SourceS
     pub scrub : request_of words ≡ Some Scrub → IsScrub disk_of sink_of before after
     pub wipe : request_of words ≡ Some Wipe → IsWipe disk_of before after
     pub upgrade : request_of words ≡ Some Upgrade → IsUpgrade disk_of before after
+    pub dump : request_of words ≡ Some Dump → IsDump disk_of sink_of before after
+    pub load : request_of words ≡ Some Load → IsLoad disk_of source_of sink_of before after
     pub big : (number count : ℕ) → request_of words ≡ Some (Big number count) → IsBig disk_of sink_of number count before after

@@ -5,6 +5,7 @@ pub mod Generating
 pub mod Held
 pub mod LineLemmas
 pub mod Loops
+pub mod PathTexts
 pub mod Pieces
 pub mod ReplyLemmas
 pub mod SameReplies

@@ -1,4 +1,5 @@
 pub mod Adapted
+pub mod CommandLines
 pub mod Generated
 pub mod InPlace
 pub mod LineState

@@ -4,6 +4,7 @@
 
 mod attributes;
 mod command;
+mod command_text;
 mod copies;
 mod fault;
 mod fields;
@@ -11,6 +12,7 @@ mod find;
 mod generator;
 mod lines;
 mod memory;
+mod parts;
 mod reply;
 mod session;
 mod session_reply;
@@ -20,11 +22,13 @@ mod std_io;
 mod text;
 
 pub use command::{Command, parse_command, read_command};
+pub use command_text::{write_command, write_piece};
 pub use fault::{SinkFault, SourceFault};
 pub use fields::parse_number;
 pub use generator::Generator;
 pub use lines::{Line, LineFault, LineReader, MAX_LINE, MAX_SCRIPT};
 pub use memory::{MemSink, MemSource};
+pub use parts::reveal;
 pub use reply::{Reply, write_reply};
 pub use session::{Change, Question, SessionLine, parse_session, read_session_line};
 pub use session_reply::{SessionReply, write_session_reply};

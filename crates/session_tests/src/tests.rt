@@ -4,5 +4,6 @@ mod calls;
 mod faults;
 mod groups;
 mod lines;
+mod listings;
 mod stops;
 mod support;

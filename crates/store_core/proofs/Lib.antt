@@ -5,12 +5,15 @@ pub mod DiskLemmas
 pub mod GroupLemmas
 pub mod GroupSteps
 pub mod ListSteps
+pub mod NextPairs
 pub mod OpeningLemmas
 pub mod StagedAnswers
 pub mod StagedSteps
 pub mod StoreSteps
 pub mod TreePages
 pub mod Unchanged
+pub mod UsedLemmas
+pub mod LoadSteps
 pub mod UpgradeLists
 pub mod UpgradeSteps
 pub mod UpgradeStores

@@ -1,5 +1,5 @@
 -- What a store comes to by the steps of its staged pages.
-use Rattle.std.proofs.Common.{◌≡◌, Bool, true, false, List, Result, Ok, Err, OnOk, OnErr, is_ok, refl, sym, ap, subst, ◌∙◌, ⊎_elim}
+use Rattle.std.proofs.Common.{◌≡◌, ℕ, Option, Bool, true, false, List, Result, Ok, Err, OnOk, OnErr, is_ok, refl, sym, ap, subst, ◌∙◌, ⊎_elim}
 use Rattle.std.proofs.lemmas.Bool.{cases_Bool, false≢true}
 use Rattle.store_model.specs.Parameters.{Parameters}
 use Rattle.store_model.specs.Trees.{Tree}
@@ -23,6 +23,10 @@ use Rattle.store_core.specs.Steps.{StepsPages, EndsStep, IsReplyTo}
 use Rattle.store_core.specs.StoreCalls.{StepsStore}
 use Rattle.store_core.specs.StoreFields.{HoldsKnown}
 use Rattle.store_core.specs.StoreState.{StoreState}
+use Rattle.store_model.specs.Pairs.{Pair}
+use Rattle.store_core.specs.declared.load.LoadAnswer.{LoadAnswer}
+use Rattle.store_core.specs.Loads.{loaded_tree, IsLoadAnswer}
+use Rattle.store_core.proofs.NextPairs.{IsNextOf}
 use Rattle.store_core.proofs.Unchanged.{stands_reading, keeps_itself}
 
 -- a store with these fields, as it is seen
@@ -53,6 +57,20 @@ group_next group p t = group_tree p t group
 
 abbrev pub GroupReply : List Command → Answers GroupAnswer
 GroupReply group p t = IsGroupAnswer p t group
+
+-- those of a search for the next pair, which leaves the tree
+abbrev pub next_tree : Nexts
+next_tree p t = t
+
+abbrev pub NextReply : List ℕ → Answers (Option Pair)
+NextReply key p t = IsNextOf key p t
+
+-- and those of a load
+abbrev pub load_next : Tree → Nexts
+load_next t p empty = loaded_tree p empty t
+
+abbrev pub LoadReply : Tree → Answers LoadAnswer
+LoadReply t p empty = IsLoadAnswer p t
 
 -- a store takes the step from its tree
 abbrev pub Goes : {D A : Type 0} → (D → DiskState) → Nexts → Answers A → StoreState D → StoreState D → Result A ApplyFault → Type 0

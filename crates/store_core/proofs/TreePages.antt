@@ -89,7 +89,7 @@ table_pages t p image fitting is =
     (layout_of_tree t p fitting.in_range fitting.tree fitting.fits image is).holds
 
 -- the slots of the placement of its pages are those of its table
-placed_as : (t : Tree) (p : Parameters) (i : ℕ) → IsFitting t p → images.placed_slot (draw_of p) (map_of_pages (pages t p)) i ≡ bytes_of (table_of_tree t p) i
+pub placed_as : (t : Tree) (p : Parameters) (i : ℕ) → IsFitting t p → images.placed_slot (draw_of p) (map_of_pages (pages t p)) i ≡ bytes_of (table_of_tree t p) i
 placed_as t p i fitting = ap (λ (ps : List Page). option_map_or slot_bytes (slice_get (place (draw_of p) ps) i) []) (pages_again t p fitting)
 
 -- as many slots differ between the placements of the pages of two trees as between their layouts, where the draw is one

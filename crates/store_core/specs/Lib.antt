@@ -1,6 +1,7 @@
 pub mod Groups
 pub mod TableChanges
 pub mod Known
+pub mod Loads
 pub mod Opening
 pub mod StagedTree
 pub mod Staging
@@ -8,3 +9,4 @@ pub mod Steps
 pub mod StoreCalls
 pub mod StoreFields
 pub mod StoreState
+pub mod UsedSlots

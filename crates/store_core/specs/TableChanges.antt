@@ -1,5 +1,5 @@
 -- The slots in which two tables differ.
-use Rattle.std.specs.Prelude.{ℕ, List, [], not, slice_get}
+use Rattle.std.specs.Prelude.{ℕ, List, [], None, not, slice_get}
 use Rattle.std.specs.List.{count_by}
 use Rattle.std.specs.Option.{option_map_or}
 use Rattle.store_model.specs.Lists.{numbers_below, same_bytes}
@@ -25,3 +25,7 @@ slots_between p t u = differing (table_of_tree t p) (table_of_tree u p) p.slots
 -- and between those of one tree under parameters, and under the same with version 2
 abbrev pub slots_upgraded : Parameters → Tree → ℕ
 slots_upgraded p t = differing (table_of_tree t p) (table_of_tree t (with_version p Two)) p.slots
+
+-- the bytes of a slot that holds no page
+abbrev pub empty_slot : ℕ → List ℕ
+empty_slot i = slot_bytes None

@@ -95,8 +95,8 @@ fn carry_out_all<D: Disk>(
     }
 }
 
-/// Stages changes one after another, up to the first that is refused. After a refusal or a fault something may be staged
-/// still, and nothing is promised of it.
+/// Stages changes one after another, up to the first that is refused. After a refusal or a fault something may be
+/// staged still, and nothing is promised of it.
 fn stage_all<D: Disk>(
     pairs: &mut TreeList<D>,
     params: &Params,

@@ -53,6 +53,13 @@ impl<D: Disk> KnownTree<D> {
         &self.params
     }
 
+    /// Says what is known of the tree. It costs nothing.
+    pub fn reveal(&self)
+        ensures { IsKnownTree (D.state self.now.settled) self.now.params self.now.tree }
+    {
+        let _ = &self.params;
+    }
+
     /// Goes on to the tree at which the disk stands now.
     pub fn move_on(&mut self, disk: &D)
         requires same { (D.state disk.now).is_observable ≡ (D.state self.old.settled).is_observable }

@@ -1,6 +1,7 @@
 //! The store, and what is asked of it between two commands.
 
-ghost use Rattle.std.specs.Prelude.{◌≡◌, false};
+ghost use Rattle.std.specs.Prelude.{◌≡◌, ◌↔◌, IsTrue, false};
+ghost use Rattle.store_model.specs.Trees.{empty_tree};
 ghost use Rattle.store_model.specs.Pages.{page_count};
 ghost use Rattle.disk_model.specs.DiskState.{IsObservable};
 ghost use Rattle.image_check.specs.Standing.{IsFitting, Stands};
@@ -57,6 +58,17 @@ impl<D: Disk> Store<D> {
         ensures { IsObservable (D.state self.now.disk) → self.now.is_stopped ≡ false → result ≡ page_count self.now.tree self.now.params }
     {
         self.pairs.pages.used()
+    }
+
+    /// Whether the tree is empty, of a store that is not stopped. Over a disk that is not observable nothing is known
+    /// of the answer, and the tree counts as empty.
+    pub fn is_empty(&self) -> bool
+        requires { self.now.is_stopped ≡ false }
+        ensures told { IsObservable (D.state self.now.disk) → (IsTrue result ↔ (self.now.tree ≡ empty_tree)) }
+        ensures empty { IsTrue result → self.now.tree ≡ empty_tree }
+    {
+        self.known.reveal();
+        self.used() == 0
     }
 
     /// The disk.

@@ -19,15 +19,15 @@ use store_model::Version;
 use tree_upgrade::inline_short_files;
 
 impl<D: Disk> Store<D> {
-    /// Makes the image one of version 2 that holds the same tree, once that is durable. An image of version 2 stays as it
-    /// is, and nothing is called.
+    /// Makes the image one of version 2 that holds the same tree, once that is durable. An image of version 2 stays as
+    /// it is, and nothing is called.
     ///
-    /// Where d slots differ between the two versions of the tree's layout it makes 5d + 5 writes and 5 syncs, also where
-    /// none does. Each image that a crash at any moment of the call may leave represents the tree under version 1 or
-    /// under version 2. No tree takes more pages than it took: an upgrade is never full.
+    /// Where d slots differ between the two versions of the tree's layout it makes 5d + 5 writes and 5 syncs, also
+    /// where none does. Each image that a crash at any moment of the call may leave represents the tree under version 1
+    /// or under version 2. No tree takes more pages than it took: an upgrade is never full.
     ///
-    /// After a fault tree and parameters are as they were. `Disk`: the disk failed; where that came at a write or a sync,
-    /// or behind one, the store is stopped, and the disk represents the tree under the one version or the other.
+    /// After a fault tree and parameters are as they were. `Disk`: the disk failed; where that came at a write or a
+    /// sync, or behind one, the store is stopped, and the disk represents the tree under the one version or the other.
     /// `NoMemory`: nothing was written. `Stopped`, exactly where the store was stopped before: nothing was called.
     pub fn upgrade(&mut self) -> Result<(), ApplyFault>
         ensures call { Upgrades D.state self.old self.new result }
@@ -58,8 +58,8 @@ impl<D: Disk> Store<D> {
 
 /// Makes the list of a tree under version 1 that of the same tree under version 2. Behind it nothing is staged.
 ///
-/// A fault leaves the list as it was. `NoMemory`: nothing was written. `Disk`: the disk failed, and where that came at a
-/// write or a sync, or behind one, the pages are spent.
+/// A fault leaves the list as it was. `NoMemory`: nothing was written. `Disk`: the disk failed, and where that came at
+/// a write or a sync, or behind one, the pages are spent.
 fn upgrade_list<D: Disk>(pairs: &mut TreeList<D>) -> Result<(), ApplyFault>
     requires runs { pairs.old.pages.is_spent ≡ false }
     requires list { (t : Tree) × ((p : Parameters) × (IsListAt D.state t p pairs.old × (p.version ≡ One))) }
@@ -75,7 +75,8 @@ fn upgrade_list<D: Disk>(pairs: &mut TreeList<D>) -> Result<(), ApplyFault>
     }
 }
 
-/// Ends an upgrade whose pages are staged: settles them, and version 2 with them. Where that fails, they are taken back.
+/// Ends an upgrade whose pages are staged: settles them, and version 2 with them. Where that fails, they are taken
+/// back.
 fn end_upgrade<D: Disk>(pairs: &mut TreeList<D>) -> Result<(), ApplyFault>
     requires runs { pairs.old.pages.is_spent ≡ false }
     requires whole { IsObservable (D.state pairs.old.pages.disk) → pairs.old.is_whole ≡ true }

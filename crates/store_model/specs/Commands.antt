@@ -6,7 +6,7 @@ use Rattle.hex.specs.Hex.{encode_lower}
 use Rattle.store_model.specs.declared.refusal.Refusal.{Refusal}
 use Rattle.store_model.specs.declared.refusal.Refusal.TheVariants as refusals
 use Rattle.store_model.specs.Lists.{IsBytes}
-use Rattle.store_model.specs.Paths.{Path, Name, is_path, is_attribute_name}
+use Rattle.store_model.specs.Paths.{Path, Name, is_path, is_attribute_name, path_text}
 
 pub data Command : Type 0 where
   Make : Path → Command
@@ -106,3 +106,20 @@ reply_text (AttributeListing attributes) = flat_map attribute_line attributes ++
 reply_text (PagesUsed used slots) = line (codes "space " ++ decimal used ++ codes " " ++ decimal slots)
 reply_text (ImageDigest digest) = line (codes "digest " ++ encode_lower digest)
 reply_text (Refused refusal) = line (codes "no " ++ refusal_text refusal)
+
+-- the text of a command: a word, and its fields with one space before each
+unfoldable pub command_text : Command → List ℕ
+command_text (Make p) = codes "make " ++ path_text p
+command_text (Write p at bytes) = codes "write " ++ path_text p ++ codes " " ++ decimal at ++ codes " " ++ content_text bytes
+command_text (Cut p len) = codes "cut " ++ path_text p ++ codes " " ++ decimal len
+command_text (Rename p q) = codes "rename " ++ path_text p ++ codes " " ++ path_text q
+command_text (Remove p) = codes "remove " ++ path_text p
+command_text (Prune p) = codes "prune " ++ path_text p
+command_text (ListChildren p) = codes "list " ++ path_text p
+command_text (Read p at len) = codes "read " ++ path_text p ++ codes " " ++ decimal at ++ codes " " ++ decimal len
+command_text Space = codes "space"
+command_text Digest = codes "digest"
+command_text (SetAttribute p a bytes) = codes "set " ++ path_text p ++ codes " " ++ a ++ codes " " ++ content_text bytes
+command_text (UnsetAttribute p a) = codes "unset " ++ path_text p ++ codes " " ++ a
+command_text (GetAttribute p a) = codes "get " ++ path_text p ++ codes " " ++ a
+command_text (ListAttributes p) = codes "attrs " ++ path_text p

@@ -6,7 +6,7 @@ use Rattle.store_model.specs.Lists.{IsBytes, runs, cut_before, numbers_below}
 use Rattle.store_model.specs.Parameters.{Parameters}
 use Rattle.store_model.specs.Paths.{key_len, key_cmp}
 use Rattle.store_model.specs.Pairs.{Pair, IsValue, has_attributes, pairs}
-use Rattle.store_model.specs.Trees.{Tree}
+use Rattle.store_model.specs.Trees.{Tree, IsTree}
 use Rattle.store_model.specs.Labels.{Lead, Label, IsLabel}
 use Rattle.store_model.specs.Labels.Lead.{Start, Leader}
 use Rattle.store_model.specs.Draws.{Draw, draw_of}
@@ -79,6 +79,11 @@ page_count t p = length (pages t p)
 -- no path of the tree has an attribute
 abbrev pub IsBare : Tree → Type 0
 IsBare t = AllByRecursion (λ e. e.1.attributes ≡ []) t
+
+-- a tree that an image with these parameters may hold, however many slots there are: under version 1 no path has an attribute
+pub record IsTreeUnder (t : Tree) (p : Parameters) : Type 0 where
+  pub is_tree : IsTree t
+  pub bare : has_attributes p.version ≡ false → IsBare t
 
 -- a tree fits where its pages are no more than the slots, and under version 1 no path has an attribute
 pub record Fits (t : Tree) (p : Parameters) : Type 0 where

@@ -22,6 +22,10 @@ script_limit = 1073741824
 unfoldable pub lines : List ℕ → List (List ℕ)
 lines script = filter (λ text. nat_lt 0 (length text)) (slice_split (λ c. c == 10) script)
 
+-- what a line asks for: `long` refuses one that has over 8,192 bytes
+unfoldable pub reading : List ℕ → Result Command Refusal
+reading text = if nat_lt line_limit (length text) then Err refusals.Long else parse text
+
 abbrev pub answer_by : Tree → Result Command Refusal → Parameters → Step
 answer_by t (Err refusal) p = record { reply = Refused refusal; tree = t }
 answer_by t (Ok c) p = step t c p

@@ -19,6 +19,8 @@ pub data Request : Type 0 where
   Scrub : Request
   Wipe : Request
   Upgrade : Request
+  Dump : Request
+  Load : Request
   Big : ℕ → ℕ → Request
 
 -- the most commands that `big` makes
@@ -49,7 +51,9 @@ request_of (w ∷ []) =
     (on_word w (codes "check") (Some Check)
     (on_word w (codes "scrub") (Some Scrub)
     (on_word w (codes "wipe") (Some Wipe)
-    (on_word w (codes "upgrade") (Some Upgrade) None)))))
+    (on_word w (codes "upgrade") (Some Upgrade)
+    (on_word w (codes "dump") (Some Dump)
+    (on_word w (codes "load") (Some Load) None)))))))
 request_of (w ∷ number ∷ count ∷ []) =
     on_word w (codes "big") (number_of number >>= λ n. number_in 1 commands_limit count >>= λ k. Some (Big n k)) None
 request_of (w ∷ slots ∷ height ∷ kind ∷ seed ∷ []) =

@@ -95,6 +95,9 @@ source_alone statuses.Damaged ends count = absurd (false≢true ends)
 source_alone statuses.AlreadyImage ends count = absurd (false≢true ends)
 source_alone statuses.WrongLength ends count = absurd (false≢true ends)
 source_alone statuses.Unequal ends count = absurd (false≢true ends)
+source_alone statuses.NotEmpty ends count = absurd (false≢true ends)
+source_alone statuses.BadListing ends count = absurd (false≢true ends)
+source_alone statuses.TooFull ends count = absurd (false≢true ends)
 
 image_kept : (status : Status) → IsEndOf words.Big status → IsRefusedImage status → ⊥
 image_kept status ends refused = false≢true (sym (ap not refused) ∙ second_true _ _ ends)
@@ -114,6 +117,9 @@ all_generated statuses.Damaged disk disk_new sink sink_new ends disk_is sink_is 
 all_generated statuses.AlreadyImage disk disk_new sink sink_new ends disk_is sink_is disk_whole sink_whole = absurd (false≢true ends)
 all_generated statuses.WrongLength disk disk_new sink sink_new ends disk_is sink_is disk_whole sink_whole = absurd (false≢true ends)
 all_generated statuses.Unequal disk disk_new sink sink_new ends disk_is sink_is disk_whole sink_whole = absurd (false≢true ends)
+all_generated statuses.NotEmpty disk disk_new sink sink_new ends disk_is sink_is disk_whole sink_whole = absurd (false≢true ends)
+all_generated statuses.BadListing disk disk_new sink sink_new ends disk_is sink_is disk_whole sink_whole = absurd (false≢true ends)
+all_generated statuses.TooFull disk disk_new sink sink_new ends disk_is sink_is disk_whole sink_whole = absurd (false≢true ends)
 
 module _ {D R W : Type 0} (disk_of : D → DiskState) (sink_of : W → SinkState) (sound : (disk : D) → disks.IsObservable (disk_of disk) → IsSound (disk_of disk)) (number count : ℕ)
     (disk : D) (store store_new : StoreState D) (source : R) (sink sink_new : W) (status : Status) (done : ℕ)

@@ -15,6 +15,7 @@ use Rattle.image_subcommands.specs.declared.status.Status.{Status}
 use Rattle.image_subcommands.specs.declared.status.Status.TheVariants as statuses
 use Rattle.image_subcommands.specs.Endings.{line_status, apply_status}
 use Rattle.image_subcommands.specs.Statuses.{Subcommand}
+use Rattle.image_subcommands.proofs.LineLimits as limits
 use Rattle.store_top.specs.Runs.{ReadsLine, KeepsLimit, IsUnread}
 use Rattle.store_top.specs.ScriptLines.{KeepsEnds, LinesKept, LinesEnd}
 use Rattle.store_top.proofs.LineTurns as turns
@@ -42,7 +43,7 @@ module _ {R W : Type 0} (source_of : R → SourceState) (sink_of : W → SinkSta
     keeps_limit : sources.IsObservable (source_of first.source) → Takes source_of now next → next.limit ≡ now.limit → next.taken ≤ next.limit
         → (status : Status) → (status ≡ statuses.TooLong → ⊥) → (status ≡ statuses.Done → left source_of next ≡ []) → KeepsLimit status (source_of first.source) (source_of next.source)
     keeps_limit o takes same within status other whole =
-        turns.within_limit source_of first before.unread.held before.unread.taken status next (Takes-trans source_of first now next (before.half o).answers.takes takes) (in_script same within) other whole
+        limits.within_limit source_of first before.unread.held before.unread.taken status next (Takes-trans source_of first now next (before.half o).answers.takes takes) (in_script same within) other whole
 
     -- the script is at its end
     pub at_end : ReadsLine source_of IsAsked now next (Ok None) → LinesEnd source_of sink_of word texts Tells first next sink_first sink done statuses.Done
@@ -56,7 +57,7 @@ module _ {R W : Type 0} (source_of : R → SourceState) (sink_of : W → SinkSta
       };
       limit = λ o.
           let answers = reads.next (before.kept.source_observable ∙ o) in
-          keeps_limit o answers.0.takes reads.limit reads.in_limit statuses.Done (λ e. cc) (λ e. turns.end_of_left source_of first before.unread.held before.unread.taken next answers.1);
+          keeps_limit o answers.0.takes reads.limit reads.in_limit statuses.Done (λ e. cc) (λ e. limits.end_of_left source_of first before.unread.held before.unread.taken next answers.1);
       replies = λ o tells.
           let answers = reads.next (before.kept.source_observable ∙ o) in
           turns.at_end source_of first before.unread.held before.unread.taken texts each (sink_of sink_first) (sink_of sink) now next done (before.half o) (before.written o tells) answers.0 answers.1;
@@ -86,7 +87,7 @@ module _ {R W : Type 0} (source_of : R → SourceState) (sink_of : W → SinkSta
       };
       limit = λ o.
           let half = before.half o in
-          turns.past_limit source_of first before.unread.held before.unread.taken now next half.read before.unread.limit half.answers (reads.next (before.kept.source_observable ∙ o));
+          limits.past_limit source_of first before.unread.held before.unread.taken now next half.read before.unread.limit half.answers (reads.next (before.kept.source_observable ∙ o));
       replies = λ o tells.
           turns.at_too_long source_of first before.unread.held before.unread.taken texts each (sink_of sink_first) (sink_of sink) now next done (before.half o) (before.written o tells) before.unread.limit (reads.next (before.kept.source_observable ∙ o));
     }
@@ -108,7 +109,7 @@ module _ {R W : Type 0} (source_of : R → SourceState) (sink_of : W → SinkSta
       -- it comes behind those that were read
       pub split : (o : sources.IsObservable (source_of first.source)) → lines (left source_of first) ≡ (before.half o).read ++ (line o).0 ∷ lines (to_come source_of next)
       split o =
-          turns.lines_split source_of first before.unread.held before.unread.taken now (before.half o).read (before.half o).answers
+          limits.lines_split source_of first before.unread.held before.unread.taken now (before.half o).read (before.half o).answers
           ∙ ap (λ xs. (before.half o).read ++ xs) (line o).2.lines
 
       -- a fault comes in its answer, of the disk or for want of memory

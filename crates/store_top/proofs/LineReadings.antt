@@ -22,15 +22,7 @@ pub read_asks : {Q : Type 0} (placed : Q) (result : Result (Unit {0}) Refusal) �
 read_asks placed (Ok read) = refl
 read_asks placed (Err refusal) = refl
 
--- a line that is no longer than a line may be is parsed, and one that is longer is refused
-pub reading_short : (text : List ℕ) → length text ≤ line_limit → reading text ≡ parse text
-unfolding reading
-reading_short text h = ap (λ b. if b then Err refusals.Long else parse text) (le-ltb line_limit (length text) h)
-
-pub reading_long : (text : List ℕ) → line_limit < length text → reading text ≡ Err refusals.Long
-unfolding reading
-reading_long text h = ap (λ b. if b then Err refusals.Long else parse text) (lt-ltb line_limit (length text) h)
-
+-- and so it is with a line of sessions
 pub session_reading_short : (text : List ℕ) → length text ≤ line_limit → session_reading text ≡ parse_session text
 unfolding session_reading
 session_reading_short text h = ap (λ b. if b then Err refusals.Long else parse_session text) (le-ltb line_limit (length text) h)

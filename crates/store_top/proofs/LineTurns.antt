@@ -17,6 +17,7 @@ use Rattle.script_lines.proofs.LineLemmas.{lines-none}
 use Rattle.image_subcommands.specs.declared.status.Status.{Status}
 use Rattle.image_subcommands.specs.declared.status.Status.TheVariants as statuses
 use Rattle.image_subcommands.specs.Statuses.{Row, row, MayComeFirst}
+use Rattle.image_subcommands.proofs.LineLimits.{lines_split, taken_split, end_of_left, taken_all}
 use Rattle.image_subcommands.proofs.StatusLemmas.{other_than}
 use Rattle.store_top.specs.Runs.{WritesReplies, RepliesKept, HasTaken, KeepsLimit}
 use Rattle.store_top.specs.ScriptLines.{Halfway, HasWritten}
@@ -50,31 +51,11 @@ module _ {R : Type 0} (state : R → SourceState) where
 
   -- what is said at an end of the whole script
   module _ (first : LineState R) (held : first.held ≡ []) (none_taken : first.taken ≡ 0) where
-    -- the lines of the script are those read and others
-    pub lines_split : (now : LineState R) (read : List (List ℕ)) → Answers state first now read → lines (left state first) ≡ read ++ lines (to_come state now)
-    lines_split now read answers = ap lines (sym (ap (λ xs. xs ++ left state first) held)) ∙ answers.lines
-
-    -- the bytes taken so far, and those left
-    pub taken_split : (now : LineState R) → Takes state first now → left state first ≡ take (now.taken - first.taken) (left state first) ++ left state now
-    taken_split now takes = sym (take-append-drop (now.taken - first.taken) (left state first)) ∙ ap (λ xs. take (now.taken - first.taken) (left state first) ++ xs) (sym takes.left)
-
-    -- all bytes, as those taken up to one past the limit and those left
-    taken_all : {ys : List ℕ} → ys ≡ drop (script_limit + 1) (left state first) → left state first ≡ take (script_limit + 1) (left state first) ++ ys
-    taken_all e = sym (take-append-drop (script_limit + 1) (left state first)) ∙ ap (λ xs. take (script_limit + 1) (left state first) ++ xs) (sym e)
-
-    -- with the script at its end nothing is left
-    pub end_of_left : (next : LineState R) → to_come state next ≡ [] → left state next ≡ []
-    end_of_left next none = second_nil next.held (left state next) none
-      where
-        second_nil : (xs ys : List ℕ) → xs ++ ys ≡ [] → ys ≡ []
-        second_nil [] ys e = e
-        second_nil (x ∷ xs) ys e = absurd (cc)
-
     -- the texts of the answers, one for each line, of which so many were written
     module _ (texts : List (List ℕ)) (each : length texts ≡ length (lines (left state first))) (sink_first sink_now : SinkState) (now next : LineState R) (done : ℕ)
         (h : Halfway state first now done) (before : HasWritten texts done sink_first sink_now) where
       low : done ≤ length texts
-      low = omega (arith, each, h.count, ap length (lines_split now h.read h.answers), length-append h.read (lines (to_come state now)))
+      low = omega (arith, each, h.count, ap length (lines_split state first held none_taken now h.read h.answers), length-append h.read (lines (to_come state now)))
 
       -- the lines that were carried out were answered
       wrote : (status : Status) → (status ≡ statuses.Done → done ≡ length texts) → (status ≡ statuses.SinkFault → ⊥) → sinks.IsObservable sink_first → WritesReplies status done texts sink_first sink_now
@@ -93,13 +74,13 @@ module _ {R : Type 0} (state : R → SourceState) where
       at_end answers none =
           let all = Answers-trans state first now next h.read [] h.answers answers in
           let read_are : lines (left state first) ≡ h.read =
-          lines_split next (h.read ++ []) all ∙ ap (λ xs. (h.read ++ []) ++ lines xs) none ∙ ap (λ xs. (h.read ++ []) ++ xs) lines-none ∙ append-nil (h.read ++ []) ∙ append-nil h.read in
+          lines_split state first held none_taken next (h.read ++ []) all ∙ ap (λ xs. (h.read ++ []) ++ lines xs) none ∙ ap (λ xs. (h.read ++ []) ++ xs) lines-none ∙ append-nil (h.read ++ []) ∙ append-nil h.read in
           let whole : done ≡ length texts = h.count ∙ ap length (sym read_are) ∙ sym each in
           record {
             taken = take (next.taken - first.taken) (left state first);
-            taken_is = taken_split next all.takes;
+            taken_is = taken_split state first held none_taken next all.takes;
             counted = record {
-              all = λ e. (end_of_left next none, whole);
+              all = λ e. (end_of_left state first held none_taken next none, whole);
               ended = λ e. absurd (cc);
               ended_in_limit = λ e. absurd (cc);
               counted = low;
@@ -114,7 +95,7 @@ module _ {R : Type 0} (state : R → SourceState) where
           let never : (other : Status) → (row other).may_come_first ≡ false → status ≡ other → ⊥ = λ other no. other_than (λ (r : Row). r.may_come_first) status other fault no in
           record {
             taken = take (next.taken - first.taken) (left state first);
-            taken_is = taken_split next (Takes-trans state first now next h.answers.takes takes);
+            taken_is = taken_split state first held none_taken next (Takes-trans state first now next h.answers.takes takes);
             counted = record {
               all = λ e. absurd (never statuses.Done refl e);
               ended = λ e. absurd (never statuses.SourceFault refl e);
@@ -134,7 +115,7 @@ module _ {R : Type 0} (state : R → SourceState) where
           ∙ h.answers.ended fails.before_end (next.taken - now.taken) ∙ ap (λ xs. h.read ++ xs) fails.none ∙ append-nil h.read in
           record {
             taken = take (next.taken - first.taken) (left state first);
-            taken_is = taken_split next (Takes-trans state first now next h.answers.takes fails.takes);
+            taken_is = taken_split state first held none_taken next (Takes-trans state first now next h.answers.takes fails.takes);
             counted = record {
               all = λ e. absurd (cc);
               ended = λ e. h.count ∙ ap length (sym ended_are);
@@ -152,7 +133,7 @@ module _ {R : Type 0} (state : R → SourceState) where
           let last : done + 1 - 1 ≡ done = omega arith in
           record {
             taken = take (next.taken - first.taken) (left state first);
-            taken_is = taken_split next (Takes-trans state first now next h.answers.takes takes);
+            taken_is = taken_split state first held none_taken next (Takes-trans state first now next h.answers.takes takes);
             counted = record {
               all = λ e. absurd (cc);
               ended = λ e. absurd (cc);
@@ -192,51 +173,13 @@ module _ {R : Type 0} (state : R → SourceState) where
           ∙ h.answers.ended passes.before_end (now.limit - now.taken) ∙ ap (λ xs. h.read ++ xs) passes.none ∙ append-nil h.read in
           record {
             taken = take (script_limit + 1) (left state first);
-            taken_is = taken_all left_is;
+            taken_is = taken_all state first held none_taken left_is;
             counted = record {
               all = λ e. absurd (cc);
               ended = λ e. absurd (cc);
-              ended_in_limit = λ e. h.count ∙ ap length (sym ended_are) ∙ ap (λ xs. length (ended_lines (take script_limit xs))) (taken_all left_is);
+              ended_in_limit = λ e. h.count ∙ ap length (sym ended_are) ∙ ap (λ xs. length (ended_lines (take script_limit xs))) (taken_all state first held none_taken left_is);
               counted = low;
               some_line = λ e. absurd (cc);
             };
             written = wrote statuses.TooLong (λ e. absurd (cc)) (λ e. cc);
           }
-
-    -- so many bytes were taken
-    pub taken_by : (next : LineState R) → Takes state first next → HasTaken next.taken (state first.source) (state next.source)
-    taken_by next takes = record {
-      taken = take (next.taken - first.taken) (left state first);
-      taken_is = taken_split next takes;
-      count_is = omega (arith, length-take (next.taken - first.taken) (left state first), takes.fits, none_taken);
-    }
-
-    -- the call ended otherwise than by too long a script
-    pub within_limit : (status : Status) (next : LineState R) → Takes state first next → next.taken ≤ script_limit
-        → (status ≡ statuses.TooLong → ⊥) → (status ≡ statuses.Done → left state next ≡ []) → KeepsLimit status (state first.source) (state next.source)
-    within_limit status next takes in_limit other whole = record {
-      too_long = λ e. absurd (other e);
-      within = λ h. (next.taken, in_limit, taken_by next takes);
-      whole = whole;
-    }
-
-    -- it ended by that
-    pub past_limit : (now next : LineState R) (read : List (List ℕ)) → first.limit ≡ script_limit → Answers state first now read → PassesLimit state now next
-        → KeepsLimit statuses.TooLong (state first.source) (state next.source)
-    past_limit now next read limit answers passes =
-        let limit_now : now.limit ≡ script_limit = answers.takes.limit ∙ limit in
-        let more : (now.taken - first.taken) + ((now.limit - now.taken) + 1) ≡ script_limit + 1 = omega (arith, none_taken, limit_now, passes.within, answers.takes.taken) in
-        let left_is : left state next ≡ drop (script_limit + 1) (left state first) =
-        passes.left ∙ ap (drop ((now.limit - now.taken) + 1)) answers.takes.left
-        ∙ drop-drop ((now.limit - now.taken) + 1) (now.taken - first.taken) (left state first) ∙ ap (λ n. drop n (left state first)) more in
-        let longer : script_limit < length (left state first) =
-        omega (arith, passes.longer, answers.takes.limit, limit, none_taken, ap length answers.takes.left, length-drop (now.taken - first.taken) (left state first), answers.takes.fits) in
-        record {
-          too_long = λ e. record {
-            taken = take (script_limit + 1) (left state first);
-            taken_is = taken_all left_is;
-            count_is = omega (arith, length-take (script_limit + 1) (left state first), longer);
-          };
-          within = λ h. absurd (h refl);
-          whole = λ e. absurd (cc);
-        }

@@ -29,6 +29,7 @@ use Rattle.store_core.proofs.CostLemmas.{made_none, at_most}
 use Rattle.store_core.proofs.Unchanged.{keeps_itself}
 use Rattle.image_subcommands.specs.declared.status.Status.{Status}
 use Rattle.image_subcommands.specs.declared.status.Status.TheVariants as statuses
+pub use Rattle.listing_subcommands.proofs.OpeningEnds.{no_image_by, damaged_by, memory_only, comes_first, none_taken, nothing_opened, says_no_image, says_damaged, named_by, memory_left, quiet_unopened, new_reader_is_unread, attached_is_ready}
 use Rattle.store_top.specs.Costs.{CountsRun}
 use Rattle.image_subcommands.specs.Endings.{attach_status}
 use Rattle.image_subcommands.specs.Outside.{Outside, outside_of, KeepsOutside}
@@ -63,37 +64,6 @@ not_between faults.NoMemory h = false≢true h
 not_between faults.NotImage h = false≢true h
 not_between faults.Damaged h = false≢true h
 
-pub no_image_by : (fault : AttachFault) → attach_status fault ≡ statuses.NotImage → fault ≡ faults.NotImage
-no_image_by faults.Disk e = absurd (cc)
-no_image_by faults.NoMemory e = absurd (cc)
-no_image_by faults.NotImage e = refl
-no_image_by faults.Damaged e = absurd (cc)
-
-pub damaged_by : (fault : AttachFault) → attach_status fault ≡ statuses.Damaged → fault ≡ faults.Damaged
-damaged_by faults.Disk e = absurd (cc)
-damaged_by faults.NoMemory e = absurd (cc)
-damaged_by faults.NotImage e = absurd (cc)
-damaged_by faults.Damaged e = refl
-
-disk_by : (fault : AttachFault) → attach_status fault ≡ statuses.DiskFault → fault ≡ faults.Disk
-disk_by faults.Disk e = refl
-disk_by faults.NoMemory e = absurd (cc)
-disk_by faults.NotImage e = absurd (cc)
-disk_by faults.Damaged e = absurd (cc)
-
-pub memory_only : (fault : AttachFault) → attach_status fault ≡ statuses.NoMemory → fault ≡ faults.Disk → ⊥
-memory_only faults.Disk e d = cc
-memory_only faults.NoMemory e d = cc
-memory_only faults.NotImage e d = cc
-memory_only faults.Damaged e d = cc
-
--- a fault other than that the image is none or damaged
-pub comes_first : (fault : AttachFault) → (fault ≡ faults.NotImage → ⊥) → (fault ≡ faults.Damaged → ⊥) → MayComeFirst (attach_status fault)
-comes_first faults.Disk image whole = refl
-comes_first faults.NoMemory image whole = refl
-comes_first faults.NotImage image whole = absurd (image refl)
-comes_first faults.Damaged image whole = absurd (whole refl)
-
 -- no line was answered
 none_answered : (status : Status) → MayComeFirst status → (texts : List (List ℕ)) (source : SourceState) (sink : SinkState) → RepliesKept status 0 texts source source sink sink
 none_answered status first texts source sink =
@@ -119,90 +89,8 @@ none_answered status first texts source sink =
       };
     }
 
--- nothing was taken
-none_taken : (fault : AttachFault) (source : SourceState) → KeepsLimit (attach_status fault) source source
-none_taken fault source = record {
-  too_long = λ h. absurd (not_too_long fault h);
-  within = λ h. (0, omega arith, record { taken = []; taken_is = refl; count_is = refl });
-  whole = λ h. absurd (not_done fault h);
-}
-  where
-    not_too_long : (fault : AttachFault) → attach_status fault ≡ statuses.TooLong → ⊥
-    not_too_long faults.Disk e = cc
-    not_too_long faults.NoMemory e = cc
-    not_too_long faults.NotImage e = cc
-    not_too_long faults.Damaged e = cc
-
-    not_done : (fault : AttachFault) → attach_status fault ≡ statuses.Done → ⊥
-    not_done faults.Disk e = cc
-    not_done faults.NoMemory e = cc
-    not_done faults.NotImage e = cc
-    not_done faults.Damaged e = cc
-
-left_alone : (disk : DiskState) → IsSound disk → LeavesImage disk disk
-left_alone disk sound = record {
-  synced = record { bytes = refl; writes = refl; sync_limit = omega arith };
-  crash = LeavesOnly-refl disk disk.crash_images sound (λ image gone. gone);
-}
-
-no_image_reason : faults.NoMemory ≡ faults.NotImage → ⊥
-no_image_reason e = cc
-
-damage_reason : faults.NoMemory ≡ faults.Damaged → ⊥
-damage_reason e = cc
-
--- nothing was asked of the disk
-pub nothing_opened : (disk : DiskState) → (disks.IsObservable disk → IsSound disk) → IsRefused disk faults.NoMemory disk
-nothing_opened disk sound = record {
-  kept = keeps_itself disk;
-  faults = refl;
-  not_image = λ e. absurd (cc);
-  damaged = λ e. absurd (cc);
-  unwritten = λ o other. left_alone disk (sound o);
-  looked = λ o reason. absurd (⊎_elim no_image_reason damage_reason reason);
-  represented = λ o t p represents. record {
-    not_image = λ e. cc;
-    damaged = λ e. cc;
-    represents = represents;
-    crash = LeavesOnly-refl disk (λ image. disk.crash_images image ⊎ Represents image t p) (sound o) (λ image gone. inl gone);
-    limit = at_most disk disk 0 0 (opening_writes p.slots disk.bytes) (opening_syncs p.slots disk.bytes) (made_none disk) (omega arith) (omega arith);
-  };
-  unrepresented = λ o none. left_alone disk (sound o);
-}
-
-module _ (fault : AttachFault) (old new : DiskState) (refused : IsRefused old fault new) (o : disks.IsObservable old) where
-  pub says_no_image : (f : AttachFault) → fault ≡ f → IsNoImage old → (attach_status f ≡ statuses.NotImage) ⊎ MayComeFirst (attach_status f)
-  says_no_image faults.Disk is none = inr refl
-  says_no_image faults.NoMemory is none = inr refl
-  says_no_image faults.NotImage is none = inl refl
-  says_no_image faults.Damaged is none = let damaged = refused.damaged is in absurd (none o damaged.params (damaged.has_parameters.named o))
-
-  pub says_damaged : (f : AttachFault) → fault ≡ f → IsDamaged old → (attach_status f ≡ statuses.Damaged) ⊎ MayComeFirst (attach_status f)
-  says_damaged faults.Disk is damaged = inr refl
-  says_damaged faults.NoMemory is damaged = inr refl
-  says_damaged faults.NotImage is damaged = absurd (refused.not_image is o damaged.params (damaged.has_parameters.named o))
-  says_damaged faults.Damaged is damaged = inl refl
-
-pub named_by : (fault : AttachFault) (old : DiskState) → (fault ≡ faults.Damaged → IsDamaged old) → IsPastHeader (attach_status fault) → (p : Parameters) × HasParameters old p
-named_by faults.Disk old damaged h = absurd (false≢true h)
-named_by faults.NoMemory old damaged h = absurd (false≢true h)
-named_by faults.NotImage old damaged h = absurd (false≢true h)
-named_by faults.Damaged old damaged h = let is = damaged refl in (is.params, is.has_parameters)
-
--- of an image that represents a tree, where no call failed
-pub memory_left : (fault : AttachFault) (old new : DiskState) (t : Tree) (p : Parameters) → IsRefused old fault new → KeepsImage t p old fault new → (Rose old.faults new.faults → ⊥) → attach_status fault ≡ statuses.NoMemory
-memory_left faults.Disk old new t p refused keeps whole = absurd (whole (rose old.faults new.faults refused.faults))
-memory_left faults.NoMemory old new t p refused keeps whole = refl
-memory_left faults.NotImage old new t p refused keeps whole = absurd (keeps.not_image refl)
-memory_left faults.Damaged old new t p refused keeps whole = absurd (keeps.damaged refl)
-
 -- what stands of such an image, over any trees of which it represents the first
 module _ (fault : AttachFault) (old new : DiskState) (refused : IsRefused old fault new) (o : disks.IsObservable old) where
-  pub quiet_unopened : (attach_status fault ≡ statuses.DiskFault → ⊥) → IsUnwritten old new
-  quiet_unopened whole =
-      let synced = (refused.unwritten o (λ e. whole (ap attach_status e))).synced in
-      record { bytes = synced.bytes; writes = synced.writes }
-
   module _ (t : Tree) (p : Parameters) (keeps : KeepsImage t p old fault new) (trees : ℕ → Tree) where
     pub image_unopened : trees 0 ≡ t → PromisesImage (attach_status fault) 0 trees old new p
     image_unopened here = record {
@@ -290,6 +178,9 @@ all_answered statuses.Damaged done texts disk disk_new source source_new sink si
 all_answered statuses.AlreadyImage done texts disk disk_new source source_new sink sink_new each ends outside limit replies within disk_whole source_whole sink_whole = absurd (false≢true ends)
 all_answered statuses.WrongLength done texts disk disk_new source source_new sink sink_new each ends outside limit replies within disk_whole source_whole sink_whole = absurd (false≢true ends)
 all_answered statuses.Unequal done texts disk disk_new source source_new sink sink_new each ends outside limit replies within disk_whole source_whole sink_whole = absurd (false≢true ends)
+all_answered statuses.NotEmpty done texts disk disk_new source source_new sink sink_new each ends outside limit replies within disk_whole source_whole sink_whole = absurd (false≢true ends)
+all_answered statuses.BadListing done texts disk disk_new source source_new sink sink_new each ends outside limit replies within disk_whole source_whole sink_whole = absurd (false≢true ends)
+all_answered statuses.TooFull done texts disk disk_new source source_new sink sink_new each ends outside limit replies within disk_whole source_whole sink_whole = absurd (false≢true ends)
 
 -- there was no room to answer lines
 pub no_room : (word : Subcommand) (texts : Tree → List ℕ → Parameters → List (List ℕ)) (trees : Tree → List ℕ → Parameters → ℕ → Tree) → AnswersEach word texts trees
@@ -306,23 +197,6 @@ no_room word texts trees is disk_of source_of sink_of sound store reader sink re
     })
     (store_ends disk_of (sources.IsObservable (source_of reader.source)) (trees store.tree script store.params) statuses.NoMemory 0 store store (record { other = λ e. cc; count = λ faults. refl })
     (store_start disk_of (sources.IsObservable (source_of reader.source)) (trees store.tree script store.params) sound store ready (is.none store.tree script store.params)))
-
--- a reader as it is made
-pub new_reader_is_unread : {R : Type 0} (reader : LineState R) (source : R) → reader ≡ record { source = source; held = []; taken = 0; limit = script_limit; is_ended = false; is_live = true; text = [] } → IsUnread reader
-new_reader_is_unread {R} reader source is = record {
-  held = ap (λ (r : LineState R). r.held) is;
-  taken = ap (λ (r : LineState R). r.taken) is;
-  limit = ap (λ (r : LineState R). r.limit) is;
-  live = ap (λ (r : LineState R). r.is_live) is;
-}
-
--- a store that was had is ready for lines
-pub attached_is_ready : {D : Type 0} (disk_of : D → DiskState) (old : DiskState) (store : StoreState D) → IsAttached disk_of old store → IsReady disk_of store
-attached_is_ready disk_of old store attached = record {
-  runs = attached.runs;
-  fitting = attached.fitting;
-  stands = λ o. (attached.observed (sym attached.kept.observable ∙ o)).stands;
-}
 
 module _ (word : Subcommand) (texts : Tree → List ℕ → Parameters → List (List ℕ)) (trees : Tree → List ℕ → Parameters → ℕ → Tree) (is : AnswersEach word texts trees)
     {D R W : Type 0} (disk_of : D → DiskState) (source_of : R → SourceState) (sink_of : W → SinkState) (sound : (disk : D) → disks.IsObservable (disk_of disk) → IsSound (disk_of disk))

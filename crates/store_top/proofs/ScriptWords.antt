@@ -43,6 +43,9 @@ session_as_run statuses.NoMemory = refl
 session_as_run statuses.AlreadyImage = refl
 session_as_run statuses.WrongLength = refl
 session_as_run statuses.Unequal = refl
+session_as_run statuses.NotEmpty = refl
+session_as_run statuses.BadListing = refl
+session_as_run statuses.TooFull = refl
 
 pub run_each : AnswersEach words.Run run_texts run_trees
 run_each = record { as_run = run_as_run; none = no_line; each = length-run_texts }

@@ -1,15 +1,14 @@
 -- What answering a script does: the replies, their texts and the trees of its lines, and what a loop over them leaves.
 use Rattle.std.specs.Prelude.{◌≡◌, ◌⊎◌, ℕ, ◌+◌, ◌≤◌, true, false, List, [], ◌++◌, length, take, map, Result, Ok, Err, IfOk, nat_lt, if◌then◌else◌, Option, Some, None, ◌<◌, IsTrue, ◌↔◌, IsOk, IsOkAnd, ◌∷◌}
 use Rattle.store_model.specs.declared.refusal.Refusal.{Refusal}
-use Rattle.store_model.specs.declared.refusal.Refusal.TheVariants as refusals
 use Rattle.store_model.specs.Parameters.{Parameters}
 use Rattle.store_model.specs.Trees.{Tree}
 use Rattle.store_model.specs.Images.{Represents}
 use Rattle.store_model.specs.Commands as model
 use Rattle.store_model.specs.Commands.{reply_text}
 use Rattle.store_model.specs.Commands.Reply.{Refused}
-use Rattle.store_model.specs.Grammar.{parse}
-use Rattle.store_model.specs.Scripts.{lines, line_limit, script_limit, replies, tree_after}
+use Rattle.store_model.specs.Scripts.{lines, replies, tree_after}
+unfoldable pub use Rattle.store_model.specs.Scripts.{reading}
 use Rattle.disk_model.specs.DiskState.{DiskState}
 use Rattle.disk_model.specs.DiskState as disks
 use Rattle.gate_journal.specs.Places.{ReadsOnly}
@@ -29,7 +28,10 @@ use Rattle.image_check.specs.Standing.{IsFitting, Stands}
 use Rattle.store_core.specs.StoreState.{StoreState}
 use Rattle.store_core.specs.StoreCalls.{Applies}
 use Rattle.image_subcommands.specs.declared.status.Status.{Status}
+pub use Rattle.image_subcommands.specs.Limits.{HasTaken, KeepsLimit, IsUnread}
 use Rattle.image_subcommands.specs.declared.status.Status.TheVariants as statuses
+-- a store that is ready for lines is one that is ready to be loaded
+pub use Rattle.listing_subcommands.specs.Filling.{IsReady}
 use Rattle.store_top.specs.Costs.{CountsLines}
 use Rattle.store_top.specs.Promises.{PromisesReplies, CountsReplies, PromisesCrashes}
 
@@ -62,24 +64,7 @@ pub record RepliesKept (status : Status) (done : ℕ) (texts : List (List ℕ)) 
   pub counted : CountsReplies status done texts taken source_new.left
   pub written : sinks.IsObservable sink_old → WritesReplies status done texts sink_old sink_new
 
--- so many bytes were taken from the source
-pub record HasTaken (count : ℕ) (old new : SourceState) : Type 0 where
-  pub taken : List ℕ
-  pub taken_is : old.left ≡ taken ++ new.left
-  pub count_is : length taken ≡ count
-
--- the call says that the script is too long where as many bytes were taken as it may have, and one more; else no more were
--- taken than that, and a script that was read to its end has no more
-pub record KeepsLimit (status : Status) (old new : SourceState) : Type 0 where
-  pub too_long : status ≡ statuses.TooLong → HasTaken (script_limit + 1) old new
-  pub within : (status ≡ statuses.TooLong → ⊥) → (count : ℕ) × (count ≤ script_limit) × HasTaken count old new
-  pub whole : status ≡ statuses.Done → new.left ≡ []
-
 -- ---- one line
-
--- what a line asks for: `long` refuses one that has over 8,192 bytes
-unfoldable pub reading : List ℕ → Result model.Command Refusal
-reading text = if nat_lt line_limit (length text) then Err refusals.Long else parse text
 
 -- what the program read of a line is what it asks for
 abbrev pub IsAskedIn : Result Command Refusal → List ℕ → Type 0
@@ -119,19 +104,6 @@ module _ {D : Type 0} (disk_of : D → DiskState) where
   AnswersReading (Err refusal) old new result = IsRefusedLine (λ reply. reply_of reply ≡ Refused refusal) old new result
 
 -- ---- all lines
-
--- A reader of which nothing was read yet.
-pub record IsUnread {R : Type 0} (reader : LineState R) : Type 0 where
-  pub held : reader.held ≡ []
-  pub taken : reader.taken ≡ 0
-  pub limit : reader.limit ≡ script_limit
-  pub live : reader.is_live ≡ true
-
--- A store that is ready for lines.
-pub record IsReady {D : Type 0} (disk_of : D → DiskState) (store : StoreState D) : Type 0 where
-  pub runs : store.is_stopped ≡ false
-  pub fitting : IsFitting store.tree store.params
-  pub stands : disks.IsObservable (disk_of store.disk) → Stands (disk_of store.disk) store.tree store.params
 
 -- What so many lines did to an observable disk, over the trees of the run.
 pub record ChangesByLines (status : Status) (done : ℕ) (trees : ℕ → Tree) (p : Parameters) (old new : DiskState) : Type 0 where

@@ -3,7 +3,7 @@
 ghost use Rattle.std.specs.Prelude.{◌≡◌, ◌≢◌, ◌⊎◌, ℕ, Some, None};
 ghost use Rattle.store_model.specs.Parameters.{Parameters};
 ghost use Rattle.store_model.specs.Words.{request_of};
-ghost use Rattle.store_model.specs.Words.Request.{Format, Run, Session, Check, Scrub, Wipe, Upgrade, Big};
+ghost use Rattle.store_model.specs.Words.Request.{Format, Run, Session, Check, Scrub, Wipe, Upgrade, Dump, Load, Big};
 ghost use Rattle.store_top.specs.BigCall.{IsBig};
 ghost use Rattle.image_subcommands.specs.CheckCall.{IsCheck};
 ghost use Rattle.image_subcommands.specs.FormatCall.{IsFormat};
@@ -13,6 +13,8 @@ ghost use Rattle.image_subcommands.specs.ScrubCall.{IsScrub};
 ghost use Rattle.store_top.specs.SessionCall.{IsSession};
 ghost use Rattle.store_top.specs.UpgradeCall.{IsUpgrade};
 ghost use Rattle.image_subcommands.specs.WipeCall.{IsWipe};
+ghost use Rattle.listing_subcommands.specs.DumpCall.{IsDump};
+ghost use Rattle.listing_subcommands.specs.LoadCall.{IsLoad};
 ghost use Rattle.command_line.specs.Requests.{request_seen};
 
 use crate::big::big;
@@ -23,6 +25,7 @@ use crate::upgrade::upgrade;
 use command_line::{Request, Words};
 use disk_model::Disk;
 use image_subcommands::{Outcome, Status, check_disk, format_disk, scrub_disk, wipe_disk};
+use listing_subcommands::{dump_image, load_image};
 use script_lines::{Sink, Source};
 use std::alloc::Global;
 use store_base::NoMemory;
@@ -31,7 +34,8 @@ use store_base::NoMemory;
 /// version 1 and 2, `run` answers the script that the source has and writes the replies to the sink, `session` does so
 /// with a script of calls on sessions, `check` prints a line that tells what the disk holds, `scrub` recovers the image,
 /// makes its free slots zero and prints such a line, `wipe` makes every byte zero, `upgrade` makes the image one of
-/// version 2, `big` carries out the commands that a number gives and prints four lines that sum them up.
+/// version 2, `dump` prints the commands that make the tree of the image, `load` makes the tree of such a listing in an
+/// empty image, `big` carries out the commands that a number gives and prints four lines that sum them up.
 ///
 /// Words that are not well formed end with `Usage`, and then nothing is called; nor is anything called where memory
 /// runs out while the words are read. What each subcommand promises is one record: how it ends, which status comes
@@ -59,6 +63,8 @@ pub fn top<D: Disk, R: Source, W: Sink>(
     ensures scrub { request_of words.now ≡ Some Scrub → IsScrub D.state W.state (outside_of disk source sink) result }
     ensures wipe { request_of words.now ≡ Some Wipe → IsWipe D.state (outside_of disk source sink) result }
     ensures upgrade { request_of words.now ≡ Some Upgrade → IsUpgrade D.state (outside_of disk source sink) result }
+    ensures dump { request_of words.now ≡ Some Dump → IsDump D.state W.state (outside_of disk source sink) result }
+    ensures load { request_of words.now ≡ Some Load → IsLoad D.state R.state W.state (outside_of disk source sink) result }
     ensures big { (number count : ℕ) → request_of words.now ≡ Some (Big number count) → IsBig D.state W.state number count (outside_of disk source sink) result }
 {
     match words.request() {
@@ -85,6 +91,8 @@ fn serve_request<D: Disk, R: Source, W: Sink>(
     ensures scrub { request_seen request ≡ Scrub → IsScrub D.state W.state (outside_of disk source sink) result }
     ensures wipe { request_seen request ≡ Wipe → IsWipe D.state (outside_of disk source sink) result }
     ensures upgrade { request_seen request ≡ Upgrade → IsUpgrade D.state (outside_of disk source sink) result }
+    ensures dump { request_seen request ≡ Dump → IsDump D.state W.state (outside_of disk source sink) result }
+    ensures load { request_seen request ≡ Load → IsLoad D.state R.state W.state (outside_of disk source sink) result }
     ensures big { (number count : ℕ) → request_seen request ≡ Big number count → IsBig D.state W.state number count (outside_of disk source sink) result }
 {
     match request {
@@ -95,6 +103,8 @@ fn serve_request<D: Disk, R: Source, W: Sink>(
         Request::Scrub => scrub_disk(disk, source, sink),
         Request::Wipe => wipe_disk(disk, source, sink),
         Request::Upgrade => upgrade(alloc, disk, source, sink),
+        Request::Dump => dump_image(alloc, disk, source, sink),
+        Request::Load => load_image(alloc, disk, source, sink),
         Request::Big(number, count) => big(alloc, number, count, disk, source, sink),
     }
 }

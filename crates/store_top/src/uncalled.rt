@@ -11,6 +11,8 @@ ghost use Rattle.image_subcommands.specs.ScrubCall.{IsScrub};
 ghost use Rattle.store_top.specs.SessionCall.{IsSession};
 ghost use Rattle.store_top.specs.UpgradeCall.{IsUpgrade};
 ghost use Rattle.image_subcommands.specs.WipeCall.{IsWipe};
+ghost use Rattle.listing_subcommands.specs.DumpCall.{IsDump};
+ghost use Rattle.listing_subcommands.specs.LoadCall.{IsLoad};
 
 use disk_model::Disk;
 use image_subcommands::{Outcome, Status};
@@ -41,6 +43,8 @@ pub(crate) fn no_memory<D: Disk, R: Source, W: Sink>(
     ensures scrub { IsScrub D.state W.state (outside_of disk source sink) result }
     ensures wipe { IsWipe D.state (outside_of disk source sink) result }
     ensures upgrade { IsUpgrade D.state (outside_of disk source sink) result }
+    ensures dump { IsDump D.state W.state (outside_of disk source sink) result }
+    ensures load { IsLoad D.state R.state W.state (outside_of disk source sink) result }
     ensures big { (number count : ℕ) → IsBig D.state W.state number count (outside_of disk source sink) result }
 {
     Outcome::idle(Status::NoMemory, disk, source, sink)

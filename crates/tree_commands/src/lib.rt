@@ -9,4 +9,5 @@ mod parts;
 
 pub use changes::change;
 pub use looks::answer;
-pub use parts::{is_on_attributes, reveal};
+pub use parts::is_on_attributes;
+pub use script_lines::reveal;

@@ -1,9 +1,10 @@
 //! What a path's first pair says.
 
-ghost use Rattle.std.specs.Prelude.{◌≡◌, IfSome, Some};
+ghost use Rattle.std.specs.Prelude.{◌≡◌, ◌↔◌, IfSome, Some, IsTrue, [], false};
 ghost use Rattle.store_model.specs.Paths as paths;
 ghost use Rattle.tree_reader.specs.Fronts.{IsFirst};
 ghost use Rattle.tree_reader.specs.Seen as seen;
+ghost use Rattle.tree_reader.specs.Seen.{MayFollow};
 
 use path_keys::Path;
 use store_base::Key;
@@ -17,6 +18,34 @@ pub struct Entry {
     pub path: Path,
     /// What stands there.
     pub kind: Kind,
+}
+
+impl Entry {
+    /// The root, before the first entry of a tree.
+    pub fn root() -> Self
+        ensures { result ≡ record { path = []; kind = Kind.Directory } }
+    {
+        Entry {
+            path: Path::root(),
+            kind: Kind::Directory,
+        }
+    }
+
+    /// Whether an entry may stand at a path, behind this one as the last: its parent is the root, the last path if that is
+    /// a directory, or strictly above it. All paths above the last one are directories, and what stands in any other
+    /// directory has come before.
+    pub fn may_precede(&self, path: &Path) -> bool
+        requires { paths.is_root path.now ≡ false }
+        ensures { IsTrue result ↔ MayFollow self.now.path self.now.kind path.now }
+    {
+        let Some(parent) = path.parent() else {
+            return false;
+        };
+        self.path < *path
+            && (parent.is_root()
+                || (parent == self.path && self.kind == Kind::Directory)
+                || self.path.is_inside(&parent))
+    }
 }
 
 /// The entry that a first pair names; `None` exactly where it is no path's first pair under the version.

@@ -5,7 +5,7 @@ ghost use Rattle.store_model.specs.Parameters.{Parameters};
 ghost use Rattle.store_model.specs.Paths as paths;
 ghost use Rattle.path_keys.specs.Reading.{HasNoAttribute};
 ghost use Rattle.tree_reader.specs.Fronts.{MayHaveAttribute};
-ghost use Rattle.tree_reader.specs.Seen.{HasSeen, IsNextBlock, MayFollow, MayBeNext, size_of};
+ghost use Rattle.tree_reader.specs.Seen.{HasSeen, IsNextBlock, MayBeNext, size_of};
 ghost use Rattle.tree_reader.specs.ReaderCalls.{AddsPair, TellsWhole, TellsCounts};
 
 use crate::attributes::{has_attributes, is_above};
@@ -39,10 +39,7 @@ impl TreeReader {
     {
         TreeReader {
             version,
-            last: Entry {
-                path: Path::root(),
-                kind: Kind::Directory,
-            },
+            last: Entry::root(),
             read: 0,
             attribute: None,
             counts: Counts {
@@ -101,7 +98,7 @@ impl TreeReader {
         let Some(entry) = first_in(key, value.as_slice(), self.version) else {
             return false;
         };
-        if !self.may_follow(&entry.path) {
+        if !self.last.may_precede(&entry.path) {
             return false;
         }
         let Some(counts) = counted(self.counts, entry.kind) else {
@@ -115,21 +112,6 @@ impl TreeReader {
             ..*self
         };
         true
-    }
-
-    /// Whether an entry may stand at a path, behind the last one: its parent is the root, the last path if that is a
-    /// directory, or strictly above it.
-    fn may_follow(&self, path: &Path) -> bool
-        requires { paths.is_root path.now ≡ false }
-        ensures { IsTrue result ↔ MayFollow self.now.last.path self.now.last.kind path.now }
-    {
-        let Some(parent) = path.parent() else {
-            return false;
-        };
-        self.last.path < *path
-            && (parent.is_root()
-                || (parent == self.last.path && self.last.kind == Kind::Directory)
-                || self.last.path.is_inside(&parent))
     }
 
     /// Takes the pair of an attribute of a path.

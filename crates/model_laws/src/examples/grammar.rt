@@ -12,7 +12,7 @@ ghost use Rattle.store_model.specs.Commands.Reply.{ImageDigest, Refused};
 ghost use Rattle.store_model.specs.Grammar.{parse};
 ghost use Rattle.store_model.specs.Parameters.{with_version};
 ghost use Rattle.store_model.specs.Words.{request_of};
-ghost use Rattle.store_model.specs.Words.Request.{Run, Session, Check, Scrub, Wipe, Upgrade, Format, Big};
+ghost use Rattle.store_model.specs.Words.Request.{Run, Session, Check, Scrub, Wipe, Upgrade, Dump, Load, Format, Big};
 ghost use Rattle.model_laws.specs.Examples.{ruler, text, output};
 
 /// Lines that no command spells, a path that no key can hold, and a missing parent.
@@ -37,8 +37,8 @@ pub fn cut_into_lines()
 
 /// Command lines that are well formed and that are not.
 pub fn command_lines()
-    ensures one_word { map (λ word. request_of (codes word ∷ [])) ("run" ∷ "session" ∷ "check" ∷ "scrub" ∷ "wipe" ∷ "upgrade" ∷ "format" ∷ "format2" ∷ "big" ∷ []) ≡
-        Some Run ∷ Some Session ∷ Some Check ∷ Some Scrub ∷ Some Wipe ∷ Some Upgrade ∷ None ∷ None ∷ None ∷ [] }
+    ensures one_word { map (λ word. request_of (codes word ∷ [])) ("run" ∷ "session" ∷ "check" ∷ "scrub" ∷ "wipe" ∷ "upgrade" ∷ "dump" ∷ "load" ∷ "format" ∷ "format2" ∷ "big" ∷ []) ≡
+        Some Run ∷ Some Session ∷ Some Check ∷ Some Scrub ∷ Some Wipe ∷ Some Upgrade ∷ Some Dump ∷ Some Load ∷ None ∷ None ∷ None ∷ [] }
     ensures format { request_of (codes "format" ∷ codes "4" ∷ codes "2" ∷ codes "ruler" ∷ replicate 64 0x30 ∷ []) ≡
         Some (Format (ruler 4 2)) }
     ensures format_two { request_of (codes "format2" ∷ codes "4" ∷ codes "2" ∷ codes "ruler" ∷ replicate 64 0x30 ∷ []) ≡
@@ -48,6 +48,6 @@ pub fn command_lines()
     ensures no_levels { map (λ height. request_of (codes "format" ∷ codes "4" ∷ codes height ∷ codes "ruler" ∷ replicate 64 0x30 ∷ [])) ("0" ∷ "9" ∷ []) ≡ None ∷ None ∷ [] }
     ensures no_slots { request_of (codes "format" ∷ codes "0" ∷ codes "1" ∷ codes "ruler" ∷ replicate 64 0x30 ∷ []) ≡ None }
     ensures big { request_of (codes "big" ∷ codes "0" ∷ codes "1" ∷ []) ≡ Some (Big 0 1) }
-    ensures extra_word { map (λ word. request_of (codes word ∷ codes "x" ∷ [])) ("run" ∷ "session" ∷ "check" ∷ "scrub" ∷ "wipe" ∷ "upgrade" ∷ []) ≡ replicate 6 None }
+    ensures extra_word { map (λ word. request_of (codes word ∷ codes "x" ∷ [])) ("run" ∷ "session" ∷ "check" ∷ "scrub" ∷ "wipe" ∷ "upgrade" ∷ "dump" ∷ "load" ∷ []) ≡ replicate 8 None }
     ensures no_word { request_of [] ≡ None }
 {}

@@ -1,16 +1,17 @@
 //! Laws of steps and scripts.
 #![tactic(auto)]
 
-ghost use Rattle.std.specs.Prelude.{◌≡◌, ℕ, List, ◌++◌, codes};
+ghost use Rattle.std.specs.Prelude.{◌≡◌, ◌≤◌, ℕ, List, ◌++◌, length, Ok, codes};
 ghost use Rattle.store_model.specs.declared.refusal.Refusal.{Refusal};
 ghost use Rattle.store_model.specs.Parameters.{Parameters};
 ghost use Rattle.store_model.specs.Trees.{Tree};
 ghost use Rattle.sha2.specs.Sha256.{sha256};
 ghost use Rattle.store_model.specs.Images.{layout};
-ghost use Rattle.store_model.specs.Commands.{Command};
+ghost use Rattle.store_model.specs.Commands.{Command, IsCommand, command_text};
 ghost use Rattle.store_model.specs.Commands.Reply.{Refused, ImageDigest};
+ghost use Rattle.store_model.specs.Grammar.{parse};
 ghost use Rattle.store_model.specs.Steps.{step};
-ghost use Rattle.store_model.specs.Scripts.{answer, replies_by, tree_by, replies, tree_after};
+ghost use Rattle.store_model.specs.Scripts.{line_limit, reading, answer, replies_by, tree_by, replies, tree_after};
 
 /// A command or a line whose reply is a refusal leaves the tree as it was.
 pub fn refused_command_leaves_the_tree()
@@ -39,4 +40,11 @@ pub fn scripts_run_one_after_another()
     ensures tree_after_commands { (t : Tree) (first second : List Command) (p : Parameters) →
         tree_by (λ u c. step u c p) t (first ++ second) ≡
         tree_by (λ u c. step u c p) (tree_by (λ u c. step u c p) t first) second }
+{}
+
+/// A command's line is read back: its text spells it, and so it does to whoever reads the line, where it keeps the
+/// limit of a line.
+pub fn lines_spell_their_commands()
+    ensures parsed { (c : Command) → IsCommand c → parse (command_text c) ≡ Ok c }
+    ensures read { (c : Command) → IsCommand c → length (command_text c) ≤ line_limit → reading (command_text c) ≡ Ok c }
 {}

@@ -8,8 +8,8 @@ use std::alloc::Global;
 use std::process::Abort;
 use store_core::Store;
 
-/// What a row shows; lines, and the line of a commit behind them, whose second question reads the whole image; the status
-/// where each call of the disk fails from that commit on; how many lines are done; and their replies.
+/// What a row shows; lines, and the line of a commit behind them, whose second question reads the whole image; the
+/// status where each call of the disk fails from that commit on; how many lines are done; and their replies.
 static COMMITS: &str = "\
     behind a question that has another answer none is asked|\
         begin\nbegin\nask 0 list /\nask 0 digest\nstage 1 make /a\ncommit 1\n|commit 0\n|0|7|\
@@ -126,8 +126,8 @@ fn serve(
     if is_asked { failed } else { Failed::Ask }
 }
 
-/// What fails of a session where this call of the disk does, on the first of these images. But where the store is stopped
-/// or the image was not opened, the disk has the second one then.
+/// What fails of a session where this call of the disk does, on the first of these images. But where the store is
+/// stopped or the image was not opened, the disk has the second one then.
 fn failed_at(rt: &impl Abort, alloc: Global, images: [&[u8]; 2], call: u64) -> Failed {
     let [found, made] = images;
     let disk = disk_of(rt, alloc, found, Failure { call, crash: None });

@@ -10,9 +10,9 @@ use std::process::Abort;
 use store_core::Store;
 
 /// What a row shows; the format and the script of the image that is found; the lines, and their replies, as texts that
-/// each stand there so many times; how many lines are answered, and the writes and syncs, two syncs of opening the image
-/// among them; what `check` prints of the image that is left; and a script that leaves the same image, or `-` where none
-/// is tried.
+/// each stand there so many times; how many lines are answered, and the writes and syncs, two syncs of opening the
+/// image among them; what `check` prints of the image that is left; and a script that leaves the same image, or `-`
+/// where none is tried.
 static ROWS: &str = "\
     a group is committed, and the question of another has another answer|format 4 1 ruler zeros||\
         1 begin\nbegin\nask 0 list /\nstage 0 make /a\nstage 1 make /b\ncommit 1\ncommit 0\n|\
@@ -111,8 +111,8 @@ static ROWS: &str = "\
         digest 19221f1e1c7f032326d3fcad1ba5cc00b4375f92e53c441f685da943af2ce38c\n|\
         14 22 7|clean 4 3 0 0\n|make /UU\nmake /Ua\nmake /UU/d\n";
 
-/// Looks whether the lines of the row, as `session` answers them on the image of the machine, have these replies and lead
-/// to what the row says.
+/// Looks whether the lines of the row, as `session` answers them on the image of the machine, have these replies and
+/// lead to what the row says.
 fn expect_lines(
     rt: &impl Abort,
     machine: &mut Machine,

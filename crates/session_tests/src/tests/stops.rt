@@ -4,9 +4,9 @@ use super::support::{CALM, Failure, MOST_CALLS, Machine, expect, fields, numbers
 use disk_model::StopChoice;
 use std::process::Abort;
 
-/// What a row shows; the format and the script of the image that is found; the lines; their replies, each of one line but
-/// for the last one; how many lines there are, and how many are done once the group is committed that changes the tree;
-/// and a script for the tree then.
+/// What a row shows; the format and the script of the image that is found; the lines; their replies, each of one line
+/// but for the last one; how many lines there are, and how many are done once the group is committed that changes the
+/// tree; and a script for the tree then.
 static SESSIONS: &str = "\
     two groups, of which one is committed|format 4 1 ruler zeros||\
         begin\nbegin\nask 0 list /\nstage 0 make /a\nstage 1 make /b\ncommit 1\ncommit 0\n|\
@@ -58,8 +58,8 @@ fn expect_stopped(rt: &impl Abort, machine: &mut Machine, row: [&str; 8], images
     expect(rt, is_ended & (is_old | is_new), "the next session", row[0]);
 }
 
-/// Looks whether the session of the row, cut short at each of its calls of the disk, leaves what the next one may find, and
-/// answers how many these are.
+/// Looks whether the session of the row, cut short at each of its calls of the disk, leaves what the next one may find,
+/// and answers how many these are.
 fn calls_of(
     rt: &impl Abort,
     machine: &mut Machine,
@@ -82,8 +82,8 @@ fn calls_of(
     MOST_CALLS
 }
 
-/// Makes the images of the row, and looks at each way to stop. The first fault ends a session, so that each of its calls
-/// is one that fails in each of these.
+/// Makes the images of the row, and looks at each way to stop. The first fault ends a session, so that each of its
+/// calls is one that fails in each of these.
 fn expect_row(rt: &impl Abort, machine: &mut Machine, row: [&str; 8]) {
     machine.make(rt, row[1], row[6]);
     let new = machine.copy(rt);

@@ -1,7 +1,7 @@
 //! What the tests share: a machine in memory, on which `top` is called, and the fields of a row of a table.
 //!
-//! Tables are texts, each with rows parted by `#` and fields parted by `|`. What a call comes to stays in the machine, so
-//! that nothing is handed out that owns memory.
+//! Tables are texts, each with rows parted by `#` and fields parted by `|`. What a call comes to stays in the machine,
+//! so that nothing is handed out that owns memory.
 
 use disk_model::{Disk, FailingDisk, MemDisk, StopChoice};
 use script_lines::{MemSink, MemSource};
@@ -60,7 +60,7 @@ pub struct Machine {
 }
 
 /// The words of a text, parted by blanks.
-fn words_of(rt: &impl Abort, alloc: Global, text: &str) -> Words {
+pub fn words_of(rt: &impl Abort, alloc: Global, text: &str) -> Words {
     let mut words = Words::new(alloc);
     for word in text.split_whitespace() {
         let word = if word == "zeros" { ZEROS } else { word };

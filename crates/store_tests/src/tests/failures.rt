@@ -10,7 +10,8 @@ const MOST_CALLS: u64 = 200;
 
 /// What a row shows; the image, as in the tables of images that no script leaves, of which the first block is zeros
 /// where one is to be made; the words and the script of the call that is cut short; what it prints where nothing fails;
-/// and a script for the tree whose layout it leaves then, of version 2 where it is an upgrade. A wipe leaves zeros.
+/// and a script for the tree whose layout it leaves then, of version 2 where it is an upgrade. A wipe leaves zeros. What
+/// comes next behind a load is a run.
 /// Behind the first three of them the next call is cut short in turn.
 static CALLS: &str = "\
     a page displaces another one round the end|format 4 2 ruler zeros|make /Ua\n|||run|make /UU\n|ok\n|\
@@ -21,6 +22,7 @@ static CALLS: &str = "\
         write /a 0 41\nwrite /b 0 41\nwrite /c 0 41\nwrite /d 0 41\nwrite /e 0 41\nwrite /f 0 41\n|||upgrade|||\
         write /a 0 41\nwrite /b 0 41\nwrite /c 0 41\nwrite /d 0 41\nwrite /e 0 41\nwrite /f 0 41\n#\
     no slot changes, and the version does|format 1 1 ruler zeros|make /a\n|||upgrade|||make /a\n#\
+    a listing of three pages is loaded|format 4 2 ruler zeros||||load|make /UU\nmake /Ua\n||make /UU\nmake /Ua\n#\
     a removal shifts a page|format 8 2 ruler zeros|make /UD\nmake /UE\nmake /Ud\n|||run|remove /UD\n|ok\n|\
         make /Ud\nmake /UE\n#\
     a removal by which a page goes|format 4 1 ruler zeros|\
@@ -47,6 +49,14 @@ struct Images<'a> {
     again: bool,
 }
 
+/// The words of the next call: a second load would find an image that is not empty.
+fn next_words<'a>(row: [&'a str; 9]) -> &'a str {
+    match row[5] {
+        "load" => "run",
+        words => words,
+    }
+}
+
 /// The status of a call with the words of the row where nothing fails: no image is made where one begins.
 fn next_status(machine: &Machine, row: [&str; 9]) -> u8 {
     if row[5].starts_with("format") && machine.image().starts_with(b"H") {
@@ -56,12 +66,12 @@ fn next_status(machine: &Machine, row: [&str; 9]) -> u8 {
     }
 }
 
-/// Calls with the words of the row and no script, where nothing fails, and answers whether that ends with its status. A
-/// scrub prints what the row says, and all else nothing.
+/// Makes the next call with no script, where nothing fails, and answers whether that ends with its status. A scrub prints
+/// what the row says, and all else nothing.
 fn is_next_ended(rt: &impl Abort, machine: &mut Machine, row: [&str; 9]) -> bool {
     let status = next_status(machine, row);
     let written = if row[5] == "scrub" { row[7] } else { "" };
-    machine.call(rt, row[5], "");
+    machine.call(rt, next_words(row), "");
     (machine.ended.status == status) & (machine.written() == written.as_bytes())
 }
 
@@ -136,7 +146,7 @@ fn expect_opened_or_refused(
 /// one that is scrubbed or upgraded is opened, or refused.
 fn expect_no_part(rt: &impl Abort, machine: &mut Machine, row: [&str; 9], images: &Images<'_>) {
     match row[5] {
-        "run" => {}
+        "run" | "load" => {}
         "scrub" | "upgrade" => expect_opened_or_refused(rt, machine, row, images),
         "wipe" => expect_whole_or_none(rt, machine, images.found, row[0]),
         _ => expect_whole_or_none(rt, machine, images.new, row[0]),
@@ -255,7 +265,7 @@ pub fn expect_failures(rt: &impl Abort, machine: &mut Machine, row: [&str; 9], a
     let found = machine.copy(rt);
     leave(rt, machine, row);
     let new = machine.copy(rt);
-    if row[5] == "run" {
+    if next_words(row) == "run" {
         machine.make(rt, row[1], row[2]);
     }
     let old = machine.copy(rt);

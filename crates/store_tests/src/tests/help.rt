@@ -9,7 +9,7 @@ use std::process::Abort;
 
 /// What a subcommand is called with what stands before it on a command line, in the order of the help; first the
 /// command line itself.
-static SUBCOMMANDS: [(Option<Subcommand>, &str); 10] = [
+static SUBCOMMANDS: [(Option<Subcommand>, &str); 12] = [
     (None, "./hstore IMAGE"),
     (Some(Subcommand::Format), "./hstore IMAGE format"),
     (Some(Subcommand::Format2), "./hstore IMAGE format2"),
@@ -19,6 +19,8 @@ static SUBCOMMANDS: [(Option<Subcommand>, &str); 10] = [
     (Some(Subcommand::Scrub), "./hstore IMAGE scrub"),
     (Some(Subcommand::Wipe), "./hstore IMAGE wipe"),
     (Some(Subcommand::Upgrade), "./hstore IMAGE upgrade"),
+    (Some(Subcommand::Dump), "./hstore IMAGE dump"),
+    (Some(Subcommand::Load), "./hstore IMAGE load"),
     (Some(Subcommand::Big), "./hstore IMAGE big"),
 ];
 
@@ -94,6 +96,8 @@ Subcommands:
   scrub    Makes zeros of whatever the free slots of an image hold.
   wipe     Makes every byte of the file zero, whatever the file is.
   upgrade  Makes an image of version 1 one of version 2.
+  dump     Prints the commands that make what the image holds.
+  load     Makes what a listing on standard input tells, in an empty image.
   big      Carries out generated commands, and prints what came of them.
 
 IMAGE is the path of the image's file. `format` and `format2` make the file; every other subcommand
@@ -172,6 +176,21 @@ Usage: ./hstore IMAGE upgrade
 
 The image holds what it held, and none of its bytes tells that it was of version 1. It cannot be taken
 back. On an image of version 2 nothing is done.
+== dump
+Prints the commands that make what the image holds.
+
+Usage: ./hstore IMAGE dump
+
+They are `make`, `write` and `set`, a line each, in the order of paths: a listing, which `load` takes.
+The front of a listing is a listing too: the status tells whether all of it was printed.
+== load
+Makes what a listing on standard input tells, in an empty image.
+
+Usage: ./hstore IMAGE load
+
+A listing is what `dump` prints, of an image of any size, height, draw and seed. Its tree comes into the
+image whole or not at all. Where it has no room, `no full NEED SLOTS` is printed: how many slots it
+needs, and how many there are.
 == big
 Carries out generated commands, and prints what came of them.
 

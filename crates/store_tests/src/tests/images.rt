@@ -1,6 +1,7 @@
-//! Images that no script leaves: what `check` finds of them, and what a run, a scrub and an upgrade make of them.
+//! Images that no script leaves: what `check` finds of them, what a run, a scrub and an upgrade make of them, and what is
+//! dumped of them and loaded.
 
-use super::support::{LEAST, Machine, expect, fields, number, status_of};
+use super::support::{CALM, LEAST, Machine, expect, fields, number, status_of};
 use std::process::Abort;
 
 /// What a row shows; the format and the script of an image; what is written over: blocks that are copied to another
@@ -268,6 +269,54 @@ fn expect_opened(rt: &impl Abort, machine: &mut Machine, row: [&str; 9], images:
     expect_call(rt, machine, row, images.found, &upgrade);
 }
 
+/// Looks whether a dump opens what represents a tree, and whether what it prints is loaded as that tree into an empty
+/// image of the same parameters. What represents none it refuses, and prints nothing.
+fn expect_dumped(rt: &impl Abort, machine: &mut Machine, row: [&str; 9], images: &Images<'_>) {
+    machine.load(rt, images.found);
+    machine.call(rt, "dump", "make /b\n");
+    let has_tree = row[6] != "-";
+    let is_ended = (machine.ended.status == status_of(row[5]))
+        & (machine.ended.done == u64::from(has_tree));
+    let is_left = machine.image() == images.left;
+    expect(rt, is_ended & is_left, "dump", row[0]);
+    let listing = machine.copy_written(rt);
+    if has_tree {
+        make_empty(rt, machine, row);
+        machine.call_in(rt, "load", &listing, &CALM);
+        let is_loaded = machine.is_ended(0, 1, "") & (machine.image() == images.left);
+        expect(rt, is_loaded, "load", row[0]);
+    } else {
+        expect(rt, listing.is_empty(), "dump", row[0]);
+    }
+}
+
+/// Looks whether a load of no line is refused where a tree stands in the image, or none, and whether it leaves the empty
+/// tree.
+fn expect_unloaded(rt: &impl Abort, machine: &mut Machine, row: [&str; 9], images: &Images<'_>) {
+    machine.load(rt, images.found);
+    machine.call(rt, "load", "");
+    let status = match row[6] {
+        "-" => status_of(row[5]),
+        "" => 0,
+        _ => 14,
+    };
+    let is_ended = machine.is_ended(status, u64::from(status == 0), "");
+    expect(
+        rt,
+        is_ended & (machine.image() == images.left),
+        "load",
+        row[0],
+    );
+}
+
+/// Has the image of the empty tree that is of the parameters of the row's image.
+fn make_empty(rt: &impl Abort, machine: &mut Machine, row: [&str; 9]) {
+    match row[8] {
+        "" => machine.make(rt, row[1], ""),
+        word => machine.make_by(rt, word, row[1], ""),
+    }
+}
+
 /// Has the image of the tree of the row, made by this word where there is one, or else as the row's format says. Where
 /// the row represents no tree, the image stays.
 fn make_tree(rt: &impl Abort, machine: &mut Machine, row: [&str; 9], word: &str) {
@@ -293,6 +342,8 @@ pub fn expect_row(rt: &impl Abort, machine: &mut Machine, row: [&str; 9]) {
     };
     expect_reports(rt, machine, row, &images);
     expect_opened(rt, machine, row, &images);
+    expect_dumped(rt, machine, row, &images);
+    expect_unloaded(rt, machine, row, &images);
 }
 
 #[test]
@@ -313,6 +364,8 @@ static REFUSED: &str = "\
     scrub|7|1|not-image\n#\
     run|7|0|#\
     upgrade|7|0|#\
+    dump|7|0|#\
+    load|7|0|#\
     big 0 1|7|0|#\
     format 1 1 ruler zeros|11|0|#\
     format2 1 1 ruler zeros|11|0|#\

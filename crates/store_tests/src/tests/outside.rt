@@ -34,7 +34,7 @@ const NOTHING: Failing = Failing {
 
 /// Each take and each put in turn, one behind the last of each, which no call makes; and calls of the disk.
 #[rattlefmt::skip]
-static FAILURES: [Failing; 19] = [
+static FAILURES: [Failing; 28] = [
     NOTHING,
     Failing { outside: Outside { take: 0, ..CALM }, status: 3, done: 0, written: "", tree: "", ..NOTHING },
     // The first line and the beginning of the second one have come.
@@ -55,6 +55,18 @@ static FAILURES: [Failing; 19] = [
     Failing { word: "check", outside: Outside { from: 3, ..CALM }, status: 5, done: 0, written: "", tree: "", ..NOTHING },
     Failing { word: "scrub", outside: Outside { put: 0, ..CALM }, status: 4, done: 1, written: "", tree: "", ..NOTHING },
     Failing { word: "upgrade", outside: Outside { from: 0, ..CALM }, status: 5, done: 0, written: "", tree: "", ..NOTHING },
+    Failing { word: "dump", outside: Outside { from: 0, ..CALM }, status: 5, done: 0, written: "", tree: "", ..NOTHING },
+    // The empty tree has no line, so that nothing is put.
+    Failing { word: "dump", outside: Outside { take: 0, put: 0, ..CALM }, done: 1, written: "", tree: "", ..NOTHING },
+    // `list /` is no line of a listing, which is told at the end of the source.
+    Failing { word: "load", status: 15, done: 0, written: "", tree: "", ..NOTHING },
+    Failing { word: "load", outside: Outside { put: 0, ..CALM }, status: 15, done: 0, written: "", tree: "", ..NOTHING },
+    Failing { word: "load", outside: Outside { take: 0, ..CALM }, status: 3, done: 0, written: "", tree: "", ..NOTHING },
+    Failing { word: "load", outside: Outside { piece: 10, take: 1, ..CALM }, status: 3, done: 0, written: "", tree: "", ..NOTHING },
+    // The whole of the listing has come, and not the end behind it.
+    Failing { word: "load", outside: Outside { piece: 10, take: 2, ..CALM }, status: 3, done: 0, written: "", tree: "", ..NOTHING },
+    Failing { word: "load", outside: Outside { piece: 10, take: 3, ..CALM }, status: 15, done: 0, written: "", tree: "", ..NOTHING },
+    Failing { word: "load", outside: Outside { from: 0, ..CALM }, status: 5, done: 0, written: "", tree: "", ..NOTHING },
     Failing { word: "wipe", outside: Outside { from: 0, ..CALM }, status: 5, done: 0, written: "", tree: "", ..NOTHING },
 ];
 

@@ -204,6 +204,11 @@ impl Machine {
         &self.written
     }
 
+    /// A copy of what the last call wrote.
+    pub fn copy_written(&self, rt: &impl Abort) -> Vec<u8> {
+        bytes_of(rt, self.alloc, &self.written)
+    }
+
     /// Has these bytes as its image.
     pub fn load(&mut self, rt: &impl Abort, bytes: &[u8]) {
         self.image = bytes_of(rt, self.alloc, bytes);

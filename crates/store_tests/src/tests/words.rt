@@ -15,11 +15,20 @@ static WANTED: &str = "\
     scrub|existing#\
     wipe|existing#\
     upgrade|existing#\
+    dump|existing#\
+    load|existing#\
     run now|usage#\
     check x|usage#\
     upgrade x|usage#\
     upgrade 1 1 ruler 0000000000000000000000000000000000000000000000000000000000000000|usage#\
     Upgrade|usage#\
+    dump x|usage#\
+    dump /|usage#\
+    Dump|usage#\
+    load x|usage#\
+    load load|usage#\
+    Load|usage#\
+    dump load|usage#\
     check check|usage#\
     run check|usage#\
     Check|usage#\

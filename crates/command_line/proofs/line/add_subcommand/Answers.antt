@@ -17,6 +17,8 @@ local_subcommand subcommands.Check command is = is.local
 local_subcommand subcommands.Scrub command is = is.local
 local_subcommand subcommands.Wipe command is = is.local
 local_subcommand subcommands.Upgrade command is = is.local
+local_subcommand subcommands.Dump command is = is.local
+local_subcommand subcommands.Load command is = is.local
 local_subcommand subcommands.Big command is = is.local
 
 pub returns : goal.returns

@@ -12,7 +12,7 @@ use Rattle.command_line.specs.declared.line.Subcommand.TheVariants as subcommand
 use Rattle.command_line.proofs.line.command.Goals as goal
 
 abbrev all : List Subcommand
-all = subcommands.Format ∷ subcommands.Format2 ∷ subcommands.Run ∷ subcommands.Session ∷ subcommands.Check ∷ subcommands.Scrub ∷ subcommands.Wipe ∷ subcommands.Upgrade ∷ subcommands.Big ∷ []
+all = subcommands.Format ∷ subcommands.Format2 ∷ subcommands.Run ∷ subcommands.Session ∷ subcommands.Check ∷ subcommands.Scrub ∷ subcommands.Wipe ∷ subcommands.Upgrade ∷ subcommands.Dump ∷ subcommands.Load ∷ subcommands.Big ∷ []
 
 pub loop-subcommand-init : goal.loop-subcommand-init
 loop-subcommand-init c = λ whole added.
@@ -24,7 +24,9 @@ loop-subcommand-init c = λ whole added.
     let scrub = check.2 in
     let wipe = scrub.2 in
     let upgrade = wipe.2 in
-    let big = upgrade.2 in
+    let dump = upgrade.2 in
+    let load = dump.2 in
+    let big = load.2 in
     let top = λ (a : App). a.top in
     let one = ap₂ with_subcommand c.without_subcommands-line.ensures.line (ap top format.subcommand.subcommand_is) in
     let two = ap₂ with_subcommand one (ap top format_two.1.subcommand.subcommand_is) in
@@ -34,10 +36,12 @@ loop-subcommand-init c = λ whole added.
     let six = ap₂ with_subcommand five (ap top scrub.1.subcommand_is) in
     let seven = ap₂ with_subcommand six (ap top wipe.1.subcommand_is) in
     let eight = ap₂ with_subcommand seven (ap top upgrade.1.subcommand_is) in
+    let nine = ap₂ with_subcommand eight (ap top dump.1.subcommand_is) in
+    let ten = ap₂ with_subcommand nine (ap top load.1.subcommand_is) in
     record {
       draws = λ (version : Version). elim version as (λ _. ValueParser) [ One ↦ format.draws | Two ↦ format_two.1.draws ];
       takes_draws = λ (version : Version). elim version as (λ version. TakesDraws (elim version as (λ _. ValueParser) [ One ↦ format.draws | Two ↦ format_two.1.draws ])) [ One ↦ format.takes_draws | Two ↦ format_two.1.takes_draws ];
-      line_is = big.2 ∙ ap₂ with_subcommand eight (ap top big.1.subcommand_is);
+      line_is = big.2 ∙ ap₂ with_subcommand ten (ap top big.1.subcommand_is);
     }
 
 -- the next subcommand goes behind those that are there

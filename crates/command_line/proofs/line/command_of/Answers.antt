@@ -45,6 +45,14 @@ pub returns-in-Upgrade : goal.returns-in-Upgrade
 returns-in-Upgrade c = subst (λ (subcommand : Subcommand). IfOk c.subcommand_with-in-Upgrade.result (IsSubcommandOf subcommand)) (sym c.in-Upgrade.is)
     (IfOk-weaker c.subcommand_with-in-Upgrade.result _ _ (λ command built. record { subcommand_is = built.subcommand_is; local = built.local }) c.subcommand_with-in-Upgrade.ensures)
 
+pub returns-in-Dump : goal.returns-in-Dump
+returns-in-Dump c = subst (λ (subcommand : Subcommand). IfOk c.subcommand_with-in-Dump.result (IsSubcommandOf subcommand)) (sym c.in-Dump.is)
+    (IfOk-weaker c.subcommand_with-in-Dump.result _ _ (λ command built. record { subcommand_is = built.subcommand_is; local = built.local }) c.subcommand_with-in-Dump.ensures)
+
+pub returns-in-Load : goal.returns-in-Load
+returns-in-Load c = subst (λ (subcommand : Subcommand). IfOk c.subcommand_with-in-Load.result (IsSubcommandOf subcommand)) (sym c.in-Load.is)
+    (IfOk-weaker c.subcommand_with-in-Load.result _ _ (λ command built. record { subcommand_is = built.subcommand_is; local = built.local }) c.subcommand_with-in-Load.ensures)
+
 pub returns-in-Big : goal.returns-in-Big
 returns-in-Big c = subst (λ (subcommand : Subcommand). IfOk c.subcommand_with-in-Big.result (IsSubcommandOf subcommand)) (sym c.in-Big.is)
     (IfOk-weaker c.subcommand_with-in-Big.result _ _ (λ command built. record { subcommand_is = built.subcommand_is; local = built.local }) c.subcommand_with-in-Big.ensures)

@@ -27,5 +27,13 @@ pub returns-in-upgrade-clause-value : goal.returns-in-upgrade-clause-value
 unfolding request_of
 returns-in-upgrade-clause-value c = rw c.in-upgrade.is refl
 
+pub returns-in-dump-clause-value : goal.returns-in-dump-clause-value
+unfolding request_of
+returns-in-dump-clause-value c = rw c.in-dump.is refl
+
+pub returns-in-load-clause-value : goal.returns-in-load-clause-value
+unfolding request_of
+returns-in-load-clause-value c = rw c.in-load.is refl
+
 pub returns-in_default-clause-value : goal.returns-in_default-clause-value
-returns-in_default-clause-value c = sym (other_single c.args.name.now c.in_default.not-run c.in_default.not-session c.in_default.not-check c.in_default.not-scrub c.in_default.not-wipe c.in_default.not-upgrade)
+returns-in_default-clause-value c = sym (other_single c.args.name.now c.in_default.not-run c.in_default.not-session c.in_default.not-check c.in_default.not-scrub c.in_default.not-wipe c.in_default.not-upgrade c.in_default.not-dump c.in_default.not-load)

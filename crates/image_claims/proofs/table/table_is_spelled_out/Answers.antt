@@ -1,4 +1,4 @@
-use Rattle.image_claims.proofs.EndingLemmas.{numbers, format_ends, run_ends, session_ends, check_ends, scrub_ends, wipe_ends, upgrade_ends, big_ends, mirror_ends, may_end_format, may_end_run, may_end_session, may_end_check, may_end_scrub, may_end_wipe, may_end_upgrade, may_end_big, may_end_mirror}
+use Rattle.image_claims.proofs.EndingLemmas.{numbers, format_ends, run_ends, session_ends, check_ends, scrub_ends, wipe_ends, upgrade_ends, dump_ends, load_ends, big_ends, mirror_ends, may_end_format, may_end_run, may_end_session, may_end_check, may_end_scrub, may_end_wipe, may_end_upgrade, may_end_dump, may_end_load, may_end_big, may_end_mirror}
 use Rattle.image_claims.proofs.table.table_is_spelled_out.Goals as goal
 
 pub returns-clause-numbers : goal.returns-clause-numbers
@@ -24,6 +24,12 @@ returns-clause-wipe c status = (wipe_ends status, may_end_wipe status)
 
 pub returns-clause-upgrade : goal.returns-clause-upgrade
 returns-clause-upgrade c status = (upgrade_ends status, may_end_upgrade status)
+
+pub returns-clause-dump : goal.returns-clause-dump
+returns-clause-dump c status = (dump_ends status, may_end_dump status)
+
+pub returns-clause-load : goal.returns-clause-load
+returns-clause-load c status = (load_ends status, may_end_load status)
 
 pub returns-clause-big : goal.returns-clause-big
 returns-clause-big c number count status = (big_ends status, may_end_big status)

@@ -1,6 +1,6 @@
-use Rattle.std.proofs.Common.{◌≡◌, [], ◌∷◌, ◌++◌, List, take, ap, ap₂, sym, ◌∙◌}
+use Rattle.std.proofs.Common.{[], ◌∷◌, ◌++◌, List, take, ap, ap₂, sym, ◌∙◌}
 use Rattle.std.proofs.lemmas.List.{append-nil, take_all}
-use Rattle.store_model.specs.Pages.{Cell, IsCell}
+use Rattle.store_model.specs.Pages.{Cell}
 use Rattle.node_pages.specs.Cells.{CellList}
 use Rattle.layout_scratch.specs.Ranks.{cells_on}
 use Rattle.layout_scratch.proofs.LevelCells.{cells_on-stays, cells_on-skips, cells_on-more}

@@ -12,7 +12,7 @@ loop-pair-preserved g c =
     let p = c.pair-item.result in
     let below : i < length pairs = omega (arith, c.loop-pair-test.true, ap length c.as_slice-pair-items.ensures.value) in
     let here : p ≡ get_or pairs i p = c.pair-item.is ∙ ap (λ xs. get_or xs i p) c.as_slice-pair-items.ensures.value in
-    rank_more (g.W.Draw.drawn c.args.draw.now) pairs i c.loop-pair.ranked.items c.push.new.self.items _ c.loop-pair.invariant c.in_ok-push.ensures.items below here c.level.ensures c.reveal.ensures
+    rank_more (g.W.Draw.drawn c.args.draw.now) pairs i c.loop-pair.ranked.items c.push.new.self.items _ c.loop-pair.invariant c.in_ok-push.ensures.items below here c.level_from.ensures c.reveal.ensures
 
 pub returns-clause-pairs : goal.returns-clause-pairs
 returns-clause-pairs g c = (rank_all (g.W.Draw.drawn c.args.draw.now) c.args.pairs.now c.loop-pair.pair-index c.loop-pair.ranked.items c.loop-pair.invariant (omega (arith, c.loop-pair-test.false, ap length c.as_slice-pair-items.ensures.value))).pairs_are

@@ -13,5 +13,7 @@ returns g c = record {
   scrub = c.top.ensures.scrub;
   wipe = c.top.ensures.wipe;
   upgrade = c.top.ensures.upgrade;
+  dump = c.top.ensures.dump;
+  load = c.top.ensures.load;
   big = c.top.ensures.big;
 }

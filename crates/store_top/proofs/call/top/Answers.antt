@@ -31,6 +31,12 @@ returns-in-Ok-Some-clause-wipe g c is = c.serve_request.ensures.wipe (same_asked
 pub returns-in-Ok-Some-clause-upgrade : goal.returns-in-Ok-Some-clause-upgrade
 returns-in-Ok-Some-clause-upgrade g c is = c.serve_request.ensures.upgrade (same_asked request_seen c.in-Ok-Some.field-0-is c.in-Ok-Some.ensures.value is)
 
+pub returns-in-Ok-Some-clause-dump : goal.returns-in-Ok-Some-clause-dump
+returns-in-Ok-Some-clause-dump g c is = c.serve_request.ensures.dump (same_asked request_seen c.in-Ok-Some.field-0-is c.in-Ok-Some.ensures.value is)
+
+pub returns-in-Ok-Some-clause-load : goal.returns-in-Ok-Some-clause-load
+returns-in-Ok-Some-clause-load g c is = c.serve_request.ensures.load (same_asked request_seen c.in-Ok-Some.field-0-is c.in-Ok-Some.ensures.value is)
+
 pub returns-in-Ok-Some-clause-big : goal.returns-in-Ok-Some-clause-big
 returns-in-Ok-Some-clause-big g c number count is = c.serve_request.ensures.big number count (same_asked request_seen c.in-Ok-Some.field-0-is c.in-Ok-Some.ensures.value is)
 

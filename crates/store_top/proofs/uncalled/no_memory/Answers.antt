@@ -4,11 +4,14 @@ use Rattle.image_subcommands.specs.FormatCall.{IsFormat}
 use Rattle.image_subcommands.specs.Outside.{outside_of}
 use Rattle.image_subcommands.specs.ScrubCall.{IsScrub}
 use Rattle.image_subcommands.specs.WipeCall.{IsWipe}
+use Rattle.listing_subcommands.specs.DumpCall.{IsDump}
+use Rattle.listing_subcommands.specs.LoadCall.{IsLoad}
 use Rattle.store_top.specs.BigCall.{IsBig}
 use Rattle.store_top.specs.RunCall.{IsRun}
 use Rattle.store_top.specs.SessionCall.{IsSession}
 use Rattle.store_top.specs.UpgradeCall.{IsUpgrade}
 use Rattle.image_subcommands.proofs.UncalledLemmas.{format_uncalled, check_uncalled, scrub_uncalled, wipe_uncalled}
+use Rattle.listing_subcommands.proofs.UncalledLemmas.{dump_uncalled, load_uncalled}
 use Rattle.store_top.proofs.UncalledLemmas.{run_uncalled, session_uncalled, upgrade_uncalled, big_uncalled}
 use Rattle.store_top.proofs.uncalled.no_memory.Goals as goal
 
@@ -46,6 +49,16 @@ pub returns-clause-upgrade : goal.returns-clause-upgrade
 returns-clause-upgrade g c =
     let before = outside_of c.args.disk c.args.source c.args.sink in
     subst (λ after. IsUpgrade g.D.Disk.state before after) (sym c.idle.ensures) (upgrade_uncalled g.D.Disk.state g.R.Source.state g.W.Sink.state g.met.D.Disk.sound before)
+
+pub returns-clause-dump : goal.returns-clause-dump
+returns-clause-dump g c =
+    let before = outside_of c.args.disk c.args.source c.args.sink in
+    subst (λ after. IsDump g.D.Disk.state g.W.Sink.state before after) (sym c.idle.ensures) (dump_uncalled g.D.Disk.state g.W.Sink.state g.met.D.Disk.sound before)
+
+pub returns-clause-load : goal.returns-clause-load
+returns-clause-load g c =
+    let before = outside_of c.args.disk c.args.source c.args.sink in
+    subst (λ after. IsLoad g.D.Disk.state g.R.Source.state g.W.Sink.state before after) (sym c.idle.ensures) (load_uncalled g.D.Disk.state g.W.Sink.state g.met.D.Disk.sound before g.R.Source.state)
 
 pub returns-clause-big : goal.returns-clause-big
 returns-clause-big g c number count =

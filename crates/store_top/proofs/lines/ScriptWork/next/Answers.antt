@@ -5,7 +5,8 @@ use Rattle.store_model.specs.declared.refusal.Refusal.TheVariants as refusals
 use Rattle.script_lines.specs.InPlace.{in_place}
 use Rattle.store_top.specs.Runs.{IsAskedIn, ReadsLine}
 use Rattle.store_top.specs.Turns.{asked_for}
-use Rattle.store_top.proofs.LineReadings.{read_asks, reading_short, reading_long, fault_read, reads_text, reads_long, reads_end}
+use Rattle.image_subcommands.proofs.LineLimits.{reading_short, reading_long}
+use Rattle.store_top.proofs.LineReadings.{read_asks, fault_read, reads_text, reads_long, reads_end}
 use Rattle.store_top.proofs.ScriptTurns.{script_next, at_line_fault}
 use Rattle.store_top.proofs.lines.ScriptWork.next.Goals as goal
 

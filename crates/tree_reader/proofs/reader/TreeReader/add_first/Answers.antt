@@ -13,13 +13,13 @@ returns-in_default c =
     first_refused c.args.self.now c.args.key.now c.args.value.now c.requires.whole c.requires.no_attribute
     (λ path kind first follows. none-some _ (c.in_default.ensures.only path kind (subst (IsFirst c.args.self.now.version path kind c.args.key.now) (sym c.as_slice.ensures.value) first)))
 
-pub returns-then-not-may_follow : goal.returns-then-not-may_follow
-returns-then-not-may_follow c =
+pub returns-then-not-may_precede : goal.returns-then-not-may_precede
+returns-then-not-may_precede c =
     let old = c.args.self.now in
     first_refused old c.args.key.now c.args.value.now c.requires.whole c.requires.no_attribute
     (λ path kind first follows.
     let same = same_Some c.in-Some.entry (record { path = path; kind = kind }) (c.in-Some.ensures.only path kind (subst (IsFirst c.args.self.now.version path kind c.args.key.now) (sym c.as_slice.ensures.value) first)) in
-    false≢true (c.if-not-may_follow.ensures.1 (subst (λ (entry : Entry). MayFollow old.last.path old.last.kind entry.path) (sym same) follows)))
+    false≢true (c.if-not-may_precede.ensures.1 (subst (λ (entry : Entry). MayFollow old.last.path old.last.kind entry.path) (sym same) follows)))
 
 pub returns-in_default-counted : goal.returns-in_default-counted
 returns-in_default-counted c =
@@ -37,4 +37,4 @@ returns c =
     taken old _ (c.args.key.now, c.args.value.now) refl
     (λ s p has.
     subst (λ read. HasSeen (record old { last = entry; read = read; attribute = None; counts = c.in-Some-counted.counts }) (s ++ (c.args.key.now, c.args.value.now) ∷ []) p) (sym c.size_in_first.ensures)
-    (first_taken old s p entry.path entry.kind c.args.key.now c.args.value.now c.in-Some-counted.counts (between old s p has c.requires.whole) first c.as_slice.ensures.bytes (c.if-not-may_follow.ensures.0 refl) c.in-Some-counted.ensures.more))
+    (first_taken old s p entry.path entry.kind c.args.key.now c.args.value.now c.in-Some-counted.counts (between old s p has c.requires.whole) first c.as_slice.ensures.bytes (c.if-not-may_precede.ensures.0 refl) c.in-Some-counted.ensures.more))

@@ -1,0 +1,5 @@
+pub mod Statuses
+pub mod DumpLemmas
+pub mod LoadLemmas
+pub mod CopyLemmas
+pub mod CutLemmas

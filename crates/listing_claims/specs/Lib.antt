@@ -1,0 +1,5 @@
+pub mod Again
+pub mod Crashes
+pub mod Dumped
+pub mod Loaded
+pub mod Same

@@ -1,0 +1,20 @@
+//! The mission's sentences about listings: what a user is told of `dump` and `load`, as proved functions over disks,
+//! sources and sinks in memory that call the program. Their contracts speak of bytes, lines, statuses and trees, and of
+//! the image of a tree.
+//!
+//! All of them come to the program by `script_claims::serve`, on one kind of machine.
+#![tactic(auto)]
+
+mod again;
+mod crash;
+mod dumped;
+mod loaded;
+mod same;
+#[cfg(test)]
+mod tests;
+
+pub use again::{Copied, a_dump_is_loaded_again};
+pub use crash::a_crash_leaves_all_of_a_load_or_nothing;
+pub use dumped::a_dump_says_its_tree;
+pub use loaded::a_listing_is_loaded;
+pub use same::{LoadAndRun, a_load_is_a_run};

@@ -1,0 +1,14 @@
+pub mod UncalledLemmas
+pub mod AttributeSpots
+pub mod DumpEnds
+pub mod DumpStores
+pub mod LeftLemmas
+pub mod LoadCalls
+pub mod LoadEnds
+pub mod LineLemmas
+pub mod NodeLemmas
+pub mod OpeningEnds
+pub mod PieceLemmas
+pub mod ReadLemmas
+pub mod SpotLemmas
+pub mod ReadingLines

@@ -1,0 +1,10 @@
+pub mod PieceLemmas
+pub mod NextTrees
+pub mod Chains
+pub mod DumpFronts
+pub mod ReaderLemmas
+pub mod DumpSteps
+pub mod DumpRuns
+pub mod ListedBlocks
+pub mod ListedLemmas
+pub mod TakenPairs

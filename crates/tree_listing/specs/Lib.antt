@@ -1,0 +1,5 @@
+pub mod Dumps
+pub mod Reading
+pub mod Listed
+pub mod Listings
+pub mod Laws
