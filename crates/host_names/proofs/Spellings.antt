@@ -1,11 +1,11 @@
 -- What a spelling tells, and what a spelling is.
-use Rattle.std.proofs.Common.{◌≡◌, ℕ, ◌+◌, ◌*◌, ◌/◌, ◌%◌, ◌<◌, ◌≤◌, List, [], ◌∷◌, ◌++◌, length, take, drop, get_or, refl, sym, ap, ap₂, ◌∙◌, arith, Bool, true, false, cond, eqb, not, ◌&&◌, IsTrue, nat_le, nat_lt, append_assoc, append-nil, length-append, drop-drop, zero, suc}
-use Rattle.std.specs.List.{AllByRecursion, list_all, flat_map}
+use Rattle.std.proofs.Common.{◌≡◌, ℕ, ◌+◌, ◌*◌, ◌/◌, ◌%◌, ◌<◌, ◌≤◌, List, [], ◌∷◌, ◌++◌, length, take, drop, get_or, refl, sym, ap, ap₂, ◌∙◌, arith, Bool, true, false, eqb, not, ◌&&◌, IsTrue, nat_le, append_assoc, append-nil, length-append, drop-drop, zero, suc, ◌↔◌}
+use Rattle.std.specs.List.{AllByRecursion, list_all}
 use Rattle.std.proofs.lemmas.List.{take-append-drop, drop_all}
-use Rattle.std.proofs.lemmas.Bool.{cond-false, cond-true, ne_eqb, leb-true, le-leb, and_from, eq-eqb, eqb-true, eqb-false}
+use Rattle.std.proofs.lemmas.Bool.{cond-false, cond-true, ne_eqb, leb-true, le-leb, and_from, eqb-true, eqb-false}
 use Rattle.store_model.specs.Lists.{same_bytes}
-use Rattle.store_model.specs.Paths.{is_name, is_name_byte}
-use Rattle.store_model.proofs.ListsLemmas.{first_true, second_true}
+use Rattle.store_model.specs.Paths.{is_name, is_name_byte, is_path, field_len, name_bytes}
+use Rattle.store_model.proofs.ListsLemmas.{first_true, second_true, all_from_test}
 use Rattle.host_names.specs.HostNames.{is_plain, upper_digit, escaped_byte, escaped, is_host_byte, is_host_name}
 use Rattle.host_names.specs.Reading.{digit_value, unescaped}
 
@@ -44,10 +44,11 @@ unescaped-byte c xs h = by_plain (is_plain c) refl
         ap (λ t. unescaped (t ++ xs)) (cond-false (is_plain c) _ _ e) ∙ unescaped-digits (upper_digit (c / 16)) (upper_digit (c % 16)) xs
         ∙ ap (λ v. v ∷ unescaped xs) (ap (λ v. 16 * v + digit_value (upper_digit (c % 16))) high ∙ ap (λ v. 16 * (c / 16) + v) low ∙ omega arith)
 
+byte_below : (c : ℕ) → IsTrue (is_host_byte c) → c < 256
+byte_below c h = omega (arith, leb-true c 255 (second_true (nat_le 1 c) (nat_le c 255) (first_true (nat_le 1 c && nat_le c 255) _ h)))
+
 bytes_below : (n : List ℕ) → IsTrue (list_all is_host_byte n) → AllByRecursion (λ c. c < 256) n
-bytes_below [] h = tt
-bytes_below (c ∷ n) h =
-    (omega (arith, leb-true c 255 (second_true (nat_le 1 c) (nat_le c 255) (first_true (nat_le 1 c && nat_le c 255) _ (first_true (is_host_byte c) _ h)))), bytes_below n (second_true (is_host_byte c) _ h))
+bytes_below n h = all_from_test is_host_byte (λ c. c < 256) byte_below n h
 
 unescaped-bytes : (n : List ℕ) → AllByRecursion (λ c. c < 256) n → unescaped (escaped n) ≡ n
 unfolding escaped unescaped
@@ -102,7 +103,7 @@ names_in_byte c xs h more = by_plain (is_plain c) refl
         ap (λ t. list_all is_name_byte (t ++ xs)) (cond-true (is_plain c) _ _ e)
         ∙ and_from (is_name_byte c) _ (and_from (nat_le 33 c && nat_le c 126) (not (eqb c 47)) (first_true (nat_le 33 c && nat_le c 126) _ e) (second_true (nat_le 1 c && nat_le c 255) _ h)) more
     by_plain false e =
-        let small : c < 256 = omega (arith, leb-true c 255 (second_true (nat_le 1 c) (nat_le c 255) (first_true (nat_le 1 c && nat_le c 255) _ h))) in
+        let small : c < 256 = byte_below c h in
         let high : is_name_byte (upper_digit (c / 16)) ≡ true = number_is_name (c / 16) (omega (arith, small)) in
         let low : is_name_byte (upper_digit (c % 16)) ≡ true = number_is_name (c % 16) (omega arith) in
         ap (λ t. list_all is_name_byte (t ++ xs)) (cond-false (is_plain c) _ _ e)
@@ -141,6 +142,17 @@ escaped_is_name n h =
     let dot : IsTrue (not (same_bytes n (46 ∷ []))) = second_true (nat_le 1 (length n) && list_all is_host_byte n) _ front in
     let dots : IsTrue (not (same_bytes n (46 ∷ 46 ∷ []))) = second_true (nat_le 1 (length n) && list_all is_host_byte n && not (same_bytes n (46 ∷ []))) _ h in
     and_from _ _ (and_from _ _ (and_from _ _ (has_some n some) (names_in_bytes n (host_bytes n h))) (not_dots n h (46 ∷ []) dot_alone refl dot)) (not_dots n h (46 ∷ 46 ∷ []) dots_alone refl dots)
+
+field_len-one : (n : List ℕ) → field_len (n ∷ []) ≡ length n + 1
+unfolding name_bytes
+field_len-one n = ap length (append-nil (n ++ 0 ∷ [])) ∙ length-append n (0 ∷ [])
+
+-- a spelling is a path by itself where a field holds it
+pub path_of_one : (n : List ℕ) → IsTrue (is_host_name n) → IsTrue (is_path (escaped n ∷ [])) ↔ (length (escaped n) ≤ 119)
+path_of_one n h = (
+  (λ held. omega (arith, leb-true (field_len (escaped n ∷ [])) 120 (second_true (is_name (escaped n) && true) _ held), field_len-one (escaped n))),
+  (λ few. and_from (is_name (escaped n) && true) _ (and_from (is_name (escaped n)) true (escaped_is_name n h) refl) (le-leb (field_len (escaped n ∷ [])) 120 (omega (arith, few, field_len-one (escaped n))))),
+)
 
 -- the first byte that a text tells
 pub step_digits : (xs : List ℕ) → 3 ≤ length xs → get_or xs 0 0 ≡ 37

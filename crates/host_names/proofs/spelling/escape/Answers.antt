@@ -1,4 +1,4 @@
-use Rattle.std.proofs.Common.{rules, ◌≡◌, ◌++◌, length, take, drop, sym, ap, ◌∙◌, arith, get_or, ◌+◌}
+use Rattle.std.proofs.Common.{rules, ◌++◌, length, sym, ap, ◌∙◌, arith, get_or, ◌+◌}
 use Rattle.host_names.specs.HostNames as model
 use Rattle.host_names.proofs.Spellings.{escaped-nil, escaped-more, escaped-longer}
 use Rattle.host_names.proofs.spelling.escape.Goals as goal

@@ -1,4 +1,4 @@
-use Rattle.std.proofs.Common.{◌≡◌, ◌∷◌, ◌+◌, ◌*◌, drop, sym, ap₂, ◌∙◌, arith}
+use Rattle.std.proofs.Common.{◌∷◌, ◌+◌, ◌*◌, drop, sym, ap₂, ◌∙◌, arith}
 use Rattle.host_names.specs.Reading.{unescaped}
 use Rattle.host_names.proofs.Spellings.{step_digits, step_plain, step_short}
 use Rattle.host_names.proofs.telling.first_byte.Goals as goal

@@ -1,4 +1,4 @@
-use Rattle.std.proofs.Common.{◌≡◌, rules, sym, ap, ◌∙◌}
+use Rattle.std.proofs.Common.{rules, ap, ◌∙◌}
 use Rattle.host_names.specs.HostNames as model
 use Rattle.host_names.proofs.Spellings.{told}
 use Rattle.host_names.proofs.telling.unescape.Goals as goal
