@@ -21,9 +21,9 @@ fn upper_digit(number: u8) -> u8
     ensures { result ≡ model.upper_digit number }
 {
     if number < 10 {
-        0x30 + number
+        b'0' + number
     } else {
-        0x37 + number
+        b'A' - 10 + number
     }
 }
 

@@ -12,10 +12,10 @@ fn digit_value(digit: u8) -> u8
     ensures value { result ≡ digit_value digit }
     ensures small { result < 16 }
 {
-    if (0x30..=0x39).contains(&digit) {
-        digit - 0x30
-    } else if (0x41..=0x46).contains(&digit) {
-        digit - 0x37
+    if (b'0'..=b'9').contains(&digit) {
+        digit - b'0'
+    } else if (b'A'..=b'F').contains(&digit) {
+        digit - b'A' + 10
     } else {
         0
     }
