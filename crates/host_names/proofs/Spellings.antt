@@ -1,5 +1,5 @@
 -- What a spelling tells, and what a spelling is.
-use Rattle.std.proofs.Common.{◌≡◌, ℕ, ◌+◌, ◌*◌, ◌/◌, ◌%◌, ◌<◌, ◌≤◌, List, [], ◌∷◌, ◌++◌, length, take, drop, get_or, refl, sym, ap, ap₂, ◌∙◌, arith, Bool, true, false, eqb, not, ◌&&◌, IsTrue, nat_le, append_assoc, append-nil, length-append, drop-drop, zero, suc, ◌↔◌}
+use Rattle.std.proofs.Common.{◌≡◌, ℕ, ◌+◌, ◌*◌, ◌/◌, ◌%◌, ◌<◌, ◌≤◌, List, [], ◌∷◌, ◌++◌, length, take, drop, get_or, refl, sym, ap, ap₂, ◌∙◌, arith, Bool, true, false, eqb, not, ◌&&◌, IsTrue, nat_le, append_assoc, append-nil, length-append, zero, suc, ◌↔◌}
 use Rattle.std.specs.List.{AllByRecursion, list_all}
 use Rattle.std.proofs.lemmas.List.{take-append-drop, drop_all}
 use Rattle.std.proofs.lemmas.Bool.{cond-false, cond-true, ne_eqb, leb-true, le-leb, and_from, eqb-true, eqb-false}
@@ -207,12 +207,6 @@ pub name_test : (n : List ℕ) (r : Bool) → eqb (length n) 0 ≡ false → lis
 name_test n r some all dot last =
     last ∙ ap (λ b. b && not (same_bytes n (46 ∷ 46 ∷ [])))
     (sym (ap₂ ◌&&◌ (ap₂ ◌&&◌ (le-leb 1 (length n) (omega (arith, eqb-false _ _ some))) all) dot))
-
--- a text with one byte more told
-pub told_more : (xs read : List ℕ) (at len byte : ℕ) → unescaped xs ≡ read ++ unescaped (drop at xs) → unescaped (drop at xs) ≡ byte ∷ unescaped (drop len (drop at xs))
-    → unescaped xs ≡ (read ++ byte ∷ []) ++ unescaped (drop (at + len) xs)
-told_more xs read at len byte e step =
-    e ∙ ap (λ t. read ++ t) (step ∙ ap (λ t. byte ∷ unescaped t) (drop-drop len at xs)) ∙ sym (append_assoc read (byte ∷ []) (unescaped (drop (at + len) xs)))
 
 unescaped-nil : unescaped [] ≡ []
 unfolding unescaped
