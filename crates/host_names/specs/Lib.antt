@@ -1,0 +1,2 @@
+pub mod HostNames
+pub mod Reading
