@@ -1,1 +1,3 @@
 pub mod Spellings
+pub mod HostPathNames
+pub mod ImagePathNames

@@ -1,8 +1,9 @@
 -- What a spelling tells, and what a spelling is.
 use Rattle.std.proofs.Common.{◌≡◌, ℕ, ◌+◌, ◌*◌, ◌/◌, ◌%◌, ◌<◌, ◌≤◌, List, [], ◌∷◌, ◌++◌, length, take, drop, get_or, refl, sym, ap, ap₂, ◌∙◌, arith, Bool, true, false, eqb, not, ◌&&◌, IsTrue, nat_le, append_assoc, append-nil, length-append, zero, suc, ◌↔◌}
 use Rattle.std.specs.List.{AllByRecursion, list_all}
+use Rattle.std.specs.Cmp.Lexicographic.{bytes_decides}
 use Rattle.std.proofs.lemmas.List.{take-append-drop, drop_all}
-use Rattle.std.proofs.lemmas.Bool.{cond-false, cond-true, ne_eqb, leb-true, le-leb, and_from, eqb-true, eqb-false}
+use Rattle.std.proofs.lemmas.Bool.{cond-false, cond-true, ne_eqb, leb-true, le-leb, and_from, eqb-false}
 use Rattle.store_model.specs.Lists.{same_bytes}
 use Rattle.store_model.specs.Paths.{is_name, is_name_byte, is_path, field_len, name_bytes}
 use Rattle.store_model.proofs.ListsLemmas.{first_true, second_true, all_from_test}
@@ -69,12 +70,6 @@ same_spelling n m h k e = sym (unescaped-escaped n h) ∙ ap unescaped e ∙ une
 pub told : (text m : List ℕ) → IsTrue (is_host_name m) → escaped m ≡ text → unescaped text ≡ m
 told text m h e = ap unescaped (sym e) ∙ unescaped-escaped m h
 
-same_true : (xs ys : List ℕ) → IsTrue (same_bytes xs ys) → xs ≡ ys
-same_true [] [] h = refl
-same_true [] (y ∷ ys) h = absurd cc
-same_true (x ∷ xs) [] h = absurd cc
-same_true (x ∷ xs) (y ∷ ys) h = ap₂ (λ a b. a ∷ b) (eqb-true x y (first_true (eqb x y) _ h)) (same_true xs ys (second_true (eqb x y) _ h))
-
 -- the spelling of a name is no text that tells itself, unless the name is
 not_dots : (n : List ℕ) → IsTrue (is_host_name n) → (dots : List ℕ) → unescaped dots ≡ dots → same_bytes dots dots ≡ true → not (same_bytes n dots) ≡ true
     → not (same_bytes (escaped n) dots) ≡ true
@@ -83,7 +78,7 @@ not_dots n h dots plain self other = by_same (same_bytes (escaped n) dots) refl
     by_same : (b : Bool) → same_bytes (escaped n) dots ≡ b → not (same_bytes (escaped n) dots) ≡ true
     by_same false e = ap not e
     by_same true e =
-        let is : n ≡ dots = sym (unescaped-escaped n h) ∙ ap unescaped (same_true (escaped n) dots e) ∙ plain in
+        let is : n ≡ dots = sym (unescaped-escaped n h) ∙ ap unescaped ((bytes_decides (escaped n) dots).0 e) ∙ plain in
         let wrong : true ≡ false = sym other ∙ ap (λ t. not (same_bytes t dots)) is ∙ ap not self in
         absurd cc
 

@@ -1,2 +1,3 @@
 pub mod HostNames
+pub mod HostPaths
 pub mod Reading

@@ -1,12 +1,16 @@
-//! How a name of a folder of the host travels as a name of a path. No program uses it yet.
+//! How a name of a folder of the host travels as a name of a path, and the paths of both sides.
 #![tactic(auto)]
 
+mod host_paths;
+mod image_paths;
 mod laws;
 mod spelling;
 mod telling;
 #[cfg(test)]
 mod tests;
 
+pub use host_paths::{HostPathFault, host_path, host_text};
+pub use image_paths::{ImagePathFault, image_path};
 pub use laws::{escaped_names_are_names, names_have_their_own_spelling, short_spellings_are_paths};
 pub use spelling::{MAX_NAME, escape};
 pub use telling::unescape;

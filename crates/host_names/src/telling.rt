@@ -58,7 +58,7 @@ fn is_host_byte(byte: u8) -> bool
 }
 
 /// Whether the bytes are a name of the host.
-fn is_host_name(bytes: &[u8]) -> bool
+pub(crate) fn is_host_name(bytes: &[u8]) -> bool
     ensures { result ≡ model.is_host_name bytes.now }
 {
     !bytes.is_empty()

@@ -1,6 +1,8 @@
 //! Names and spellings, worked out by hand.
 
-use crate::{escape, unescape};
+use crate::{HostPathFault, ImagePathFault, escape, host_path, host_text, image_path, unescape};
+use path_keys::Path;
+use std::alloc::Global;
 
 fn spells(name: &[u8], spelled: &[u8]) -> bool {
     match escape(name) {
@@ -56,4 +58,42 @@ fn a_spelling_has_at_most_119_bytes(rt: HostRuntime) {
     assert!(rt; escape(&[b'a'; 120]).is_none());
     assert!(rt; escape(&[b' '; 39]).is_some());
     assert!(rt; escape(&[b' '; 40]).is_none());
+}
+
+/// Whether a path of the image below the folder `box` leads to these bytes.
+fn leads(alloc: Global, text: &[u8], bytes: &[u8]) -> bool {
+    match Path::parse(text) {
+        Ok(path) => match host_path(alloc, b"box", &path) {
+            Ok(led) => led.as_slice() == bytes,
+            Err(_) => false,
+        },
+        Err(_) => false,
+    }
+}
+
+/// Whether the name in a folder of the image has this path.
+fn stands_at(folder: &[u8], name: &[u8], text: &[u8]) -> bool {
+    match (Path::parse(folder), Path::parse(text)) {
+        (Ok(folder), Ok(path)) => image_path(&folder, name) == Ok(path),
+        _ => false,
+    }
+}
+
+#[test]
+fn paths_lead_to_the_host_and_back(rt: HostRuntime) {
+    assert!(rt; leads(rt.alloc(), b"/", b"box"));
+    assert!(rt; leads(rt.alloc(), b"/a%20b/%C3%A4", b"box/a b/\xc3\xa4"));
+    assert!(rt; stands_at(b"/", b"a b", b"/a%20b"));
+    assert!(rt; stands_at(b"/a%20b", b"\xc3\xa4", b"/a%20b/%C3%A4"));
+    let path = Path::parse(b"/a/%2F").expect(&rt, "a path");
+    let no_spelling = host_path(rt.alloc(), b"box", &path);
+    assert!(rt; matches!(no_spelling, Err(HostPathFault::NoSpelling)));
+    let path = Path::parse(b"/%FF").expect(&rt, "a path");
+    let not_utf8 = host_text(rt.alloc(), "box", &path);
+    assert!(rt; matches!(not_utf8, Err(HostPathFault::NotUtf8)));
+    assert!(rt; image_path(&Path::root(), b"..") == Err(ImagePathFault::NoName));
+    assert!(rt; image_path(&Path::root(), &[b'a'; 119]).is_ok());
+    assert!(rt; image_path(&Path::root(), &[b'a'; 120]) == Err(ImagePathFault::TooLong));
+    assert!(rt; image_path(&path, &[b'a'; 116]) == Err(ImagePathFault::TooLong));
+    assert!(rt; image_path(&path, &[b'a'; 115]).is_ok());
 }

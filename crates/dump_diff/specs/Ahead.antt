@@ -1,0 +1,69 @@
+-- Streams whose next command is at hand.
+use Rattle.std.specs.Prelude.{◌≡◌, true, false, Option, Some, None}
+use Rattle.std.specs.declared.cmp.Ordering.TheVariants.{Less, Equal}
+use Rattle.store_model.specs.Trees.{Tree, IsTree}
+use Rattle.store_model.specs.Commands.{Command}
+use Rattle.store_model.specs.Steps.{next_tree}
+use Rattle.script_lines.specs.Parsing.{command_of}
+use Rattle.tree_listing.specs.Dumps.{dump}
+use Rattle.dump_streams.specs.Streams.{Extends}
+use Rattle.dump_diff.specs.declared.heads.Head.{Head}
+use Rattle.dump_diff.specs.declared.comparing.Merge.{Merge}
+use Rattle.dump_diff.specs.declared.differences.Differences.{Differences}
+use Rattle.std.specs.List.Sorted.{IsStrictlySortedBy}
+use Rattle.dump_diff.specs.Scripts.{sides_of}
+use Rattle.dump_diff.specs.declared.difference.Side.{Side}
+use Rattle.dump_diff.specs.declared.difference.Side.TheVariants.{First, Second, Both}
+use Rattle.dump_diff.specs.Differences.{AreDifferences, marks_of}
+use Rattle.dump_diff.specs.Places.{place_cmp}
+use Rattle.dump_diff.specs.Shown.{AreShown, AreBefore, IsBehind, places_of}
+use Rattle.dump_diff.specs.Sides.{AreAttributeDifferences, SidesShown}
+
+-- the command at hand came behind the dump of a tree
+pub record IsAt (came : Tree → Type 0) (t : Tree) (c : Command) : Type 0 where
+  pub came_now : came (next_tree t c)
+  pub extends : Extends t c
+
+-- what a stream gave before the command at hand is the dump of a tree; where there is no command, the dump is whole
+pub record IsAhead (came whole : Tree → Type 0) (head : Head) (t : Tree) : Type 0 where
+  pub is_tree : IsTree t
+  pub there : head.is_there ≡ true → IsAt came t (command_of head.command)
+  pub ended : head.is_there ≡ false → whole t
+
+-- the marks are what the dumps of two trees show, and the commands at hand stand behind them
+pub record IsMerged (merge : Merge) (t u : Tree) : Type 0 where
+  pub shown : AreShown (dump t) (dump u) (marks_of merge.found.paths.items)
+  pub first_behind : merge.first.is_there ≡ true → IsBehind (dump t) (dump u) (marks_of merge.found.paths.items) (command_of merge.first.command)
+  pub second_behind : merge.second.is_there ≡ true → IsBehind (dump t) (dump u) (marks_of merge.found.paths.items) (command_of merge.second.command)
+  pub sides : SidesShown (dump t) (dump u) (marks_of merge.found.paths.items) (sides_of merge.found.attributes.items)
+  pub places_rise : IsStrictlySortedBy place_cmp (places_of merge.found.attributes.items)
+  pub first_after : merge.first.is_there ≡ true → AreBefore (places_of merge.found.attributes.items) (command_of merge.first.command)
+  pub second_after : merge.second.is_there ≡ true → AreBefore (places_of merge.found.attributes.items) (command_of merge.second.command)
+
+-- the commands that came of two streams before those at hand are the dumps of two trees, and the marks are what these show
+pub record IsBetween (came whole came' whole' : Tree → Type 0) (merge : Merge) (t u : Tree) : Type 0 where
+  pub first : IsAhead came whole merge.first t
+  pub second : IsAhead came' whole' merge.second u
+  pub merged : IsMerged merge t u
+
+-- some trees have dumps that came of the two streams before the commands at hand
+pub record IsBetweenSome (came whole came' whole' : Tree → Type 0) (merge : Merge) : Type 0 where
+  pub one : Tree
+  pub other : Tree
+  pub between : IsBetween came whole came' whole' merge one other
+
+-- what two whole dumps differ in
+pub record AreFound (whole whole' : Tree → Type 0) (found : Differences) : Type 0 where
+  pub one : Tree
+  pub other : Tree
+  pub first : whole one
+  pub second : whole' other
+  pub differences : AreDifferences one other (marks_of found.paths.items)
+  pub attributes : AreAttributeDifferences one other (marks_of found.paths.items) (sides_of found.attributes.items)
+
+-- the command whose place is the lower one: that of one stream, or those of both
+abbrev pub IsSideOf : Merge → Option Side → Type 0
+IsSideOf merge None = (merge.first.is_there ≡ false) × (merge.second.is_there ≡ false)
+IsSideOf merge (Some First) = (merge.first.is_there ≡ true) × (merge.second.is_there ≡ true → place_cmp (command_of merge.first.command) (command_of merge.second.command) ≡ Less)
+IsSideOf merge (Some Second) = (merge.second.is_there ≡ true) × (merge.first.is_there ≡ true → place_cmp (command_of merge.second.command) (command_of merge.first.command) ≡ Less)
+IsSideOf merge (Some Both) = (merge.first.is_there ≡ true) × (merge.second.is_there ≡ true) × (place_cmp (command_of merge.first.command) (command_of merge.second.command) ≡ Equal)

@@ -1,0 +1,6 @@
+pub mod Differences
+pub mod Places
+pub mod Shown
+pub mod Sides
+pub mod Ahead
+pub mod Scripts

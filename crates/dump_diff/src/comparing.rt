@@ -1,0 +1,167 @@
+//! Two streams are compared.
+
+ghost use Rattle.std.specs.Prelude.{◌≡◌, OnOk, IfOk, true};
+ghost use Rattle.std.specs.Bool.{OnTrue, OnFalse};
+ghost use Rattle.std.specs.declared.cmp.Ordering.TheVariants.{Less, Equal};
+ghost use Rattle.store_model.specs.Trees.{Tree, empty_tree};
+ghost use Rattle.store_model.specs.Steps.{next_tree};
+ghost use Rattle.script_lines.specs.Parsing.{command_of};
+ghost use Rattle.dump_diff.specs.Differences.{marks_of};
+ghost use Rattle.dump_diff.specs.Places.{place_cmp};
+ghost use Rattle.dump_diff.specs.Sides.{Judges};
+ghost use Rattle.dump_diff.specs.Ahead.{IsAhead, IsMerged, IsBetweenSome, AreFound, IsSideOf};
+
+use crate::difference::Side;
+use crate::differences::Differences;
+use crate::fault::CompareFault;
+use crate::heads::Head;
+use crate::order::{order, same};
+use dump_streams::{DumpStream, StreamFault};
+use std::alloc::Global;
+use std::cmp::Ordering;
+
+/// What two streams have at hand, and how the trees of what came before differ.
+#[derive(Drop)]
+struct Merge {
+    first: Head,
+    second: Head,
+    found: Differences,
+}
+
+impl Merge {
+    /// Which stream has the command at hand whose place is the lower one; nothing where both dumps are whole.
+    fn side(&self) -> Option<Side>
+        ensures { IsSideOf self.now result }
+    {
+        if !self.second.is_there {
+            return if self.first.is_there {
+                Some(Side::First)
+            } else {
+                None
+            };
+        }
+        if !self.first.is_there {
+            return Some(Side::Second);
+        }
+        match order(&self.first.command, &self.second.command) {
+            Ordering::Less => Some(Side::First),
+            Ordering::Equal => Some(Side::Both),
+            Ordering::Greater => Some(Side::Second),
+        }
+    }
+
+    /// Takes a command that the first dump has alone.
+    fn take_first<A: DumpStream>(&mut self, first: &mut A) -> Result<(), CompareFault>
+        requires there { self.old.first.is_there ≡ true }
+        requires lower { self.old.second.is_there ≡ true → place_cmp (command_of self.old.first.command) (command_of self.old.second.command) ≡ Less }
+        ensures second { self.new.second ≡ self.old.second }
+        ensures ahead { (t : Tree) → IsAhead (A.came first.old) (A.whole first.old) self.old.first t
+            → OnOk result (IsAhead (A.came first.new) (A.whole first.new) self.new.first (next_tree t (command_of self.old.first.command))) }
+        ensures merged { (t u : Tree) → IsAhead (A.came first.old) (A.whole first.old) self.old.first t → IsMerged self.old t u
+            → OnOk result (IsMerged self.new (next_tree t (command_of self.old.first.command)) u) }
+        ensures keeps { (start : A) → A.keeps start first.old → A.keeps start first.new }
+    {
+        self.found
+            .note(Side::First, &self.first.command, &self.second.command)?;
+        self.first.fetch(first).map_err(CompareFault::First)
+    }
+
+    /// Takes a command that the second dump has alone.
+    fn take_second<B: DumpStream>(&mut self, second: &mut B) -> Result<(), CompareFault>
+        requires there { self.old.second.is_there ≡ true }
+        requires lower { self.old.first.is_there ≡ true → place_cmp (command_of self.old.second.command) (command_of self.old.first.command) ≡ Less }
+        ensures first { self.new.first ≡ self.old.first }
+        ensures ahead { (u : Tree) → IsAhead (B.came second.old) (B.whole second.old) self.old.second u
+            → OnOk result (IsAhead (B.came second.new) (B.whole second.new) self.new.second (next_tree u (command_of self.old.second.command))) }
+        ensures merged { (t u : Tree) → IsAhead (B.came second.old) (B.whole second.old) self.old.second u → IsMerged self.old t u
+            → OnOk result (IsMerged self.new t (next_tree u (command_of self.old.second.command))) }
+        ensures keeps { (start : B) → B.keeps start second.old → B.keeps start second.new }
+    {
+        self.found
+            .note(Side::Second, &self.first.command, &self.second.command)?;
+        self.second.fetch(second).map_err(CompareFault::Second)
+    }
+
+    /// Notes whether the commands at hand, which have one place, differ.
+    fn judge(&mut self) -> Result<(), CompareFault>
+        ensures first { self.new.first ≡ self.old.first }
+        ensures second { self.new.second ≡ self.old.second }
+        ensures judged { Judges (command_of self.old.first.command) (command_of self.old.second.command) self.old.found self.new.found result }
+    {
+        if same(&self.first.command, &self.second.command) {
+            return Ok(());
+        }
+        self.found
+            .note(Side::Both, &self.first.command, &self.second.command)?;
+        Ok(())
+    }
+
+    /// Takes a command of each dump, which have one place.
+    fn take_both<A: DumpStream, B: DumpStream>(
+        &mut self,
+        first: &mut A,
+        second: &mut B,
+    ) -> Result<(), CompareFault>
+        requires first_there { self.old.first.is_there ≡ true }
+        requires second_there { self.old.second.is_there ≡ true }
+        requires tied { place_cmp (command_of self.old.first.command) (command_of self.old.second.command) ≡ Equal }
+        ensures between { IsBetweenSome (A.came first.old) (A.whole first.old) (B.came second.old) (B.whole second.old) self.old
+            → OnOk result (IsBetweenSome (A.came first.new) (A.whole first.new) (B.came second.new) (B.whole second.new) self.new) }
+        ensures keeps_first { (start : A) → A.keeps start first.old → A.keeps start first.new }
+        ensures keeps_second { (start : B) → B.keeps start second.old → B.keeps start second.new }
+    {
+        self.judge()?;
+        self.first.fetch(first).map_err(CompareFault::First)?;
+        self.second.fetch(second).map_err(CompareFault::Second)
+    }
+
+    /// Takes what has the lower place; `false` where both dumps are whole.
+    fn step<A: DumpStream, B: DumpStream>(
+        &mut self,
+        first: &mut A,
+        second: &mut B,
+    ) -> Result<bool, CompareFault>
+        ensures more { IsBetweenSome (A.came first.old) (A.whole first.old) (B.came second.old) (B.whole second.old) self.old
+            → IfOk result (λ more. OnTrue more (IsBetweenSome (A.came first.new) (A.whole first.new) (B.came second.new) (B.whole second.new) self.new)) }
+        ensures whole { IsBetweenSome (A.came first.old) (A.whole first.old) (B.came second.old) (B.whole second.old) self.old
+            → IfOk result (λ more. OnFalse more (AreFound (A.whole first.new) (B.whole second.new) self.new.found)) }
+        ensures keeps_first { (start : A) → A.keeps start first.old → A.keeps start first.new }
+        ensures keeps_second { (start : B) → B.keeps start second.old → B.keeps start second.new }
+    {
+        match self.side() {
+            None => return Ok(false),
+            Some(Side::First) => self.take_first(first)?,
+            Some(Side::Second) => self.take_second(second)?,
+            Some(Side::Both) => self.take_both(first, second)?,
+        }
+        Ok(true)
+    }
+}
+
+/// What is different between the trees of two dumps, of which nothing came yet.
+///
+/// `First`, `Second`: that stream ended before its dump did. `NoMemory`: there was none for the differences.
+pub fn compare<A: DumpStream, B: DumpStream>(
+    alloc: Global,
+    first: &mut A,
+    second: &mut B,
+) -> Result<Differences, CompareFault>
+    ensures found { A.came first.old empty_tree → B.came second.old empty_tree
+        → IfOk result (AreFound (A.whole first.new) (B.whole second.new)) }
+    ensures keeps_first { (start : A) → A.keeps start first.old → A.keeps start first.new }
+    ensures keeps_second { (start : B) → B.keeps start second.old → B.keeps start second.new }
+{
+    let mut merge = Merge {
+        first: Head::new(),
+        second: Head::new(),
+        found: Differences::new(alloc),
+    };
+    merge.first.fetch(first).map_err(CompareFault::First)?;
+    merge.second.fetch(second).map_err(CompareFault::Second)?;
+    for _ in 0..u64::MAX {
+        if !merge.step(first, second)? {
+            return Ok(merge.found);
+        }
+    }
+    Err(CompareFault::First(StreamFault::TooLong))
+}

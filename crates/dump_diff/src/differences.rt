@@ -1,0 +1,226 @@
+//! The differences of two trees.
+
+ghost use Rattle.std.specs.Prelude.{◌≡◌, ◌↔◌, ◌∷◌, [], IsTrue, OnOk, true, false, length};
+ghost use Rattle.std.specs.FinMap.{find, is_sorted};
+ghost use Rattle.std.specs.List.Sorted.{IsSearchInRange};
+ghost use Rattle.store_model.specs.Paths.{path_cmp};
+ghost use Rattle.script_lines.specs.Parsing.{command_of};
+ghost use Rattle.dump_diff.specs.Differences.{marks_of};
+ghost use Rattle.dump_diff.specs.Scripts.{IsAttributePlace, IsPathPlace, attribute_cmp, sides_of};
+ghost use Rattle.dump_diff.specs.Places.{command_path, is_first, is_listed, part};
+ghost use Rattle.dump_diff.specs.Sides.{IsAttributeNoted, with_attribute};
+ghost use Rattle.dump_diff.specs.Shown.{FitsSide, IsLastMark, IsNoted, Marks, change_of, change_of_two, noted};
+
+use crate::difference::{AttributeDifference, Difference, Mark, Side};
+use crate::order::path_of;
+use path_keys::{AttrName, Path};
+use script_lines::Command;
+use std::alloc::Global;
+use std::cmp::Ordering;
+use store_base::NoMemory;
+
+/// What is different between two trees.
+#[derive(Debug, Drop)]
+pub struct Differences {
+    paths: Vec<Difference>,
+    attributes: Vec<AttributeDifference>,
+}
+
+impl Differences {
+    /// No difference.
+    pub(crate) fn new(alloc: Global) -> Self
+        ensures marks { marks_of result.paths.items ≡ [] }
+        ensures attributes { result.attributes.items ≡ [] }
+    {
+        Differences {
+            paths: Vec::new(alloc),
+            attributes: Vec::new(alloc),
+        }
+    }
+
+    /// Whether the trees are equal.
+    pub fn is_empty(&self) -> bool
+        ensures { IsTrue result ↔ (marks_of self.now.paths.items ≡ []) }
+    {
+        self.paths.is_empty()
+    }
+
+    /// The paths at which the trees differ, in their order.
+    pub fn paths(&self) -> &[Difference]
+        ensures { result.now ≡ self.now.paths.items }
+    {
+        self.paths.as_slice()
+    }
+
+    /// The attributes that differ, of paths at which both trees have a directory or both a file; in the order of paths,
+    /// and at one path of names.
+    pub fn attributes(&self) -> &[AttributeDifference]
+        ensures { result.now ≡ self.now.attributes.items }
+    {
+        self.attributes.as_slice()
+    }
+
+    /// How the trees differ at a path; nothing where they do not.
+    pub fn mark_at(&self, path: &Path) -> Option<Mark>
+        ensures { IsTrue (is_sorted path_cmp (marks_of self.now.paths.items)) → result ≡ find path_cmp path.now (marks_of self.now.paths.items) }
+    {
+        match place_of(self.paths.as_slice(), path) {
+            Ok(at) => Some(self.paths[at].mark),
+            Err(_) => None,
+        }
+    }
+
+    /// Which tree has an attribute that differs; nothing where it does not.
+    pub fn side_of(&self, path: &Path, name: &AttrName) -> Option<Side>
+        ensures { IsTrue (is_sorted attribute_cmp (sides_of self.now.attributes.items)) → result ≡ find attribute_cmp (path.now, name.now) (sides_of self.now.attributes.items) }
+    {
+        match attribute_place(self.attributes.as_slice(), path, name) {
+            Ok(at) => Some(self.attributes[at].side),
+            Err(_) => None,
+        }
+    }
+
+    /// Notes that a command stands in one of the dumps alone, or that the dumps have other commands at one place. The
+    /// places come in their order.
+    pub(crate) fn note(
+        &mut self,
+        side: Side,
+        first: &Command,
+        second: &Command,
+    ) -> Result<(), NoMemory>
+        ensures marks { IsNoted side (command_of first.now) (command_of second.now) (marks_of self.old.paths.items) (marks_of self.new.paths.items) result }
+        ensures attributes { IsAttributeNoted side (noted side (command_of first.now) (command_of second.now)) (marks_of self.old.paths.items) (marks_of self.new.paths.items) self.old.attributes.items self.new.attributes.items result }
+    {
+        let command = noted_of(side, first, second);
+        let mark = self.mark(path_of(command), mark_of(side, first, second))?;
+        match command {
+            Command::Set(path, name, _) => self.note_attribute(mark, path, name, side),
+            _ => Ok(()),
+        }
+    }
+
+    /// Notes how the trees differ at the path that comes next, unless that is known; and tells how they differ.
+    fn mark(&mut self, path: Path, mark: Mark) -> Result<Mark, NoMemory>
+        ensures marks { Marks (marks_of self.old.paths.items) (marks_of self.new.paths.items) path mark result }
+        ensures attributes { self.new.attributes ≡ self.old.attributes }
+    {
+        match self.last_mark(&path) {
+            Some(mark) => Ok(mark),
+            None => {
+                self.paths.push(Difference { path, mark })?;
+                Ok(mark)
+            }
+        }
+    }
+
+    /// How the trees differ at the path that comes next, if that is known.
+    fn last_mark(&self, path: &Path) -> Option<Mark>
+        ensures { IsLastMark (marks_of self.now.paths.items) path.now result }
+    {
+        let last = self.paths.last()?;
+        if last.path == *path {
+            Some(last.mark)
+        } else {
+            None
+        }
+    }
+
+    /// Notes that an attribute differs, of a path at which the trees differ so.
+    fn note_attribute(
+        &mut self,
+        mark: Mark,
+        path: &Path,
+        name: &AttrName,
+        side: Side,
+    ) -> Result<(), NoMemory>
+        ensures paths { self.new.paths ≡ self.old.paths }
+        ensures attributes { OnOk result (self.new.attributes.items ≡ with_attribute self.old.attributes.items mark side path.now name.now) }
+    {
+        if mark == Mark::Bytes || mark == Mark::Attributes {
+            self.attributes.push(AttributeDifference {
+                path: *path,
+                name: *name,
+                side,
+            })?;
+        }
+        Ok(())
+    }
+}
+
+/// The place of a path among differences that rise; as the error where it would stand.
+fn place_of(paths: &[Difference], path: &Path) -> Result<usize, usize>
+    ensures bound { IsSearchInRange result (length paths.now) }
+    ensures found { IsPathPlace paths.now path.now result }
+{
+    paths.binary_search_by(
+        |difference: &Difference| -> Ordering
+            ensures { result ≡ path_cmp difference.now.path path.entry.now }
+        { difference.path.cmp(path) },
+    )
+}
+
+/// The place of an attribute among those that differ, which rise; as the error where it would stand.
+fn attribute_place(
+    attributes: &[AttributeDifference],
+    path: &Path,
+    name: &AttrName,
+) -> Result<usize, usize>
+    ensures bound { IsSearchInRange result (length attributes.now) }
+    ensures found { IsAttributePlace attributes.now (path.now, name.now) result }
+{
+    attributes.binary_search_by(
+        |attribute: &AttributeDifference| -> Ordering
+            ensures { result ≡ attribute_cmp (attribute.now.path, attribute.now.name) (path.entry.now, name.entry.now) }
+        {
+            attribute
+                .path
+                .cmp(path)
+                .then(attribute.name.as_bytes().cmp(name.as_bytes()))
+        },
+    )
+}
+
+/// The command that is noted: the one that stands alone, or the first of two.
+fn noted_of<'a>(side: Side, first: &'a Command, second: &'a Command) -> &'a Command
+    ensures { command_of result.now ≡ noted side (command_of first.now) (command_of second.now) }
+{
+    match side {
+        Side::First | Side::Both => first,
+        Side::Second => second,
+    }
+}
+
+/// How two trees differ at a path at which this is the first difference of their dumps: a command that one of them has
+/// alone, or one of each at one place.
+fn mark_of(side: Side, first: &Command, second: &Command) -> Mark
+    ensures { FitsSide side (command_of first.now) (command_of second.now) result }
+{
+    match side {
+        Side::First => mark_of_one(first, Mark::Removed),
+        Side::Second => mark_of_one(second, Mark::Added),
+        Side::Both => mark_of_two(first, second),
+    }
+}
+
+/// The same for a command that one dump has alone: with the first one of an entry the other tree has no entry there.
+fn mark_of_one(command: &Command, alone: Mark) -> Mark
+    ensures first { is_first (command_of command.now) ≡ true → result ≡ alone }
+    ensures later { is_listed (command_of command.now) ≡ true → is_first (command_of command.now) ≡ false → result ≡ change_of (command_of command.now) }
+{
+    match command {
+        Command::Set(_, _, _) => Mark::Attributes,
+        Command::Write(_, at, _) if *at > 0 => Mark::Bytes,
+        _ => alone,
+    }
+}
+
+/// The same for two commands at one place.
+fn mark_of_two(first: &Command, second: &Command) -> Mark
+    ensures { result ≡ change_of_two (command_of first.now) (command_of second.now) }
+{
+    match (first, second) {
+        (Command::Set(_, _, _), _) => Mark::Attributes,
+        (Command::Write(_, _, _), Command::Write(_, _, _)) => Mark::Bytes,
+        _ => Mark::Kind,
+    }
+}

@@ -1,0 +1,30 @@
+//! What is different between two dumps, and the script that leads from one tree to the other.
+//!
+//! Two streams are compared in one pass, command by command in the order of their places: path by path, and at each path
+//! first what stands there, by offsets, and then its attributes, by name. No more than one command of each is kept. The
+//! first command at a path that one dump has alone, or that the other has otherwise, tells how the path differs. What is
+//! kept of a difference are names: a path, and the names of attributes.
+//!
+//! The script is written from the differences and a second pass over the second dump: first what is taken away and cut,
+//! and then what is made and written.
+#![tactic(auto)]
+
+mod comparing;
+mod difference;
+mod differences;
+mod fault;
+mod heads;
+mod laws;
+mod lines;
+mod order;
+mod script;
+#[cfg(test)]
+mod tests;
+
+pub use comparing::compare;
+pub use difference::{AttributeDifference, Difference, Mark, Side};
+pub use differences::Differences;
+pub use fault::CompareFault;
+pub use laws::no_mark_says_that_trees_are_equal;
+pub use lines::write_differences;
+pub use script::{AdditionTaker, write_removals};

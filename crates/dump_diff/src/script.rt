@@ -1,0 +1,181 @@
+//! The script that leads from the first tree to the second.
+
+ghost use Rattle.std.specs.Prelude.{◌≡◌, [], true, false, Ok};
+ghost use Rattle.std.specs.List.{flat_map};
+ghost use Rattle.std.specs.FinMap.{find};
+ghost use Rattle.store_model.specs.Paths.{parent, path_cmp};
+ghost use Rattle.tree_listing.specs.Dumps.{commands_text};
+ghost use Rattle.dump_diff.specs.declared.difference.Mark.TheVariants as marks;
+ghost use Rattle.dump_diff.specs.Differences.{marks_of};
+ghost use Rattle.script_lines.specs.Parsing.{command_of};
+ghost use Rattle.script_lines.specs.SinkState.{IsPut};
+ghost use Rattle.store_model.specs.Commands.{command_text, line};
+ghost use Rattle.dump_diff.specs.Scripts as model;
+ghost use Rattle.dump_diff.specs.Scripts.{AreRising, TakesAddition, TookAdditions, Puts};
+
+use crate::difference::{AttributeDifference, Difference, Mark, Side};
+use crate::differences::Differences;
+use dump_streams::{Taker, TakerFault};
+use path_keys::Path;
+use script_lines::{Command, Sink, SinkFault, write_command};
+
+/// Writes the lines that take away of the first tree what the second has not, and cut what it has otherwise: `prune`
+/// for each path that is gone or has another kind, unless its parent is pruned; `cut` to no byte for each file whose
+/// bytes differ; and then `unset` for each attribute that is gone or has other bytes.
+/// `SinkFault`: a put failed, and no other was made after it. A prefix of the lines may have been written.
+pub fn write_removals<W: Sink>(found: &Differences, sink: &mut W) -> Result<(), SinkFault>
+    ensures { AreRising found.now → Puts (W.state sink.old) (W.state sink.new) (commands_text (model.removal_commands found.now)) result }
+{
+    write_cuts(found, sink)?;
+    write_unsets(found.attributes(), sink)
+}
+
+/// Writes the lines that prune and cut.
+fn write_cuts<W: Sink>(found: &Differences, sink: &mut W) -> Result<(), SinkFault>
+    ensures { AreRising found.now → Puts (W.state sink.old) (W.state sink.new) (commands_text (flat_map (model.cut_commands (marks_of found.now.paths.items)) found.now.paths.items)) result }
+{
+    for difference in found.paths() {
+        write_if(&cut_of(found, difference), sink)?;
+    }
+    Ok(())
+}
+
+/// Writes the lines that take attributes away.
+fn write_unsets<W: Sink>(attributes: &[AttributeDifference], sink: &mut W) -> Result<(), SinkFault>
+    ensures { Puts (W.state sink.old) (W.state sink.new) (commands_text (flat_map model.unset_commands attributes.now)) result }
+{
+    for attribute in attributes {
+        write_if(&unset_of(attribute), sink)?;
+    }
+    Ok(())
+}
+
+/// Writes the line of a command, if there is one.
+fn write_if<W: Sink>(command: &Option<Command>, sink: &mut W) -> Result<(), SinkFault>
+    ensures { Puts (W.state sink.old) (W.state sink.new) (commands_text (model.commands_in command.now)) result }
+{
+    match command {
+        Some(command) => write_command(sink, command),
+        None => Ok(()),
+    }
+}
+
+/// The command that prunes or cuts what stands at a path, if it is to be pruned or cut.
+fn cut_of(found: &Differences, difference: &Difference) -> Option<Command>
+    ensures { AreRising found.now → model.commands_in result ≡ model.cut_commands (marks_of found.now.paths.items) difference.now }
+{
+    match difference.mark {
+        Mark::Removed | Mark::Kind => prune_of(found, &difference.path),
+        Mark::Bytes => Some(Command::Cut(difference.path, 0)),
+        Mark::Added | Mark::Attributes => None,
+    }
+}
+
+/// The command that prunes a path, unless its parent is pruned.
+fn prune_of(found: &Differences, path: &Path) -> Option<Command>
+    ensures { AreRising found.now → model.commands_in result ≡ model.cut_of (model.is_pruned (find path_cmp (parent path.now) (marks_of found.now.paths.items))) marks.Removed path.now }
+{
+    let above = path.parent().unwrap_or(*path);
+    if is_pruned(found.mark_at(&above)) {
+        return None;
+    }
+    Some(Command::Prune(*path))
+}
+
+/// Whether what stands at a path is pruned.
+fn is_pruned(mark: Option<Mark>) -> bool
+    ensures { result ≡ model.is_pruned mark }
+{
+    matches!(mark, Some(Mark::Removed | Mark::Kind))
+}
+
+/// The command that takes an attribute away, if it is gone or has other bytes.
+fn unset_of(attribute: &AttributeDifference) -> Option<Command>
+    ensures { model.commands_in result ≡ model.unset_commands attribute.now }
+{
+    match attribute.side {
+        Side::First | Side::Both => Some(Command::Unset(attribute.path, attribute.name)),
+        Side::Second => None,
+    }
+}
+
+/// Writes, of the commands of the second dump, those that make and write what the first tree has not, or has otherwise.
+#[derive(Drop)]
+pub struct AdditionTaker<W: Sink> {
+    found: Differences,
+    sink: W,
+}
+
+impl<W: Sink> AdditionTaker<W> {
+    /// A taker that writes to this sink what the differences ask for.
+    pub fn new(found: Differences, sink: W) -> Self
+        ensures found { result.found ≡ found }
+        ensures sink { result.sink ≡ sink }
+        ensures none { TookAdditions W.state result result [] }
+    {
+        AdditionTaker { found, sink }
+    }
+
+    /// The sink, with what was written.
+    pub fn into_sink(self) -> W
+        ensures { result ≡ self.sink }
+    {
+        let AdditionTaker { found: _, sink } = self;
+        sink
+    }
+}
+
+impl<W: Sink> Taker for AdditionTaker<W> {
+    ghost took = { TookAdditions W.state };
+
+    /// `Failed`: the put of its line failed, and a prefix of it may have been written.
+    fn take(&mut self, command: &Command) -> Result<(), TakerFault>
+        ensures taken { TakesAddition W.state self.old self.new (command_of command.now) result }
+        ensures passed { AreRising self.old.found → model.is_addition self.old.found (command_of command.now) ≡ false → (self.new ≡ self.old) × (result ≡ Ok tt) }
+        ensures put { AreRising self.old.found → model.is_addition self.old.found (command_of command.now) ≡ true
+            → (self.new.found ≡ self.old.found) × IsPut (W.state self.old.sink) (W.state self.new.sink) (line (command_text (command_of command.now))) result }
+    {
+        if !is_addition(&self.found, command) {
+            return Ok(());
+        }
+        match write_command(&mut self.sink, command) {
+            Ok(()) => Ok(()),
+            Err(_) => Err(TakerFault::Failed),
+        }
+    }
+}
+
+/// Whether a command of the second dump makes or writes what the first tree has not, or has otherwise.
+fn is_addition(found: &Differences, command: &Command) -> bool
+    ensures { AreRising found.now → result ≡ model.is_addition found.now (command_of command.now) }
+{
+    match command {
+        Command::Make(path) => is_made(found.mark_at(path)),
+        Command::Write(path, _, _) => { is_written(found.mark_at(path)) }
+        Command::Set(path, name, _) => {
+            is_made(found.mark_at(path)) || is_set(found.side_of(path, name))
+        }
+        _ => false,
+    }
+}
+
+/// Whether what stands at a path is made anew.
+fn is_made(mark: Option<Mark>) -> bool
+    ensures { result ≡ model.is_made mark }
+{
+    matches!(mark, Some(Mark::Added | Mark::Kind))
+}
+
+/// Whether a file is written anew.
+fn is_written(mark: Option<Mark>) -> bool
+    ensures { result ≡ model.is_written mark }
+{
+    matches!(mark, Some(Mark::Added | Mark::Kind | Mark::Bytes))
+}
+
+/// Whether an attribute is set.
+fn is_set(side: Option<Side>) -> bool
+    ensures { result ≡ model.is_set side }
+{
+    matches!(side, Some(Side::Second | Side::Both))
+}

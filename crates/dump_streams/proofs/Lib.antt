@@ -1,0 +1,9 @@
+mod TextSteps
+mod ListingSteps
+mod TakenLines
+mod GatherSteps
+mod RoomSteps
+mod SourceSteps
+mod DrainSteps
+mod WrittenDumps
+mod ReadDumps

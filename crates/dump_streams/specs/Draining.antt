@@ -1,0 +1,83 @@
+-- What leading a stream into a taker does.
+use Rattle.std.specs.Prelude.{◌≡◌, ◌⊎◌, ◌-◌, ◌^◌, ◌≤◌, List, [], ◌++◌, length, Result, MatchResult}
+use Rattle.store_model.specs.Trees.{Tree, empty_tree}
+use Rattle.store_model.specs.Commands.{Command}
+use Rattle.store_model.specs.Steps.{next_tree}
+use Rattle.script_lines.specs.SinkState.{SinkState, IsObservable}
+use Rattle.tree_listing.specs.Dumps.{dump, dump_text}
+use Rattle.dump_streams.specs.Streams.{Extends}
+use Rattle.dump_streams.specs.declared.fault.StreamFault.{StreamFault}
+use Rattle.dump_streams.specs.declared.fault.StreamFault.TheVariants as streams
+use Rattle.dump_streams.specs.declared.draining.DrainFault.{DrainFault}
+use Rattle.dump_streams.specs.declared.draining.DrainFault.TheVariants as drains
+
+-- the dump has as many commands as are led on at most
+pub record IsTooLong (t : Tree) (fault : StreamFault) : Type 0 where
+  pub fault_is : fault ≡ streams.TooLong
+  pub many : 2 ^ 64 - 1 ≤ length (dump t)
+
+module _ {S T : Type 0} (came whole : S → Tree → Type 0) (fails : S → Tree → StreamFault → Type 0) (took : T → T → List Command → Type 0) where
+  -- the stream told that its dump is whole, and just its commands were taken
+  pub record TakesWhole (stream : S) (first taker : T) : Type 0 where
+    pub tree : Tree
+    pub whole_is : whole stream tree
+    pub took_is : took first taker (dump tree)
+
+  -- the stream told a fault behind the dump of a tree, or gave too many commands, and just the commands that it gave were taken
+  pub record TakesFront (stream : S) (first taker : T) (fault : StreamFault) : Type 0 where
+    pub tree : Tree
+    pub why : fails stream tree fault ⊎ IsTooLong tree fault
+    pub took_is : took first taker (dump tree)
+
+  -- a command that goes on with the dump of a tree was not taken, and just those before it were
+  pub record RefusesCommand (stream : S) (first : T) : Type 0 where
+    pub tree : Tree
+    pub command : Command
+    pub came_is : came stream (next_tree tree command)
+    pub extends : Extends tree command
+    pub before : T
+    pub took_is : took first before (dump tree)
+
+  abbrev pub StopsBy : S → T → T → DrainFault → Type 0
+  StopsBy stream first taker (drains.Stream fault) = TakesFront stream first taker fault
+  StopsBy stream first taker (drains.Taker fault) = RefusesCommand stream first
+
+  -- A stream from which nothing came is led into a taker that took nothing yet.
+  abbrev pub Drains : S → S → T → T → Result (Unit {0}) DrainFault → Type 0
+  Drains old new first taker result = came old empty_tree → took first first [] → MatchResult result (λ done. TakesWhole new first taker) (StopsBy new first taker)
+
+-- The sink tells that just the lines of the dump of the tree were written.
+abbrev pub HasWritten : {W : Type 0} → (W → SinkState) → W → W → Tree → Type 0
+HasWritten sink_of old new t = IsObservable (sink_of old) → (sink_of new).written ≡ (sink_of old).written ++ dump_text t
+
+module _ {S W : Type 0} (came whole : S → Tree → Type 0) (fails : S → Tree → StreamFault → Type 0) (sink_of : W → SinkState) where
+  -- the stream told that its dump is whole, and its lines were written
+  pub record WritesWhole (stream : S) (old new : W) : Type 0 where
+    pub tree : Tree
+    pub whole_is : whole stream tree
+    pub written : HasWritten sink_of old new tree
+    pub faults : (sink_of new).faults ≡ (sink_of old).faults
+
+  -- the stream told a fault behind the dump of a tree, or gave too many commands, and the lines of those that it gave were written
+  pub record WritesFront (stream : S) (old new : W) (fault : StreamFault) : Type 0 where
+    pub tree : Tree
+    pub why : fails stream tree fault ⊎ IsTooLong tree fault
+    pub written : HasWritten sink_of old new tree
+    pub faults : (sink_of new).faults ≡ (sink_of old).faults
+
+  -- the line of a command that goes on with the dump of a tree was not written, and those before it were
+  pub record BreaksLine (stream : S) (old : W) : Type 0 where
+    pub tree : Tree
+    pub command : Command
+    pub came_is : came stream (next_tree tree command)
+    pub extends : Extends tree command
+    pub before : W
+    pub written : HasWritten sink_of old before tree
+
+  abbrev pub WritesUntil : S → W → W → DrainFault → Type 0
+  WritesUntil stream old new (drains.Stream fault) = WritesFront stream old new fault
+  WritesUntil stream old new (drains.Taker fault) = BreaksLine stream old
+
+  -- the listing of the stream is written
+  abbrev pub WritesDump : S → W → W → Result (Unit {0}) DrainFault → Type 0
+  WritesDump stream old new result = MatchResult result (λ done. WritesWhole stream old new) (WritesUntil stream old new)

@@ -1,0 +1,10 @@
+pub mod Faults
+pub mod Streams
+pub mod Takers
+pub mod Draining
+pub mod Lines
+pub mod Listings
+pub mod Gathered
+pub mod Rooms
+pub mod Sources
+pub mod ReadListings

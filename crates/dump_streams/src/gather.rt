@@ -1,0 +1,159 @@
+//! A sink that gathers bytes.
+
+ghost use Rattle.std.specs.Prelude.{◌≡◌, ◌+◌, ◌≤◌, ◌<◌, [], false, IsTrue, IfOk, IfErr, OnOk, length};
+ghost use Rattle.store_base.specs.Counts.{raised};
+ghost use Rattle.script_lines.specs.SinkState.{IsPut, IsObservable};
+ghost use Rattle.dump_streams.specs.Gathered.{gathered_state, CallsSink, IsFlushed, IsFrontOf};
+
+use script_lines::{Sink, SinkFault};
+use std::alloc::Global;
+use std::marker::Model;
+use std::snapshot::Snapshot;
+use store_base::NoMemory;
+
+/// So many bytes are gathered.
+const ROOM: usize = 65_536;
+
+/// Gathers bytes, up to 65,536, and puts them into a sink by one call. All of its room is taken as it is made. What is
+/// still held when the bytes end has to be put by `flush`.
+///
+/// Its count of faults is its own, and starts at 0. After a fault each further call is one, and no more is put into the
+/// sink: how many of the bytes that were held came there is not known.
+#[derive(Drop)]
+pub struct GatheredSink<W: Sink> {
+    sink: W,
+    /// The bytes that are to be put; after a fault those of which a part may have been put.
+    held: Vec<u8>,
+    is_broken: bool,
+    faults: u64,
+    /// The sink before the bytes held.
+    before: Snapshot<W>,
+}
+
+impl<W: Sink> Model for GatheredSink<W> {
+    ghost use Rattle.std.specs.Prelude.{◌≤◌, vec_len, vec_capacity};
+    ghost use Rattle.dump_streams.specs.Gathered.{Gathered, StandsAt, gather_room};
+
+    ghost Value = { Gathered W };
+
+    ghost view = { λ g. record { sink = g.sink; held = g.held.items; is_broken = g.is_broken; faults = g.faults; before = g.before.value } };
+
+    ghost invariant = { λ g. (vec_len g.held ≤ gather_room) × (gather_room ≤ vec_capacity g.held) × StandsAt W.state g.sink g.held.items g.is_broken g.before.value };
+}
+
+impl<W: Sink> GatheredSink<W> {
+    /// A sink that gathers bytes for this one.
+    /// `NoMemory`: the sink is given back.
+    pub fn new(alloc: Global, sink: W) -> Result<Self, (NoMemory, W)>
+        ensures ok { IfOk result (λ gathered. gathered ≡ record { sink = sink; held = []; is_broken = false; faults = 0; before = sink }) }
+        ensures err { IfErr result (λ refused. refused.1 ≡ sink) }
+    {
+        let Ok(held) = Vec::with_capacity(alloc, ROOM) else {
+            return Err((NoMemory, sink));
+        };
+        let before = Snapshot::of(&sink);
+        Ok(GatheredSink {
+            sink,
+            held,
+            is_broken: false,
+            faults: 0,
+            before,
+        })
+    }
+
+    /// Puts the bytes that are held into the sink, by one call, or by none where there are none. Then all bytes that
+    /// came are written there.
+    /// `SinkFault`: the put failed, or a call before. A prefix of the bytes held may have been written.
+    pub fn flush(&mut self) -> Result<(), SinkFault>
+        ensures put { IsPut (gathered_state W.state self.old) (gathered_state W.state self.new) [] result }
+        ensures calls { CallsSink W.state self.old self.new result }
+        ensures flushed { OnOk result (IsFlushed W.state self.new) }
+    {
+        if self.is_broken {
+            return Err(self.refuse());
+        }
+        if self.held.is_empty() {
+            return Ok(());
+        }
+        if self.sink.put(&self.held).is_err() {
+            self.is_broken = true;
+            return Err(self.refuse());
+        }
+        self.before = Snapshot::of(&self.sink);
+        self.held.clear();
+        Ok(())
+    }
+
+    /// Counts a call that fails, as each does after a fault.
+    fn refuse(&mut self) -> SinkFault
+        requires { IsTrue self.old.is_broken }
+        ensures { self.new ≡ record self.old { faults = raised self.old.faults } }
+    {
+        self.faults = self.faults.saturating_add(1);
+        SinkFault
+    }
+
+    /// Makes room for so many bytes, or leaves nothing held where there is none for them.
+    fn make_room(&mut self, count: usize) -> Result<(), SinkFault>
+        ensures put { IsPut (gathered_state W.state self.old) (gathered_state W.state self.new) [] result }
+        ensures calls { CallsSink W.state self.old self.new result }
+        ensures room { OnOk result (count ≤ ROOM → length self.new.held + count ≤ ROOM) }
+        ensures none { OnOk result (ROOM < count → self.new.held ≡ []) }
+    {
+        if self.is_broken || count > ROOM - self.held.len() {
+            return self.flush();
+        }
+        Ok(())
+    }
+
+    /// Puts bytes into the sink, past the room.
+    fn put_through(&mut self, bytes: &[u8]) -> Result<(), SinkFault>
+        requires going { self.old.is_broken ≡ false }
+        requires none { self.old.held ≡ [] }
+        ensures put { IsPut (gathered_state W.state self.old) (gathered_state W.state self.new) bytes.now result }
+        ensures calls { CallsSink W.state self.old self.new result }
+    {
+        let put = self.sink.put(bytes);
+        self.before = Snapshot::of(&self.sink);
+        if put.is_err() {
+            self.is_broken = true;
+            return Err(self.refuse());
+        }
+        Ok(())
+    }
+
+    /// The sink. It lacks the bytes that are still held, and after a fault others of them.
+    pub fn into_sink(self) -> W
+        ensures sink { result ≡ self.sink }
+        ensures front { IsObservable (W.state result) → IsFrontOf (W.state result).written (gathered_state W.state self).written }
+    {
+        let GatheredSink {
+            sink,
+            held: _,
+            is_broken: _,
+            faults: _,
+            before: _,
+        } = self;
+        sink
+    }
+}
+
+impl<W: Sink> Sink for GatheredSink<W> {
+    ghost state = { gathered_state W.state };
+
+    /// Holds the piece, behind those that are held or were put.
+    /// `SinkFault`: a put into the sink failed, now or before.
+    fn put(&mut self, bytes: &[u8]) -> Result<(), SinkFault>
+        ensures put { IsPut (gathered_state W.state self.old) (gathered_state W.state self.new) bytes.now result }
+        ensures calls { CallsSink W.state self.old self.new result }
+    {
+        self.make_room(bytes.len())?;
+        if bytes.len() > ROOM {
+            return self.put_through(bytes);
+        }
+        let Ok(()) = self.held.extend_from_slice(bytes) else {
+            unreachable!()
+        };
+        Ok(())
+    }
+}

@@ -1,0 +1,30 @@
+//! Dumps, command after command: where they come from, and what takes them.
+//!
+//! A stream gives the commands of a dump one after another, and no more than one is kept. What does something with each of
+//! them is a taker. `drain` leads a stream into a taker, to the stream's end.
+#![tactic(auto)]
+
+mod draining;
+mod fault;
+mod gather;
+mod lines;
+mod listing;
+mod reading;
+mod room;
+mod source;
+mod stream;
+mod taker;
+#[cfg(test)]
+mod tests;
+mod writing;
+
+pub use draining::{DrainFault, drain};
+pub use fault::StreamFault;
+pub use gather::GatheredSink;
+pub use lines::{LineTaker, NoTaker};
+pub use listing::ListingStream;
+pub use reading::drain_listing;
+pub use source::ListingSource;
+pub use stream::DumpStream;
+pub use taker::{Taker, TakerFault};
+pub use writing::write_dump;

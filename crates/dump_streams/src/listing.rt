@@ -1,0 +1,125 @@
+//! A stream of the commands of a listing.
+
+ghost use Rattle.std.specs.Prelude.{◌≡◌, ◌≤◌, IfOk, IfErr, length};
+ghost use Rattle.store_model.specs.Trees.{Tree, empty_tree};
+ghost use Rattle.script_lines.specs.Parsing.{command_of};
+ghost use Rattle.script_lines.specs.LineState.{LineState, left};
+ghost use Rattle.dump_streams.specs.Streams.{IsNext};
+ghost use Rattle.dump_streams.specs.Listings.{CameOf, IsListed, TakesText, EndsBy};
+
+use crate::fault::StreamFault;
+use crate::stream::DumpStream;
+use script_lines::{Command, Line, LineReader, MAX_LINE, Source, read_command, reveal};
+use std::alloc::Global;
+use std::snapshot::Snapshot;
+use store_base::{NoMemory, Version};
+use tree_listing::ListingReader;
+
+/// The commands of a listing, which a source has: a script that says the dump of a tree. Digits may be of either case,
+/// empty lines may stand between, and the last LF may be missing.
+#[derive(Drop)]
+pub struct ListingStream<R: Source> {
+    /// The lines that are still to come.
+    lines: LineReader<R>,
+    /// Which command may be the next.
+    reader: ListingReader,
+    /// How many lines came.
+    count: u64,
+    /// The source before any byte was taken.
+    first: Snapshot<R>,
+}
+
+impl<R: Source> ListingStream<R> {
+    /// The stream of the listing that this source has, of at most 1,073,741,824 bytes.
+    /// `NoMemory`: the source is given back, and nothing was taken from it.
+    pub fn new(alloc: Global, source: R) -> Result<Self, (NoMemory, R)>
+        ensures came { IfOk result (λ stream. CameOf R.state stream empty_tree) }
+        ensures first { IfOk result (λ stream. stream.first.value ≡ source) }
+        ensures err { IfErr result (λ refused. refused.1 ≡ source) }
+    {
+        let first = Snapshot::of(&source);
+        let lines = LineReader::new(alloc, source)?;
+        Ok(ListingStream {
+            lines,
+            reader: ListingReader::new(Version::Two),
+            count: 0,
+            first,
+        })
+    }
+
+    /// How many lines came that are not empty, the one that was refused among them.
+    pub fn line(&self) -> u64
+        ensures { result ≡ self.now.count }
+    {
+        self.count
+    }
+
+    /// The source.
+    pub fn into_source(self) -> R
+        ensures { result ≡ self.lines.source }
+    {
+        let ListingStream {
+            lines,
+            reader: _,
+            count: _,
+            first: _,
+        } = self;
+        lines.into_source()
+    }
+
+    /// The next command, as `next` of the stream.
+    /// `NoDump`: the line is no command, or no dump goes on with it. What the source has is no listing, and `line` tells
+    /// the line. `Unreadable`: a take failed now or before. `TooLong`: the source has more bytes than a script may have.
+    fn next_command(&mut self, into: &mut Command) -> Result<bool, StreamFault>
+        ensures next { IsNext (CameOf R.state self.old) (CameOf R.state self.new) (IsListed R.state self.new) (EndsBy R.state self.new) (command_of into.new) result }
+        ensures same { self.new.first ≡ self.old.first }
+    {
+        if !self.lines.is_live() {
+            return Err(StreamFault::Unreadable);
+        }
+        match self.lines.next_line()? {
+            Line::Text => {
+                self.count = self.count.saturating_add(1);
+                if take_text(self.lines.text(), &mut self.reader, into) {
+                    return Ok(true);
+                }
+                Err(StreamFault::NoDump)
+            }
+            Line::Long => {
+                self.count = self.count.saturating_add(1);
+                Err(StreamFault::NoDump)
+            }
+            Line::End => Ok(false),
+        }
+    }
+}
+
+/// Takes the command that a text spells, behind those that were taken: whether some tree's dump begins with them all. It
+/// is put in the place of another one.
+fn take_text(text: &[u8], reader: &mut ListingReader, command: &mut Command) -> bool
+    requires { length text.now ≤ MAX_LINE }
+    ensures { TakesText reader.old reader.new text.now (command_of command.new) result }
+{
+    if read_command(text, command).is_err() {
+        return false;
+    }
+    reveal(command);
+    reader.add(command)
+}
+
+impl<R: Source> DumpStream for ListingStream<R> {
+    ghost came = { CameOf R.state };
+
+    ghost whole = { IsListed R.state };
+
+    ghost keeps = { λ start now. now.first ≡ start.first };
+
+    ghost fails = { EndsBy R.state };
+
+    /// A listing is never refused.
+    /// `NoDump`: the line is no command, or no dump goes on with it. What the source has is no listing, and `line` tells
+    /// the line. `Unreadable`: a take failed now or before. `TooLong`: the source has more bytes than a script may have.
+    fn next(&mut self, into: &mut Command) -> Result<bool, StreamFault> {
+        self.next_command(into)
+    }
+}

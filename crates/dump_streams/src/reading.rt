@@ -1,0 +1,25 @@
+//! A listing is led into a taker.
+
+ghost use Rattle.std.specs.Prelude.{◌≡◌};
+ghost use Rattle.dump_streams.specs.Listings.{CameOf, IsListed, EndsBy};
+ghost use Rattle.dump_streams.specs.Draining.{Drains};
+ghost use Rattle.dump_streams.specs.ReadListings.{TakesListing};
+
+use crate::draining::{DrainFault, drain};
+use crate::listing::ListingStream;
+use crate::taker::Taker;
+use script_lines::Source;
+
+/// Takes all commands of a listing from which none came: where the source has a listing, just the commands of its dump
+/// are taken, or the source or the taker fails.
+/// `Stream`: `NoDump`, so the source has no listing, `Unreadable` or `TooLong`. `Taker`: a command was not taken.
+pub fn drain_listing<R: Source, T: Taker>(
+    stream: &mut ListingStream<R>,
+    taker: &mut T,
+) -> Result<(), DrainFault>
+    ensures listing { TakesListing R.state T.took stream.old taker.old taker.new result }
+    ensures drains { Drains (CameOf R.state) (IsListed R.state) (EndsBy R.state) T.took stream.old stream.new taker.old taker.new result }
+    ensures same { stream.new.first ≡ stream.old.first }
+{
+    drain(stream, taker)
+}

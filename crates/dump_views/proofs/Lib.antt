@@ -1,0 +1,5 @@
+pub mod ContentLemmas
+pub mod GroupLemmas
+pub mod TextLemmas
+pub mod EntryLemmas
+pub mod TimeLemmas

@@ -1,0 +1,20 @@
+//! Views of a dump: the bytes of one file of it, and what stands in each of its folders.
+//!
+//! Both are takers: they take the commands of a dump one after another, wherever these come from.
+#![tactic(auto)]
+
+mod columns;
+mod content;
+mod entry;
+mod groups;
+pub mod laws;
+mod lister;
+mod same;
+#[cfg(test)]
+mod tests;
+mod times;
+
+pub use content::{ContentTaker, Standing};
+pub use entry::ListedEntry;
+pub use groups::{ListFault, write_listing};
+pub use lister::TreeLister;

@@ -1,0 +1,86 @@
+//! The text of a time.
+
+ghost use Rattle.std.specs.Prelude.{◌≡◌, ◌<◌, ◌≤◌, ◌+◌, ◌++◌, ℕ, List, length};
+ghost use Rattle.dump_views.specs.Texts.{clock_text, date_text, day_of, time_column, time_text, two_digits, year_text};
+
+use jiff_core::civil::Date;
+use script_lines::{MAX_TEXT, Text};
+
+/// The seconds of a day.
+const DAY: u64 = 86_400;
+
+/// The room of a time.
+const NO_TIME: &[u8; 19] = b"                   ";
+
+/// Adds the column of a time, if there is one, 20 bytes at most: spaces where no time is known, or one behind the year 9999.
+pub(crate) fn push_time(text: &mut Text, has_times: bool, seconds: Option<u64>)
+    requires { length text.old + 20 ≤ MAX_TEXT }
+    ensures value { text.new ≡ text.old ++ time_column has_times seconds }
+    ensures fits { length text.new ≤ length text.old + 20 }
+{
+    if !has_times {
+        return;
+    }
+    text.push(b" ");
+    match seconds {
+        Some(seconds) => push_moment(text, seconds),
+        None => text.push(NO_TIME),
+    }
+}
+
+/// Adds the text of a time, 19 bytes.
+fn push_moment(text: &mut Text, seconds: u64)
+    requires { length text.old + 19 ≤ MAX_TEXT }
+    ensures value { text.new ≡ text.old ++ time_text seconds }
+    ensures fits { length text.new ≡ length text.old + 19 }
+{
+    match Date::from_unix_epoch_day((seconds / DAY) as i64) {
+        Ok(date) => {
+            push_date(text, date);
+            text.push(b" ");
+            push_clock(text, (seconds % DAY) as u32);
+        }
+        Err(_) => text.push(NO_TIME),
+    }
+}
+
+/// Adds a date, 10 bytes.
+fn push_date(text: &mut Text, date: Date)
+    requires { length text.old + 10 ≤ MAX_TEXT }
+    ensures { text.new ≡ text.old ++ date_text (day_of date) }
+{
+    push_year(text, date.year.unsigned_abs());
+    text.push(b"-");
+    text.push(&two_digits(u16::from(date.month)));
+    text.push(b"-");
+    text.push(&two_digits(u16::from(date.day)));
+}
+
+/// Adds the last four digits of a year.
+fn push_year(text: &mut Text, year: u16)
+    requires { length text.old + 4 ≤ MAX_TEXT }
+    ensures { text.new ≡ text.old ++ year_text year }
+{
+    text.push(&two_digits(year / 100));
+    text.push(&two_digits(year));
+}
+
+/// Adds a time of day, 8 bytes.
+fn push_clock(text: &mut Text, seconds: u32)
+    requires day { seconds < DAY }
+    requires room { length text.old + 8 ≤ MAX_TEXT }
+    ensures { text.new ≡ text.old ++ clock_text seconds }
+{
+    text.push(&two_digits((seconds / 3600) as u16));
+    text.push(b":");
+    text.push(&two_digits((seconds / 60 % 60) as u16));
+    text.push(b":");
+    text.push(&two_digits((seconds % 60) as u16));
+}
+
+/// The last two digits of a number.
+fn two_digits(number: u16) -> [u8; 2]
+    ensures { result ≡ two_digits number }
+{
+    [b'0' + (number / 10 % 10) as u8, b'0' + (number % 10) as u8]
+}

@@ -1,0 +1,388 @@
+//! A folder of the host that is made of a dump.
+
+ghost use Rattle.std.specs.Prelude.{⊤};
+
+use crate::messages::Messages;
+use crate::places::Places;
+use crate::wanted::Wanted;
+use crate::writing::{Writing, set_time};
+use dump_streams::{Taker, TakerFault};
+use path_keys::Path;
+use script_lines::{Command, Sink};
+use std::fs::{self, File};
+use std::io::{self, Error, ErrorKind};
+use thiserror::Error as ErrorText;
+
+/// The most seconds since 1970 that the system can set.
+const MAX_SECONDS: u64 = i64::MAX as u64;
+
+/// Why there is no folder to make a dump in. A message says so.
+#[derive(Clone, Copy, Debug, PartialEq, Eq, ErrorText)]
+pub enum NoFolder {
+    /// Something stands there that is no empty folder, as a link to one.
+    #[error("no empty folder")]
+    NotEmpty,
+    /// It cannot be made or read.
+    #[error("the folder cannot be made")]
+    NotMade,
+}
+
+/// What was made.
+#[derive(Clone, Copy, Debug)]
+struct Made {
+    path: Path,
+    is_folder: bool,
+    /// The seconds since 1970 that a folder gets in the end.
+    seconds: Option<u64>,
+}
+
+/// Makes a folder of the commands of a dump: each file and folder in it is made where nothing stands, no link is
+/// followed, and the umask says who may read them. What fails is said.
+#[derive(Drop)]
+pub struct StdBuilder<W: Sink> {
+    rt: HostRuntime,
+    wanted: Wanted,
+    /// Whether an entry that has no path on the host is left out.
+    skips: bool,
+    places: Places<W>,
+    /// Whether the folder itself was made.
+    is_new: bool,
+    /// What was made in it, in this order.
+    made: Vec<Made>,
+    /// The file to which bytes are written.
+    writing: Option<Writing>,
+    /// How many attributes were left out.
+    attributes: u64,
+}
+
+impl<W: Sink + Drop> StdBuilder<W> {
+    /// Begins with the folder at a path of the host: it is made, or it is there, empty and no link. With `skips` what
+    /// has no path on the host is left out. Messages go to the sink.
+    pub fn new(
+        rt: HostRuntime,
+        folder: String,
+        wanted: Wanted,
+        skips: bool,
+        sink: W,
+    ) -> Result<Self, NoFolder> {
+        let mut messages = Messages::new(sink);
+        match begin(&rt, folder.as_str()) {
+            Ok(is_new) => Ok(StdBuilder {
+                rt,
+                wanted,
+                skips,
+                places: Places::new(rt.alloc(), folder, messages),
+                is_new,
+                made: Vec::new(rt.alloc()),
+                writing: None,
+                attributes: 0,
+            }),
+            Err(error) => {
+                let why = no_folder(&error);
+                say_no_folder(&mut messages, folder.as_str(), why, &error);
+                Err(why)
+            }
+        }
+    }
+
+    /// How many entries were left out.
+    pub fn left_out(&self) -> u64 {
+        self.places.left_out()
+    }
+
+    /// How many attributes were left out.
+    pub fn attributes_left_out(&self) -> u64 {
+        self.attributes
+    }
+
+    /// The sink of the messages.
+    pub fn into_sink(self) -> W {
+        let StdBuilder {
+            rt: _,
+            wanted: _,
+            skips: _,
+            places,
+            is_new: _,
+            made: _,
+            writing: _,
+            attributes: _,
+        } = self;
+        places.into_messages().into_sink()
+    }
+
+    /// Writes out what is still to be written, and sets the times of folders, those of the deepest first.
+    /// After an error the rest is not done.
+    pub fn finish(&mut self) -> Result<(), TakerFault> {
+        self.close()?;
+        for at in (0..self.made.len()).rev() {
+            let Some(made) = self.made.get(at).copied() else {
+                continue;
+            };
+            if let Some(seconds) = made.seconds {
+                self.set_folder_time(&made.path, seconds)?;
+            }
+        }
+        Ok(())
+    }
+
+    /// Takes away all that was made, the folder itself where it was made here, and says so. What stays is named.
+    pub fn take_away(&mut self) {
+        self.writing = None;
+        for at in (0..self.made.len()).rev() {
+            if let Some(made) = self.made.get(at).copied() {
+                self.take_one_away(&made);
+            }
+        }
+        self.made.clear();
+        if self.is_new {
+            let _ = fs::remove_dir(&self.rt, self.places.folder());
+        }
+        self.places.say("what was made is taken away");
+    }
+
+    /// Takes away what was made at a path.
+    fn take_one_away(&mut self, made: &Made) {
+        let Ok(Some(text)) = self.places.place(&made.path) else {
+            return;
+        };
+        let taken = if made.is_folder {
+            fs::remove_dir(&self.rt, text.as_str())
+        } else {
+            fs::remove_file(&self.rt, text.as_str())
+        };
+        if let Err(error) = taken {
+            self.failed(&made.path, "it cannot be taken away", &error);
+        }
+    }
+
+    /// Says what failed.
+    fn failed(&mut self, path: &Path, words: &str, error: &Error) -> TakerFault {
+        if error.kind() == ErrorKind::OutOfMemory {
+            return TakerFault::NoMemory;
+        }
+        self.places.messages().say_why(path, words, error);
+        TakerFault::Failed
+    }
+
+    /// Where an entry is made; nothing where it is left out.
+    fn place(&mut self, path: &Path) -> Result<Option<String>, TakerFault> {
+        match self.places.place(path)? {
+            None if !self.skips => Err(TakerFault::Failed),
+            place => Ok(place),
+        }
+    }
+
+    /// Notes what is about to be made.
+    fn note(&mut self, path: &Path, is_folder: bool) -> Result<(), TakerFault> {
+        let made = Made {
+            path: *path,
+            is_folder,
+            seconds: None,
+        };
+        self.made.push(made).map_err(|_| TakerFault::NoMemory)
+    }
+
+    /// Ends the file to which bytes were written.
+    fn close(&mut self) -> Result<(), TakerFault> {
+        let Some(writing) = self.writing.take() else {
+            return Ok(());
+        };
+        let path = *writing.path();
+        match writing.finish() {
+            Ok(()) => Ok(()),
+            Err(error) => Err(self.failed(&path, "it cannot be written", &error)),
+        }
+    }
+
+    /// Makes a folder.
+    fn make(&mut self, path: &Path) -> Result<(), TakerFault> {
+        self.close()?;
+        let Some(text) = self.place(path)? else {
+            return Ok(());
+        };
+        self.note(path, true)?;
+        match fs::create_dir(&self.rt, text.as_str()) {
+            Ok(()) => Ok(()),
+            Err(error) => Err(self.not_made(path, &error)),
+        }
+    }
+
+    /// What was noted was not made.
+    fn not_made(&mut self, path: &Path, error: &Error) -> TakerFault {
+        let _ = self.made.pop();
+        self.failed(path, "it cannot be made", error)
+    }
+
+    /// Whether bytes are written to the file at this path.
+    fn is_writing(&self, path: &Path) -> bool {
+        match &self.writing {
+            Some(writing) => writing.path() == path,
+            None => false,
+        }
+    }
+
+    /// Makes a file, to which bytes are written; `false` where it is left out.
+    fn begin_file(&mut self, path: &Path) -> Result<bool, TakerFault> {
+        self.close()?;
+        let Some(text) = self.place(path)? else {
+            return Ok(false);
+        };
+        self.note(path, false)?;
+        match File::create_new(&self.rt, text.as_str()) {
+            Ok(file) => self.begin_writing(path, file),
+            Err(error) => Err(self.not_made(path, &error)),
+        }
+    }
+
+    /// Begins to write to a file that was made.
+    fn begin_writing(&mut self, path: &Path, file: File) -> Result<bool, TakerFault> {
+        match Writing::new(self.rt.alloc(), path, file) {
+            Ok(writing) => {
+                self.writing = Some(writing);
+                Ok(true)
+            }
+            Err(error) => Err(self.failed(path, "it cannot be written", &error)),
+        }
+    }
+
+    /// Writes bytes to a file, which is made where it is a new one.
+    fn write(&mut self, path: &Path, at: u32, bytes: &[u8]) -> Result<(), TakerFault> {
+        if !self.is_writing(path) && !self.begin_file(path)? {
+            return Ok(());
+        }
+        let Some(writing) = &mut self.writing else {
+            return Ok(());
+        };
+        match writing.write(at, bytes) {
+            Ok(()) => Ok(()),
+            Err(error) => Err(self.failed(path, "it cannot be written", &error)),
+        }
+    }
+
+    /// Does what an attribute asks for, or counts it.
+    fn set(&mut self, path: &Path, name: &[u8], bytes: &[u8]) -> Result<(), TakerFault> {
+        if self.places.is_out(path) {
+            return Ok(());
+        }
+        if self.wanted.mode && name == b"mode".as_slice() && bytes == b"x".as_slice() {
+            return self.let_execute(path);
+        }
+        if self.wanted.mtime
+            && name == b"mtime".as_slice()
+            && let Some(seconds) = seconds_in(bytes)
+        {
+            self.note_seconds(path, seconds);
+            return Ok(());
+        }
+        self.count_attribute();
+        Ok(())
+    }
+
+    /// Counts an attribute that is left out.
+    fn count_attribute(&mut self) {
+        self.attributes = self.attributes.saturating_add(1);
+    }
+
+    /// Lets a file be executed. A folder's attribute that asks for that is left out.
+    fn let_execute(&mut self, path: &Path) -> Result<(), TakerFault> {
+        let answer = match &self.writing {
+            Some(writing) if writing.path() == path => writing.let_execute(),
+            _ => {
+                self.count_attribute();
+                return Ok(());
+            }
+        };
+        match answer {
+            Ok(()) => Ok(()),
+            Err(error) => Err(self.failed(path, "its mode cannot be set", &error)),
+        }
+    }
+
+    /// Notes the time that what was made last gets.
+    fn note_seconds(&mut self, path: &Path, seconds: u64) {
+        if let Some(writing) = &mut self.writing {
+            writing.set_seconds(seconds);
+        } else if let Some(made) = self.made.last_mut() {
+            made.seconds = Some(seconds);
+        }
+    }
+
+    /// Sets the time of a folder.
+    fn set_folder_time(&mut self, path: &Path, seconds: u64) -> Result<(), TakerFault> {
+        let Some(text) = self.place(path)? else {
+            return Ok(());
+        };
+        match set_time_at(&self.rt, text.as_str(), seconds) {
+            Ok(()) => Ok(()),
+            Err(error) => Err(self.failed(path, "its time cannot be set", &error)),
+        }
+    }
+}
+
+impl<W: Sink + Drop> Taker for StdBuilder<W> {
+    ghost took = { λ first now commands. ⊤ };
+
+    fn take(&mut self, command: &Command) -> Result<(), TakerFault> {
+        match command {
+            Command::Make(path) => self.make(path),
+            Command::Write(path, at, bytes) => self.write(path, *at, bytes.as_slice()),
+            Command::Set(path, name, bytes) => self.set(path, name.as_bytes(), bytes.as_slice()),
+            _ => Err(TakerFault::Failed),
+        }
+    }
+}
+
+/// Makes a folder, or finds it empty; whether it was made.
+fn begin(rt: &HostRuntime, folder: &str) -> io::Result<bool> {
+    match fs::create_dir(rt, folder) {
+        Ok(()) => Ok(true),
+        Err(error) if error.kind() == ErrorKind::AlreadyExists => {
+            if is_empty_folder(rt, folder)? {
+                Ok(false)
+            } else {
+                Err(error)
+            }
+        }
+        Err(error) => Err(error),
+    }
+}
+
+/// Whether an empty folder stands at a path. A link is none, also where `/` stands behind it.
+fn is_empty_folder(rt: &HostRuntime, path: &str) -> io::Result<bool> {
+    let bare = path.trim_end_matches('/');
+    if !bare.is_empty() && !fs::symlink_metadata(rt, bare)?.is_dir() {
+        return Ok(false);
+    }
+    Ok(fs::read_dir(rt, path)?.next().is_none())
+}
+
+/// Why there is no folder.
+fn no_folder(error: &Error) -> NoFolder {
+    match error.kind() {
+        ErrorKind::AlreadyExists => NoFolder::NotEmpty,
+        _ => NoFolder::NotMade,
+    }
+}
+
+/// Says why there is no folder.
+fn say_no_folder<W: Sink>(messages: &mut Messages<W>, folder: &str, why: NoFolder, error: &Error) {
+    match why {
+        NoFolder::NotEmpty => messages.say_of_host(folder, "it is there, and no empty folder"),
+        NoFolder::NotMade => messages.say_of_host_why(folder, "it cannot be made", error),
+    }
+}
+
+/// Sets the time of the last change of a folder.
+fn set_time_at(rt: &HostRuntime, text: &str, seconds: u64) -> io::Result<()> {
+    set_time(&File::open(rt, text)?, seconds)
+}
+
+/// The seconds that decimal digits say.
+pub(crate) fn seconds_in(digits: &[u8]) -> Option<u64> {
+    if !digits.iter().all(|digit| digit.is_ascii_digit()) {
+        return None;
+    }
+    let text = str::from_utf8(digits).ok()?;
+    let seconds = text.parse::<u64>().ok()?;
+    (seconds <= MAX_SECONDS).then_some(seconds)
+}

@@ -1,0 +1,62 @@
+//! Why something of a folder is not packed.
+
+use std::fs::FileType;
+use std::os::unix::fs::FileTypeExt;
+
+/// Why something of a folder is not packed.
+#[derive(Clone, Copy, Debug, PartialEq, Eq)]
+pub enum LeftOut {
+    /// It is a symbolic link.
+    Link,
+    /// It is a pipe with a name.
+    Pipe,
+    /// It is a socket.
+    Socket,
+    /// It is a device, or something that the system knows besides.
+    Device,
+    /// It is a file of more than 16,777,216 bytes.
+    TooLarge,
+    /// Its path in the image would have more than 120 bytes.
+    TooLong,
+    /// Its name is no UTF-8.
+    NotUtf8,
+    /// It was changed before 1970, and times are packed.
+    TooOld,
+    /// Its path and the name of an attribute that is packed have more than 118 bytes.
+    NoRoom,
+    /// It cannot be read.
+    Unreadable,
+}
+
+impl LeftOut {
+    /// What is said of it.
+    pub fn words(self) -> &'static str {
+        match self {
+            LeftOut::Link => "a link is not packed",
+            LeftOut::Pipe => "a pipe is not packed",
+            LeftOut::Socket => "a socket is not packed",
+            LeftOut::Device => "a device is not packed",
+            LeftOut::TooLarge => "a file of more than 16777216 bytes is not packed",
+            LeftOut::TooLong => "a path of more than 120 bytes is not packed",
+            LeftOut::NotUtf8 => "a name in it that is not UTF-8 is not packed",
+            LeftOut::TooOld => "a time before 1970 is not packed",
+            LeftOut::NoRoom => {
+                "its attribute has no room: the path and the attribute's name have more than 118 bytes"
+            }
+            LeftOut::Unreadable => "it cannot be read",
+        }
+    }
+
+    /// Why that which is neither a folder nor a plain file is left out.
+    pub fn of_kind(kind: FileType) -> LeftOut {
+        if kind.is_symlink() {
+            LeftOut::Link
+        } else if kind.is_fifo() {
+            LeftOut::Pipe
+        } else if kind.is_socket() {
+            LeftOut::Socket
+        } else {
+            LeftOut::Device
+        }
+    }
+}

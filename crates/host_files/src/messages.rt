@@ -1,0 +1,175 @@
+//! Messages, one line each.
+
+ghost use Rattle.std.specs.Prelude.{◌≡◌, ◌≤◌, ◌+◌, ◌++◌, length};
+ghost use Rattle.store_model.specs.Paths.{path_text};
+ghost use Rattle.script_lines.specs.CommandLines.{names_text};
+
+use arrayvec::ArrayVec;
+use host_names::escape;
+use path_keys::Path;
+use script_lines::Sink;
+use std::io::{Error, ErrorKind};
+
+/// How many bytes of a name are spelled at once: each takes at most three of the 119 that a spelling may have.
+const SPELLED: usize = 39;
+
+/// Writes messages, one line each: the name of the program, a path and what is said of it. A message that cannot be
+/// written is lost.
+#[derive(Drop)]
+pub struct Messages<W: Sink> {
+    sink: W,
+}
+
+impl<W: Sink> Messages<W> {
+    /// Messages that go to this sink.
+    pub fn new(sink: W) -> Self {
+        Messages { sink }
+    }
+
+    /// Says something of a path of the image.
+    pub fn say(&mut self, path: &Path, words: &str) {
+        self.begin();
+        let _ = self.sink.put(text_of(path).as_slice());
+        self.end(words);
+    }
+
+    /// Says something of a path of the image, and what the system answered.
+    pub fn say_why(&mut self, path: &Path, words: &str, error: &Error) {
+        self.begin();
+        let _ = self.sink.put(text_of(path).as_slice());
+        self.end_why(words, error);
+    }
+
+    /// Says something of a name in a folder of the image that has no path there.
+    pub fn say_of_name(&mut self, folder: &Path, name: &str, words: &str) {
+        self.begin();
+        let _ = self.sink.put(names_of(folder).as_slice());
+        self.put("/");
+        self.put_spelled(name.as_bytes());
+        self.end(words);
+    }
+
+    /// Says something of a path of the host.
+    pub fn say_of_host(&mut self, path: &str, words: &str) {
+        self.begin();
+        self.put_host(path);
+        self.end(words);
+    }
+
+    /// Says something of a path of the host, and what the system answered.
+    pub fn say_of_host_why(&mut self, path: &str, words: &str, error: &Error) {
+        self.begin();
+        self.put_host(path);
+        self.end_why(words, error);
+    }
+
+    /// The sink.
+    pub fn into_sink(self) -> W {
+        let Messages { sink } = self;
+        sink
+    }
+
+    /// Puts some text.
+    fn put(&mut self, text: &str) {
+        let _ = self.sink.put(text.as_bytes());
+    }
+
+    /// Begins a line.
+    fn begin(&mut self) {
+        self.put("hstore-tree: ");
+    }
+
+    /// Ends a line.
+    fn end(&mut self, words: &str) {
+        self.put(": ");
+        self.put(words);
+        self.put("\n");
+    }
+
+    /// Ends a line with what the system answered.
+    fn end_why(&mut self, words: &str, error: &Error) {
+        self.put(": ");
+        self.put(words);
+        self.end(cause(error));
+    }
+
+    /// Puts a path of the host: between the `/` each name is spelled.
+    fn put_host(&mut self, path: &str) {
+        for (at, part) in path.as_bytes().split(|byte| *byte == b'/').enumerate() {
+            if at > 0 {
+                self.put("/");
+            }
+            self.put_spelled(part);
+        }
+    }
+
+    /// Puts the spelling of a name of any length.
+    fn put_spelled(&mut self, name: &[u8]) {
+        for piece in name.chunks(SPELLED) {
+            if let Some(text) = escape(piece) {
+                let _ = self.sink.put(text.as_slice());
+            }
+        }
+    }
+}
+
+/// The text of a path.
+#[tactic(auto, unfolding(store_model::specs::Paths::path_text))]
+fn text_of(path: &Path) -> ArrayVec<u8, { Path::MAX_LEN }>
+    ensures { result.items ≡ path_text path.now }
+{
+    if path.is_root() {
+        let mut text = ArrayVec::new();
+        text.push(b'/');
+        return text;
+    }
+    names_of(path)
+}
+
+/// `/` and the name for each name of a path. That this fits is what a path keeps.
+fn names_of(path: &Path) -> ArrayVec<u8, { Path::MAX_LEN }>
+    ensures { result.items ≡ names_text path.now }
+{
+    let _ = path.is_root();
+    let mut text = ArrayVec::new();
+    push_names(&mut text, path);
+    text
+}
+
+/// Adds `/` and the name for each name of a path.
+fn push_names(into: &mut ArrayVec<u8, { Path::MAX_LEN }>, path: &Path)
+    requires { length into.old.items + length (names_text path.now) ≤ Path.MAX_LEN }
+    ensures { into.new.items ≡ into.old.items ++ names_text path.now }
+{
+    if let Some(parent) = path.parent() {
+        push_names(into, &parent);
+        push_bytes(into, b"/");
+        push_bytes(into, path.name());
+    }
+}
+
+/// Adds bytes.
+fn push_bytes(into: &mut ArrayVec<u8, { Path::MAX_LEN }>, bytes: &[u8])
+    requires { length into.old.items + length bytes.now ≤ Path.MAX_LEN }
+    ensures { into.new.items ≡ into.old.items ++ bytes.now }
+{
+    let Ok(()) = into.try_extend_from_slice(bytes) else {
+        unreachable!()
+    };
+}
+
+/// What the system answered, in words.
+fn cause(error: &Error) -> &'static str {
+    match error.kind() {
+        ErrorKind::NotFound => "it is not there",
+        ErrorKind::PermissionDenied => "it is not permitted",
+        ErrorKind::AlreadyExists => "something stands there",
+        ErrorKind::ReadOnlyFilesystem => "nothing can be written there",
+        ErrorKind::StorageFull | ErrorKind::QuotaExceeded => "there is no room left",
+        ErrorKind::OutOfMemory => "memory ran out",
+        ErrorKind::InvalidInput => "it is no plain file",
+        ErrorKind::NotADirectory => "it is no folder, or stands in none",
+        ErrorKind::InvalidData => "the listing goes on with other bytes",
+        _ => "the system refused it",
+    }
+}

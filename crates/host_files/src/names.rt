@@ -1,0 +1,58 @@
+//! Whether all entries of a listing can be made on the host.
+
+ghost use Rattle.std.specs.Prelude.{⊤};
+
+use crate::messages::Messages;
+use crate::places::Places;
+use dump_streams::{Taker, TakerFault};
+use path_keys::Path;
+use script_lines::{Command, Sink};
+use std::alloc::Global;
+
+/// Looks at the paths of a listing, and makes nothing: each that is none on the host is named, as by the builder.
+#[derive(Drop)]
+pub struct NameTaker<W: Sink> {
+    places: Places<W>,
+    last: Option<Path>,
+}
+
+impl<W: Sink + Drop> NameTaker<W> {
+    /// For a listing that is to be made in the folder at a path of the host. Messages go to the sink.
+    pub fn new(alloc: Global, folder: String, sink: W) -> Self {
+        NameTaker {
+            places: Places::new(alloc, folder, Messages::new(sink)),
+            last: None,
+        }
+    }
+
+    /// How many entries have no path on the host.
+    pub fn left_out(&self) -> u64 {
+        self.places.left_out()
+    }
+
+    /// The sink of the messages.
+    pub fn into_sink(self) -> W {
+        let NameTaker { places, last: _ } = self;
+        places.into_messages().into_sink()
+    }
+
+    /// Looks at a path, once for all pieces of a file.
+    fn look(&mut self, path: &Path) -> Result<(), TakerFault> {
+        if self.last != Some(*path) {
+            self.last = Some(*path);
+            self.places.place(path)?;
+        }
+        Ok(())
+    }
+}
+
+impl<W: Sink + Drop> Taker for NameTaker<W> {
+    ghost took = { λ first now commands. ⊤ };
+
+    fn take(&mut self, command: &Command) -> Result<(), TakerFault> {
+        match command {
+            Command::Make(path) | Command::Write(path, _, _) => self.look(path),
+            _ => Ok(()),
+        }
+    }
+}

@@ -1,0 +1,112 @@
+//! Which entries of a listing can be made on the host, and where.
+
+ghost use Rattle.std.specs.Prelude.{◌≡◌, IfOk, IfSome};
+ghost use Rattle.std.specs.String.{string_bytes};
+ghost use Rattle.host_names.specs.HostPaths.{IsHostPath};
+
+use crate::messages::Messages;
+use dump_streams::TakerFault;
+use host_names::{HostPathFault, host_text};
+use path_keys::Path;
+use script_lines::Sink;
+use std::alloc::Global;
+
+/// Where the entries of a listing are made. One whose path is none on the host is left out, and all below it: the first
+/// of them is named, and each is counted.
+#[derive(Drop)]
+pub struct Places<W: Sink> {
+    alloc: Global,
+    /// The path of the folder on the host.
+    folder: String,
+    messages: Messages<W>,
+    /// The last entry that was left out.
+    last_out: Option<Path>,
+    /// The last entry that was named.
+    last_named: Option<Path>,
+    left_out: u64,
+}
+
+impl<W: Sink + Drop> Places<W> {
+    /// The places in the folder at a path of the host. Messages go to the sink.
+    pub fn new(alloc: Global, folder: String, messages: Messages<W>) -> Self {
+        Places {
+            alloc,
+            folder,
+            messages,
+            last_out: None,
+            last_named: None,
+            left_out: 0,
+        }
+    }
+
+    /// The path of the folder.
+    pub fn folder(&self) -> &str {
+        self.folder.as_str()
+    }
+
+    /// The messages.
+    pub fn messages(&mut self) -> &mut Messages<W> {
+        &mut self.messages
+    }
+
+    /// Says something of the folder.
+    pub fn say(&mut self, words: &str) {
+        self.messages.say_of_host(self.folder.as_str(), words);
+    }
+
+    /// The messages.
+    pub fn into_messages(self) -> Messages<W> {
+        let Places {
+            alloc: _,
+            folder: _,
+            messages,
+            last_out: _,
+            last_named: _,
+            left_out: _,
+        } = self;
+        messages
+    }
+
+    /// How many entries have no place.
+    pub fn left_out(&self) -> u64 {
+        self.left_out
+    }
+
+    /// Whether this is the entry that was left out last.
+    pub fn is_out(&self, path: &Path) -> bool {
+        self.last_out == Some(*path)
+    }
+
+    /// The path on the host of an entry, below the folder; nothing where it is left out.
+    pub fn place(&mut self, path: &Path) -> Result<Option<String>, TakerFault>
+        ensures below { IfOk result (λ place. IfSome place (λ text. IsHostPath (string_bytes self.old.folder) path.now (string_bytes text))) }
+        ensures same { self.new.folder ≡ self.old.folder }
+    {
+        if self.is_out(path) {
+            return Ok(None);
+        }
+        let words = match host_text(self.alloc, self.folder.as_str(), path) {
+            Ok(text) => return Ok(Some(text)),
+            Err(HostPathFault::NoMemory) => return Err(TakerFault::NoMemory),
+            Err(HostPathFault::NoSpelling) => "it spells no name of the host",
+            Err(HostPathFault::NotUtf8) => "its name is not UTF-8",
+        };
+        self.leave_out(path, words);
+        Ok(None)
+    }
+
+    /// Counts an entry that is left out, and names it where none above it was.
+    fn leave_out(&mut self, path: &Path, words: &str)
+        ensures { self.new.folder ≡ self.old.folder }
+    {
+        self.left_out = self.left_out.saturating_add(1);
+        self.last_out = Some(*path);
+        if let Some(named) = &self.last_named
+            && path.is_inside(named)
+        {
+            return;
+        }
+        self.last_named = Some(*path);
+        self.messages.say(path, words);
+    }
+}

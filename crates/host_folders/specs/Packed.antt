@@ -1,0 +1,124 @@
+-- The tree that a folder's answers give, and how much of its dump came.
+use Rattle.std.specs.Prelude.{◌≡◌, ℕ, ◌<◌, ◌≤◌, Bool, false, List, [], ◌∷◌, ◌++◌, map, take, vec_len, Option, Some, None, ⊤}
+use Rattle.std.specs.List.{slice_get, Contains}
+use Rattle.store_model.specs.declared.version.Version.TheVariants.{Two}
+use Rattle.store_model.specs.Parameters.{Parameters}
+use Rattle.store_model.specs.Paths.{Path}
+use Rattle.store_model.specs.Trees.{Tree, IsTree}
+use Rattle.store_model.specs.Commands.{Command}
+use Rattle.store_model.specs.Commands.Command.{Make, Write, SetAttribute}
+use Rattle.tree_pairs.specs.declared.kind.Kind.{Kind}
+use Rattle.tree_pairs.specs.declared.kind.Kind.TheVariants as kinds
+use Rattle.tree_listing.specs.Reading.{HasRead, BreaksOff}
+use Rattle.dump_streams.specs.declared.fault.StreamFault.{StreamFault}
+use Rattle.dump_streams.specs.declared.fault.StreamFault.TheVariants as faults
+use Rattle.host_folders.specs.FolderState.{FolderState, IsObservable, whole_files}
+use Rattle.host_folders.specs.FoundEntries.{entries_of, file_paths, found_attributes}
+use Rattle.host_folders.specs.declared.found.Found.{Found}
+use Rattle.host_folders.specs.declared.stream.FolderStream.{FolderStream}
+use Rattle.host_folders.specs.declared.stream.Place.{Place}
+use Rattle.host_folders.specs.declared.stream.Place.TheVariants as places
+
+-- The tree has just the entries that were found, in their order, and these are its files with their bytes.
+pub record HasFiles (found : List Found) (files : List (Path × List ℕ)) (t : Tree) : Type 0 where
+  pub paths : map (λ file. file.0) files ≡ file_paths found
+  pub tree : t ≡ entries_of found (map (λ file. file.1) files)
+
+-- these files were opened one after another since an earlier moment, and nothing else was asked of the folder
+pub record ReadsFiles (old new : FolderState) (answers : List (Path × List ℕ × Bool)) : Type 0 where
+  pub listed : new.listed ≡ old.listed
+  pub read : new.read ≡ old.read ++ answers
+
+-- What came was the dump of this tree, and it is whole. Each of its files was opened once, in their order, and its bytes are all
+-- that came of it up to its end.
+pub record IsPacked {F : Type 0} (state_of : F → FolderState) (stream : FolderStream F) (t : Tree) : Type 0 where
+  pub is_tree : IsTree t
+  pub files : List (Path × List ℕ)
+  pub entries : HasFiles stream.found.items files t
+  pub told : IsObservable (state_of stream.first.value) → ReadsFiles (state_of stream.first.value) (state_of stream.folder) (whole_files files)
+
+-- ---- why a stream ends before its dump does
+
+abbrev pub IsFile : Kind → Type 0
+IsFile kind = (len : ℕ) × (kind ≡ kinds.File len)
+
+-- the commands that the entry of what was found asks for
+abbrev pub AsksFor : Found → Command → Type 0
+AsksFor found (Make path) = (path ≡ found.path) × (found.kind ≡ kinds.Directory)
+AsksFor found (Write path at bytes) = (path ≡ found.path) × IsFile found.kind
+AsksFor found (SetAttribute path name bytes) = (path ≡ found.path) × Contains (found_attributes found) (name, bytes)
+AsksFor found _ = ⊥
+
+-- the entry at which a stream is
+abbrev pub found_at : Place → ℕ → List Found → Option Found
+found_at places.Start at found = slice_get found at
+found_at (places.Piece last offset) at found = Some last
+found_at (places.Mode last) at found = Some last
+found_at (places.Mtime last) at found = Some last
+
+-- the entry at which the stream is asks for a command with which no dump goes on
+pub record AsksTooMuch {F : Type 0} (stream : FolderStream F) (t : Tree) : Type 0 where
+  pub found : Found
+  pub here : found_at stream.place stream.at stream.found.items ≡ Some found
+  pub command : Command
+  pub asks : AsksFor found command
+  pub breaks_off : (p : Parameters) → p.version ≡ Two → BreaksOff t command p
+
+-- Why the stream ends after the commands of the dump of a tree. Of what fails in the folder no more is told.
+abbrev pub EndsBy : {F : Type 0} → FolderStream F → Tree → StreamFault → Type 0
+EndsBy stream t faults.NoDump = AsksTooMuch stream t
+EndsBy stream t faults.Unreadable = ⊤
+EndsBy stream t faults.NoMemory = ⊤
+EndsBy stream t faults.TooLong = ⊥
+
+-- the second came of the first by calls of `next`: it is of the same folder, in which the same was found
+pub record IsOfSame {F : Type 0} (start now : FolderStream F) : Type 0 where
+  pub first : now.first ≡ start.first
+  pub found : now.found ≡ start.found
+
+-- ---- how far a stream is
+
+-- what was found, before its attributes came
+abbrev pub bare_found : Found → Found
+bare_found found = record { path = found.path; kind = found.kind; is_executable = false; seconds = None }
+
+-- and before its time came
+abbrev pub timeless_found : Found → Found
+timeless_found found = record { path = found.path; kind = found.kind; is_executable = found.is_executable; seconds = None }
+
+-- of the last entry that was begun this came; the others before it came whole
+abbrev pub CameLast : List Found → Found → Found → List Found → Type 0
+CameLast begun last so_far came = (before : List Found) × (begun ≡ before ++ last ∷ []) × (came ≡ before ++ so_far ∷ [])
+
+-- of the entries that were begun these came, the last of them as far as its place tells
+abbrev pub AreCome : Place → List Found → List Found → Type 0
+AreCome places.Start begun came = came ≡ begun
+AreCome (places.Piece found at) begun came = CameLast begun found (bare_found found) came × (0 < at) × IsFile found.kind
+AreCome (places.Mode found) begun came = CameLast begun found (bare_found found) came
+AreCome (places.Mtime found) begun came = CameLast begun found (timeless_found found) came
+
+-- so the folder answered of these files: each was read to its end, but for one that still is read
+abbrev pub AreAnswers : Place → List (Path × List ℕ) → List (Path × List ℕ × Bool) → Type 0
+AreAnswers (places.Piece found at) files answers =
+    (before : List (Path × List ℕ)) × (path : Path) × (bytes : List ℕ) × (is_ended : Bool) × (files ≡ before ++ (path, bytes) ∷ []) × (answers ≡ whole_files before ++ (path, bytes, is_ended) ∷ [])
+AreAnswers places.Start files answers = answers ≡ whole_files files
+AreAnswers (places.Mode found) files answers = answers ≡ whole_files files
+AreAnswers (places.Mtime found) files answers = answers ≡ whole_files files
+
+-- what the folder told since an earlier moment of files with these bytes
+pub record TellsFiles (old new : FolderState) (place : Place) (files : List (Path × List ℕ)) : Type 0 where
+  pub answers : List (Path × List ℕ × Bool)
+  pub reads : ReadsFiles old new answers
+  pub are : AreAnswers place files answers
+
+-- What came so far is the dump of this tree, which has the entries that came.
+pub record CameOf {F : Type 0} (state_of : F → FolderState) (stream : FolderStream F) (t : Tree) : Type 0 where
+  pub read : (p : Parameters) → p.version ≡ Two → HasRead stream.reader t p
+  pub version : stream.reader.version ≡ Two
+  pub observable : (state_of stream.folder).is_observable ≡ (state_of stream.first.value).is_observable
+  pub within : stream.at ≤ vec_len stream.found
+  pub came : List Found
+  pub come : AreCome stream.place (take stream.at stream.found.items) came
+  pub files : List (Path × List ℕ)
+  pub entries : HasFiles came files t
+  pub told : IsObservable (state_of stream.first.value) → TellsFiles (state_of stream.first.value) (state_of stream.folder) stream.place files

@@ -1,0 +1,42 @@
+-- What the steps of a stream do.
+use Rattle.std.specs.Prelude.{◌≡◌, ℕ, ◌+◌, ◌^◌, ◌-◌, List, length, min, nat_lt, if◌then◌else◌, Result, IfOk, OnOk, Option, Some, None}
+use Rattle.store_model.specs.Paths.{Path}
+use Rattle.store_model.specs.Trees.{Tree}
+use Rattle.store_model.specs.Commands.{Command}
+use Rattle.store_model.specs.Commands.Command.{Write}
+use Rattle.store_model.specs.Steps.{next_tree}
+use Rattle.tree_listing.specs.Dumps.{dump_piece}
+use Rattle.dump_streams.specs.Streams.{Extends}
+use Rattle.host_folders.specs.FolderState.{FolderState, IsObservable, ReadsFile}
+use Rattle.host_folders.specs.Packed.{found_at}
+use Rattle.host_folders.specs.declared.found.Found.{Found}
+use Rattle.host_folders.specs.declared.stream.Place.{Place}
+use Rattle.host_folders.specs.declared.stream.Place.TheVariants as places
+
+-- a command came, and the dump goes on with it
+pub record Gives {E : Type 0} (old new : Tree → Type 0) (c : Command) (result : Result (Unit {0}) E) : Type 0 where
+  pub came : (t : Tree) → old t → OnOk result (new (next_tree t c))
+  pub extends : (t : Tree) → old t → OnOk result (Extends t c)
+
+-- the command writes the next piece of the file that was opened last, of so many bytes: a full one, or what is left of the file
+pub record IsPiece (old new : FolderState) (path : Path) (at : ℕ) (c : Command) (count : ℕ) : Type 0 where
+  pub bytes : List ℕ
+  pub command_is : c ≡ Write path at bytes
+  pub count_is : count ≡ length bytes
+  pub told : IsObservable old → ReadsFile old new bytes (nat_lt count dump_piece)
+
+pub record ReadsPiece {E : Type 0} (old new : FolderState) (path : Path) (at : ℕ) (c : Command) (result : Result ℕ E) : Type 0 where
+  pub observable : new.is_observable ≡ old.is_observable
+  pub piece : IfOk result (IsPiece old new path at c)
+
+-- what comes behind the piece of a file that begins at an offset: a full one leaves it open whether there is another
+abbrev pub place_behind : Found → ℕ → ℕ → Place
+place_behind found at count = if nat_lt count dump_piece then places.Mode found else places.Piece found (min (at + dump_piece) (2 ^ 32 - 1))
+
+-- the path of the entry at which a stream is
+abbrev pub path_of_found : Option Found → Option Path
+path_of_found None = None
+path_of_found (Some found) = Some found.path
+
+abbrev pub path_at : Place → ℕ → List Found → Option Path
+path_at place at found = path_of_found (found_at place at found)

@@ -1,0 +1,244 @@
+//! A folder in memory, whose calls fail where they are told to. It tells its answers.
+
+ghost use Rattle.std.specs.Prelude.{◌≡◌, ◌↔◌, ◌⊎◌, ◌+◌, ◌^◌, ◌<◌, ◌≤◌, ◌++◌, [], None, option_map, Contains, IfOk, IfErr, IsErr, drop, IsTrue, OnErr, OnOk, length, slice_index_or, min, max, true};
+ghost use Rattle.store_base.specs.Counts.{raised};
+ghost use Rattle.host_folders.specs.FolderState.{IsListed, IsOpened, IsFileRead};
+ghost use Rattle.host_folders.specs.FolderState as states;
+ghost use Rattle.host_folders.specs.declared.fault.FolderFault.TheVariants as faults;
+ghost use Rattle.host_folders.specs.Memory.{HasSameEntries, IsRefused, IsOpenAt, ReadsLeft, bytes_at, children_of, file_bytes, folder_state, is_child, is_file, is_file_at, left_of, told_of};
+
+use crate::fault::FolderFault;
+use crate::folder::Folder;
+use crate::found::Found;
+use path_keys::Path;
+use tree_pairs::Kind;
+
+/// What stands at a path of a folder in memory.
+#[derive(Drop)]
+pub struct MemEntry {
+    /// What is told of it. That the parents of its path stand there too is not asked.
+    pub found: Found,
+    /// The bytes that a file gives when it is read, as many as it was found to have or not; none for a folder.
+    pub bytes: Vec<u8>,
+}
+
+/// A folder that was listed, and what it told.
+#[derive(Drop)]
+struct Listing {
+    path: Path,
+    found: Vec<Found>,
+}
+
+/// A file that was opened.
+#[derive(Clone, Copy)]
+struct Reading {
+    path: Path,
+    /// Which of the entries it is.
+    entry: usize,
+    /// How many of its bytes came.
+    at: usize,
+    /// Whether its last answer was that no more come.
+    is_ended: bool,
+}
+
+/// A folder in memory. It tells its answers.
+#[derive(Drop)]
+pub struct MemFolder {
+    entries: Vec<MemEntry>,
+    piece: usize,
+    failing: Vec<u64>,
+    calls: u64,
+    listed: Vec<Listing>,
+    /// The files that were read before the one that is open.
+    closed: Vec<Reading>,
+    /// The file that is open.
+    file: Option<Reading>,
+}
+
+impl MemFolder {
+    /// A folder that has these entries. It gives at most `piece` bytes in a read, though at least 1 where one is left.
+    /// Of its calls, which count from 0, those fail whose numbers stand in `failing`; and else only where memory runs
+    /// out, or what is opened is no file, or no file is open.
+    pub fn new(entries: Vec<MemEntry>, piece: usize, failing: Vec<u64>) -> Self
+        ensures { folder_state result ≡ record { is_observable = true; listed = []; read = [] } }
+    {
+        let alloc = *entries.allocator();
+        MemFolder {
+            entries,
+            piece,
+            failing,
+            calls: 0,
+            listed: Vec::new(alloc),
+            closed: Vec::new(alloc),
+            file: None,
+        }
+    }
+
+    /// Counts a call, and fails where it is to fail.
+    fn count_call(&mut self) -> Result<(), FolderFault>
+        ensures fails { IsErr result ↔ Contains self.old.failing.items self.old.calls }
+        ensures fault { IfErr result (λ fault. fault ≡ faults.Unreadable) }
+        ensures counted { self.new ≡ record self.old { calls = raised self.old.calls } }
+    {
+        let fails = self.failing.contains(&self.calls);
+        self.calls = self.calls.saturating_add(1);
+        if fails {
+            return Err(FolderFault::Unreadable);
+        }
+        Ok(())
+    }
+
+    /// What stands right below a path.
+    fn below(&self, path: &Path) -> Result<Vec<Found>, FolderFault>
+        ensures found { IfOk result (λ found. found.items ≡ told_of self.now.entries.items path.now) }
+        ensures fault { IfErr result (λ fault. fault ≡ faults.NoMemory) }
+    {
+        let mut found = Vec::new(*self.entries.allocator());
+        for entry in &self.entries {
+            if is_right_below(&entry.found.path, path) && found.push(entry.found).is_err() {
+                return Err(FolderFault::NoMemory);
+            }
+        }
+        Ok(found)
+    }
+
+    /// The bytes of an entry behind the first ones.
+    fn left(&self, entry: usize, at: usize) -> &[u8]
+        ensures value { result.now ≡ drop at (bytes_at self.now.entries.items entry) }
+        ensures fits { at + length result.now < 2 ^ 64 }
+    {
+        match self.entries.get(entry) {
+            Some(entry) if at <= entry.bytes.len() => &entry.bytes[at..],
+            _ => &[],
+        }
+    }
+
+    /// Which of the entries is the first file at a path.
+    fn place_of(&self, path: &Path) -> Option<usize>
+        ensures { option_map (bytes_at self.now.entries.items) result ≡ file_bytes self.now.entries.items path.now }
+    {
+        for (place, entry) in self.entries.iter().enumerate() {
+            if is_file_at(entry, path) {
+                return Some(place);
+            }
+        }
+        None
+    }
+}
+
+impl Folder for MemFolder {
+    ghost state = { folder_state };
+
+    /// Tells the entries whose parent the path is, in their order.
+    fn list(&mut self, path: &Path, found: &mut Vec<Found>) -> Result<(), FolderFault>
+        ensures contract { IsListed (folder_state self.old) (folder_state self.new) path.now found.old.items found.new.items result }
+        ensures same { HasSameEntries self.old self.new }
+        ensures fails { Contains self.old.failing.items self.old.calls → IsErr result }
+        ensures fault { IfErr result (λ fault. fault ≡ faults.NoMemory ⊎ Contains self.old.failing.items self.old.calls) }
+        ensures told { OnOk result (found.new.items ≡ found.old.items ++ children_of self.old path.now) }
+    {
+        self.count_call()?;
+        let told = self.below(path)?;
+        if found.extend_from_slice(&told).is_err() {
+            return Err(FolderFault::NoMemory);
+        }
+        let listing = Listing {
+            path: *path,
+            found: told,
+        };
+        if self.listed.push(listing).is_err() {
+            return Err(FolderFault::NoMemory);
+        }
+        Ok(())
+    }
+
+    /// Opens the first entry that is a file at the path.
+    /// `Unreadable`: the call is to fail, or there is none. After an error the file that was open stays open.
+    fn open(&mut self, path: &Path) -> Result<(), FolderFault>
+        ensures contract { IsOpened (folder_state self.old) (folder_state self.new) path.now result }
+        ensures same { HasSameEntries self.old self.new }
+        ensures opened { OnOk result (IsOpenAt self.new path.now) }
+        ensures unchanged { OnErr result (left_of self.new ≡ left_of self.old) }
+        ensures fails { IsRefused self.old (file_bytes self.old.entries.items path.now ≡ None) → IsErr result }
+        ensures fault { IfErr result (λ fault. fault ≡ faults.NoMemory ⊎ IsRefused self.old (file_bytes self.old.entries.items path.now ≡ None)) }
+    {
+        self.count_call()?;
+        let Some(entry) = self.place_of(path) else {
+            return Err(FolderFault::Unreadable);
+        };
+        if let Some(file) = self.file
+            && self.closed.push(file).is_err()
+        {
+            return Err(FolderFault::NoMemory);
+        }
+        self.file = Some(Reading {
+            path: *path,
+            entry,
+            at: 0,
+            is_ended: false,
+        });
+        Ok(())
+    }
+
+    /// Reads as many bytes as the buffer has room for, as the file has left, and as a read gives at most.
+    /// `Unreadable`: the call is to fail, or no file is open. After it the next read gives the same bytes.
+    fn read(&mut self, into: &mut [u8]) -> Result<usize, FolderFault>
+        ensures contract { IsFileRead (folder_state self.old) (folder_state self.new) into.new result }
+        ensures same { HasSameEntries self.old self.new }
+        ensures left { IfOk result (ReadsLeft self.old self.new into.new) }
+        ensures unchanged { OnErr result (left_of self.new ≡ left_of self.old) }
+        ensures fails { IsRefused self.old (left_of self.old ≡ None) ↔ IsErr result }
+    {
+        self.count_call()?;
+        let Some(file) = self.file else {
+            return Err(FolderFault::Unreadable);
+        };
+        let Reading {
+            path,
+            entry,
+            at,
+            is_ended: _,
+        } = file;
+        let left = self.left(entry, at);
+        let count = into.len().min(self.piece.max(1)).min(left.len());
+        into[..count].copy_from_slice(&left[..count]);
+        self.file = Some(Reading {
+            path,
+            entry,
+            at: at + count,
+            is_ended: tells_end(count, into.len()),
+        });
+        Ok(count)
+    }
+}
+
+/// Whether an entry is a file at a path.
+fn is_file_at(entry: &MemEntry, path: &Path) -> bool
+    ensures { result ≡ is_file_at path.now entry.now }
+{
+    entry.found.path == *path && is_file(entry.found.kind)
+}
+
+/// Whether it is a file.
+fn is_file(kind: Kind) -> bool
+    ensures { result ≡ is_file kind }
+{
+    matches!(kind, Kind::File(_))
+}
+
+/// Whether a path lies right below the other.
+fn is_right_below(path: &Path, folder: &Path) -> bool
+    ensures { result ≡ is_child path.now folder.now }
+{
+    match path.parent() {
+        Some(parent) => parent == *folder,
+        None => false,
+    }
+}
+
+/// Whether so many bytes for a buffer of this length tell that no more come.
+fn tells_end(count: usize, room: usize) -> bool
+    ensures { result ≡ states.tells_end count room }
+{
+    count < 1 && room > 0
+}

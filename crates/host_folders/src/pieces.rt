@@ -1,0 +1,46 @@
+//! The pieces of a file.
+
+ghost use Rattle.std.specs.Prelude.{◌<◌, length};
+ghost use Rattle.script_lines.specs.Parsing.{command_of};
+ghost use Rattle.host_folders.specs.FolderState.{IsFilled};
+ghost use Rattle.host_folders.specs.Steps.{ReadsPiece};
+
+use crate::fault::FolderFault;
+use crate::folder::Folder;
+use path_keys::Path;
+use script_lines::Command;
+use store_base::Bytes;
+use tree_listing::DUMP_PIECE;
+
+/// Reads the next piece of the file that is open, and puts the command that writes it at this offset of this path into
+/// the place of another one. The answer is how many bytes the piece has: 2,048, or less at the end of the file.
+pub(crate) fn read_piece<F: Folder>(
+    folder: &mut F,
+    path: &Path,
+    at: u32,
+    into: &mut Command,
+) -> Result<usize, FolderFault>
+    ensures { ReadsPiece (F.state folder.old) (F.state folder.new) path.now at (command_of into.new) result }
+{
+    let mut piece = [0; DUMP_PIECE as usize];
+    let count = fill(folder, &mut piece)?;
+    *into = Command::Write(*path, at, Bytes::new(&piece[..count]));
+    Ok(count)
+}
+
+/// Fills a buffer from the file that is open, and answers how many bytes came: less than its length only at the end of
+/// the file.
+fn fill<F: Folder>(folder: &mut F, into: &mut [u8]) -> Result<usize, FolderFault>
+    requires { 0 < length into.old }
+    ensures { IsFilled (F.state folder.old) (F.state folder.new) into.new result }
+{
+    let mut count = 0;
+    while count < into.len() {
+        let more = folder.read(&mut into[count..])?;
+        if more == 0 {
+            return Ok(count);
+        }
+        count += more;
+    }
+    Ok(count)
+}

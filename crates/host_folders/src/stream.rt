@@ -1,0 +1,275 @@
+//! The commands of the dump of a folder.
+
+ghost use Rattle.std.specs.Prelude.{◌≡◌, ◌<◌, ◌+◌, ◌++◌, ◌∷◌, [], take, length, true, false, vec_len, OnOk, IfErr, IsTrue};
+ghost use Rattle.store_model.specs.Trees.{Tree, empty_tree};
+ghost use Rattle.store_model.specs.Paths.{is_attribute_name};
+ghost use Rattle.script_lines.specs.Parsing.{command_of};
+ghost use Rattle.tree_listing.specs.Reading.{AddsCommand};
+ghost use Rattle.dump_streams.specs.Streams.{IsNext};
+ghost use Rattle.host_folders.specs.Packed.{CameOf, IsFile, IsPacked, IsOfSame, EndsBy};
+ghost use Rattle.host_folders.specs.Steps.{path_at, Gives};
+ghost use Rattle.host_folders.specs.Steps as steps;
+
+use crate::folder::Folder;
+use crate::found::Found;
+use crate::pieces::read_piece;
+use dump_streams::{DumpStream, StreamFault};
+use path_keys::{AttrName, Path};
+use script_lines::{Command, Text, reveal};
+use std::snapshot::Snapshot;
+use store_base::{Bytes, Version};
+use tree_listing::{DUMP_PIECE, ListingReader};
+use tree_pairs::Kind;
+
+/// What comes next.
+#[derive(Clone, Copy, Debug)]
+enum Place {
+    /// What makes the next entry.
+    Start,
+    /// The piece of this file that begins at this offset.
+    Piece(Found, u32),
+    /// The attribute that says that this may be executed.
+    Mode(Found),
+    /// The attribute that says when this was changed.
+    Mtime(Found),
+}
+
+/// The commands of the dump of the tree that a folder's answers give: what was found in it, and what its files hold when
+/// they are read.
+#[derive(Drop)]
+pub struct FolderStream<F: Folder> {
+    folder: F,
+    found: Vec<Found>,
+    /// How many of what was found were begun.
+    at: usize,
+    place: Place,
+    /// Which command may be the next.
+    reader: ListingReader,
+    /// The folder before the first file was opened.
+    first: Snapshot<F>,
+}
+
+impl<F: Folder> FolderStream<F> {
+    /// The stream of a folder, in which this was found.
+    pub fn new(folder: F, found: Vec<Found>) -> Self
+        ensures came { CameOf F.state result empty_tree }
+        ensures first { result.first.value ≡ folder }
+        ensures found { result.found ≡ found }
+        ensures same { result.folder ≡ folder }
+    {
+        FolderStream {
+            first: Snapshot::of(&folder),
+            folder,
+            found,
+            at: 0,
+            place: Place::Start,
+            reader: ListingReader::new(Version::Two),
+        }
+    }
+
+    /// The path of the entry at which the stream is; nothing where all came. After a fault it is that of the entry at
+    /// which the fault came.
+    pub fn path(&self) -> Option<Path>
+        ensures { result ≡ path_at self.now.place self.now.at self.now.found.items }
+    {
+        match &self.place {
+            Place::Start => match self.found.get(self.at) {
+                Some(found) => Some(found.path),
+                None => None,
+            },
+            Place::Piece(found, _) | Place::Mode(found) | Place::Mtime(found) => Some(found.path),
+        }
+    }
+
+    /// How many entries came, the last of them maybe not whole.
+    pub fn passed(&self) -> usize
+        ensures { (t : Tree) → CameOf F.state self.now t → result ≡ length t }
+    {
+        self.at
+    }
+
+    /// How many entries come in all.
+    pub fn len(&self) -> usize
+        ensures { result ≡ vec_len self.now.found }
+    {
+        self.found.len()
+    }
+
+    /// The folder.
+    pub fn into_folder(self) -> F
+        ensures { result ≡ self.folder }
+    {
+        let FolderStream {
+            folder,
+            found: _,
+            at: _,
+            place: _,
+            reader: _,
+            first: _,
+        } = self;
+        folder
+    }
+
+    /// Begins the next entry, if there is one.
+    fn begin(&mut self, into: &mut Command) -> Result<bool, StreamFault>
+        requires { self.old.place ≡ Place.Start }
+        ensures next { IsNext (CameOf F.state self.old) (CameOf F.state self.new) (IsPacked F.state self.new) (EndsBy self.new) (command_of into.new) result }
+        ensures same { IsOfSame self.old self.new }
+    {
+        if self.at >= self.found.len() {
+            return Ok(false);
+        }
+        let found = self.found[self.at];
+        match found.kind {
+            Kind::Directory => self.begin_folder(&found, into)?,
+            Kind::File(_) => self.begin_file(&found, into)?,
+        }
+        Ok(true)
+    }
+
+    /// Makes a folder, the next entry.
+    fn begin_folder(&mut self, found: &Found, into: &mut Command) -> Result<(), StreamFault>
+        requires start { self.old.place ≡ Place.Start }
+        requires kind { found.now.kind ≡ Kind.Directory }
+        requires more { self.old.at < vec_len self.old.found }
+        requires here { take (self.old.at + 1) self.old.found.items ≡ take self.old.at self.old.found.items ++ found.now ∷ [] }
+        ensures gives { Gives (CameOf F.state self.old) (CameOf F.state self.new) (command_of into.new) result }
+        ensures failed { (t : Tree) → CameOf F.state self.old t → IfErr result (EndsBy self.new t) }
+        ensures same { IsOfSame self.old self.new }
+    {
+        *into = Command::Make(found.path);
+        self.add(into)?;
+        self.at += 1;
+        self.place = Place::Mode(*found);
+        Ok(())
+    }
+
+    /// Opens a file, the next entry, and writes its first piece.
+    fn begin_file(&mut self, found: &Found, into: &mut Command) -> Result<(), StreamFault>
+        requires start { self.old.place ≡ Place.Start }
+        requires kind { IsFile found.now.kind }
+        requires more { self.old.at < vec_len self.old.found }
+        requires here { take (self.old.at + 1) self.old.found.items ≡ take self.old.at self.old.found.items ++ found.now ∷ [] }
+        ensures gives { Gives (CameOf F.state self.old) (CameOf F.state self.new) (command_of into.new) result }
+        ensures failed { (t : Tree) → CameOf F.state self.old t → IfErr result (EndsBy self.new t) }
+        ensures same { IsOfSame self.old self.new }
+    {
+        self.folder.open(&found.path)?;
+        let count = read_piece(&mut self.folder, &found.path, 0, into)?;
+        self.add(into)?;
+        self.at += 1;
+        self.place = place_behind(found, 0, count);
+        Ok(())
+    }
+
+    /// Writes the piece of a file that begins at an offset, if one is there, and else what comes behind the file.
+    fn piece(&mut self, found: &Found, at: u32, into: &mut Command) -> Result<bool, StreamFault>
+        requires { self.old.place ≡ Place.Piece found.now at }
+        ensures next { IsNext (CameOf F.state self.old) (CameOf F.state self.new) (IsPacked F.state self.new) (EndsBy self.new) (command_of into.new) result }
+        ensures same { IsOfSame self.old self.new }
+    {
+        let count = read_piece(&mut self.folder, &found.path, at, into)?;
+        if count == 0 {
+            self.place = Place::Mode(*found);
+            return self.mode(found, into);
+        }
+        self.add(into)?;
+        self.place = place_behind(found, at, count);
+        Ok(true)
+    }
+
+    /// Gives the attribute that says that an entry may be executed, if it is to say so, and else what comes behind it.
+    fn mode(&mut self, found: &Found, into: &mut Command) -> Result<bool, StreamFault>
+        requires { self.old.place ≡ Place.Mode found.now }
+        ensures next { IsNext (CameOf F.state self.old) (CameOf F.state self.new) (IsPacked F.state self.new) (EndsBy self.new) (command_of into.new) result }
+        ensures same { IsOfSame self.old self.new }
+    {
+        self.place = Place::Mtime(*found);
+        if !found.is_executable {
+            return self.mtime(found, into);
+        }
+        *into = Command::Set(found.path, attribute_name(b"mode"), Bytes::new(b"x"));
+        self.add(into)?;
+        Ok(true)
+    }
+
+    /// Gives the attribute that says when an entry was changed, if it is to say so, and else what comes behind it.
+    fn mtime(&mut self, found: &Found, into: &mut Command) -> Result<bool, StreamFault>
+        requires { self.old.place ≡ Place.Mtime found.now }
+        ensures next { IsNext (CameOf F.state self.old) (CameOf F.state self.new) (IsPacked F.state self.new) (EndsBy self.new) (command_of into.new) result }
+        ensures same { IsOfSame self.old self.new }
+    {
+        let Some(seconds) = found.seconds else {
+            self.place = Place::Start;
+            return self.begin(into);
+        };
+        let mut digits = Text::new();
+        digits.push_long(seconds);
+        *into = Command::Set(
+            found.path,
+            attribute_name(b"mtime"),
+            Bytes::new(digits.as_slice()),
+        );
+        self.add(into)?;
+        self.place = Place::Start;
+        Ok(true)
+    }
+
+    /// Takes a command, if some dump goes on with it.
+    fn add(&mut self, command: &Command) -> Result<(), StreamFault>
+        ensures added { OnOk result (AddsCommand self.old.reader self.new.reader (command_of command.now) true) }
+        ensures refused { IfErr result (λ fault. AddsCommand self.old.reader self.new.reader (command_of command.now) false) }
+        ensures fault { IfErr result (λ fault. fault ≡ StreamFault.NoDump) }
+        ensures same { self.new ≡ record self.old { reader = self.new.reader } }
+    {
+        reveal(command);
+        if self.reader.add(command) {
+            Ok(())
+        } else {
+            Err(StreamFault::NoDump)
+        }
+    }
+}
+
+impl<F: Folder> DumpStream for FolderStream<F> {
+    ghost came = { CameOf F.state };
+
+    ghost whole = { IsPacked F.state };
+
+    ghost keeps = { IsOfSame };
+
+    ghost fails = { EndsBy };
+
+    /// `NoDump`: no dump goes on with what the entry at `path` asks for. `Unreadable`, `NoMemory`: so the folder answered.
+    fn next(&mut self, into: &mut Command) -> Result<bool, StreamFault> {
+        match self.place {
+            Place::Start => self.begin(into),
+            Place::Piece(found, at) => self.piece(&found, at, into),
+            Place::Mode(found) => self.mode(&found, into),
+            Place::Mtime(found) => self.mtime(&found, into),
+        }
+    }
+}
+
+/// What comes behind the piece of a file that begins at an offset and has so many bytes. No piece begins behind
+/// 16,777,216 bytes, so the offset is one of 32 bits.
+fn place_behind(found: &Found, at: u32, count: usize) -> Place
+    ensures { result ≡ steps.place_behind found.now at count }
+{
+    if count < DUMP_PIECE as usize {
+        Place::Mode(*found)
+    } else {
+        Place::Piece(*found, at.saturating_add(DUMP_PIECE))
+    }
+}
+
+/// A name of an attribute.
+fn attribute_name(text: &[u8]) -> AttrName
+    requires { IsTrue (is_attribute_name text.now) }
+    ensures value { result ≡ text.now }
+{
+    let Some(name) = AttrName::parse(text) else {
+        unreachable!()
+    };
+    name
+}

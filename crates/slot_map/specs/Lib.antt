@@ -1,0 +1,3 @@
+pub mod Contents
+pub mod MapCalls
+pub mod Pictures

@@ -1,0 +1,58 @@
+//! A folder of the host, as the commands of its dump.
+
+use crate::progress::Watched;
+use crate::trouble::Trouble;
+use crate::words::Taken;
+use dump_streams::StreamFault;
+use host_files::{Messages, StdFolder};
+use host_folders::{FolderFault, FolderStream, find_all};
+use script_lines::StdSink;
+use std::io::Stderr;
+
+/// The commands of a folder's dump.
+pub type FolderDump = Watched<FolderStream<StdFolder<StdSink<Stderr>>>>;
+
+/// A folder that was gone through.
+#[derive(Drop)]
+pub struct Packed {
+    /// The commands of its dump.
+    pub dump: FolderDump,
+    /// Whether something was left out.
+    pub lacks: bool,
+}
+
+/// Goes through a folder, and names what cannot be packed. Without `skips` that is a trouble.
+pub fn go_through(rt: HostRuntime, folder: &str, taken: Taken) -> Result<Packed, Trouble> {
+    let folder = String::from_str(rt.alloc(), folder)?;
+    let sink = StdSink::new(rt.stderr());
+    let mut folder = StdFolder::new(rt, folder, taken.wanted, taken.skips, sink);
+    let found = match find_all(rt.alloc(), &mut folder) {
+        Ok(found) => found,
+        Err(FolderFault::NoMemory) => return Err(Trouble::NoMemory),
+        Err(FolderFault::Unreadable) => return Err(Trouble::Said),
+        Err(FolderFault::TooMany) => return Err(Trouble::TooMany),
+    };
+    let left_out = folder.left_out();
+    if left_out > 0 && !taken.skips {
+        return Err(Trouble::CannotPack(left_out));
+    }
+    Ok(Packed {
+        dump: Watched::new(rt, FolderStream::new(folder, found)),
+        lacks: left_out > 0,
+    })
+}
+
+/// Why the commands of a folder's dump ended. What it cannot read it has named.
+pub fn trouble_of(rt: HostRuntime, dump: &FolderDump, fault: StreamFault) -> Trouble {
+    match fault {
+        StreamFault::NoMemory => Trouble::NoMemory,
+        StreamFault::Unreadable | StreamFault::TooLong => Trouble::Said,
+        StreamFault::NoDump => {
+            let mut messages = Messages::new(StdSink::new(rt.stderr()));
+            if let Some(path) = dump.stream.path() {
+                messages.say(&path, "it grew to more than 16777216 bytes");
+            }
+            Trouble::Said
+        }
+    }
+}

@@ -1,0 +1,83 @@
+//! Where a listing comes from: standard input, or a file.
+
+use crate::trouble::{Trouble, copy, of_listing};
+use dump_streams::{ListingStream, StreamFault};
+use host_files::second_look;
+use script_lines::StdSource;
+use std::fs::{self, File};
+use std::io;
+use std::io::{BufReader, Read, Stdin};
+
+/// The word that names standard input.
+pub const INPUT: &str = "-";
+
+/// What a listing is read from.
+#[derive(Drop)]
+pub enum Reader {
+    /// Standard input.
+    Input(Stdin),
+    /// What standard input has still to give, which it gives later.
+    Ahead(BufReader<File>),
+    /// A file.
+    File(File),
+}
+
+impl Read for Reader {
+    fn read(&mut self, into: &mut [u8]) -> io::Result<usize> {
+        match self {
+            Reader::Input(input) => input.read(into),
+            Reader::Ahead(reader) => reader.read(into),
+            Reader::File(file) => file.read(into),
+        }
+    }
+}
+
+/// The commands of a listing.
+pub type Listing = ListingStream<StdSource<Reader>>;
+
+/// What a listing is called in a message.
+fn called(name: &str) -> &str {
+    if name == INPUT {
+        "standard input"
+    } else {
+        name
+    }
+}
+
+/// The commands of the listing that a reader has.
+fn listing_of(rt: HostRuntime, reader: Reader) -> Result<Listing, Trouble> {
+    match ListingStream::new(rt.alloc(), StdSource::new(reader)) {
+        Ok(listing) => Ok(listing),
+        Err(_) => Err(Trouble::NoMemory),
+    }
+}
+
+/// The listing on standard input.
+pub fn of_input(rt: HostRuntime) -> Result<Listing, Trouble> {
+    listing_of(rt, Reader::Input(rt.stdin()))
+}
+
+/// The listing on standard input, where that gives it once more; else nothing.
+pub fn ahead_of_input(rt: HostRuntime) -> Result<Option<Listing>, Trouble> {
+    match second_look(&rt) {
+        Some(reader) => Ok(Some(listing_of(rt, Reader::Ahead(reader))?)),
+        None => Ok(None),
+    }
+}
+
+/// The listing in a file, or the one on standard input.
+pub fn of_file(rt: HostRuntime, name: &str) -> Result<Listing, Trouble> {
+    if name == INPUT {
+        return of_input(rt);
+    }
+    let is_folder = fs::metadata(&rt, name).is_ok_and(|found| found.is_dir());
+    match File::open(&rt, name) {
+        Ok(file) if !is_folder => listing_of(rt, Reader::File(file)),
+        _ => Err(Trouble::NotOpened(copy(rt, name)?)),
+    }
+}
+
+/// Why the commands of a listing ended.
+pub fn trouble_of(rt: HostRuntime, name: &str, listing: &Listing, fault: StreamFault) -> Trouble {
+    of_listing(rt, called(name), listing.line(), fault)
+}

@@ -1,0 +1,87 @@
+//! `unpack`: makes a folder of a listing.
+
+use crate::listing::{INPUT, Listing, ahead_of_input, of_input, trouble_of};
+use crate::progress::Watched;
+use crate::trouble::{Trouble, say};
+use crate::words::Taken;
+use dump_streams::{DrainFault, Taker, TakerFault, drain};
+use host_files::{NameTaker, StdBuilder};
+use script_lines::StdSink;
+use std::io::Stderr;
+
+/// What makes the folder.
+type Builder = StdBuilder<StdSink<Stderr>>;
+
+/// Makes a folder of the listing on standard input; whether all of it was made. Where standard input is a file, the
+/// listing is looked through before.
+pub fn unpack(rt: HostRuntime, folder: &str, taken: Taken) -> Result<bool, Trouble> {
+    let name = String::from_str(rt.alloc(), folder)?;
+    if let Some(listing) = ahead_of_input(rt)? {
+        look_through(rt, listing, name.clone()?, taken.skips)?;
+    }
+    let listing = of_input(rt)?;
+    let sink = StdSink::new(rt.stderr());
+    match StdBuilder::new(rt, name, taken.wanted, taken.skips, sink) {
+        Ok(mut builder) => make_all(rt, listing, &mut builder),
+        Err(_) => Err(Trouble::Said),
+    }
+}
+
+/// Looks whether a listing is whole, and whether all of it can be made.
+fn look_through(
+    rt: HostRuntime,
+    listing: Listing,
+    folder: String,
+    skips: bool,
+) -> Result<(), Trouble> {
+    let mut names = NameTaker::new(rt.alloc(), folder, StdSink::new(rt.stderr()));
+    lead(rt, listing, &mut names)?;
+    let left_out = names.left_out();
+    if left_out > 0 && !skips {
+        return Err(Trouble::CannotMake(left_out));
+    }
+    Ok(())
+}
+
+/// Makes what a listing says, or takes away what was made of it.
+fn make_all(rt: HostRuntime, listing: Listing, builder: &mut Builder) -> Result<bool, Trouble> {
+    if let Err(trouble) = make_and_finish(rt, listing, builder) {
+        builder.take_away();
+        return Err(trouble);
+    }
+    let attributes = builder.attributes_left_out();
+    if attributes > 0 {
+        say(rt, &format_args!("{attributes} attributes are left out"));
+    }
+    Ok(builder.left_out() == 0)
+}
+
+/// Makes what a listing says.
+fn make_and_finish(
+    rt: HostRuntime,
+    listing: Listing,
+    builder: &mut Builder,
+) -> Result<(), Trouble> {
+    lead(rt, listing, builder)?;
+    builder.finish().map_err(of_taker)
+}
+
+/// Leads a listing into a taker, which says itself what it cannot do.
+fn lead<T: Taker>(rt: HostRuntime, listing: Listing, taker: &mut T) -> Result<(), Trouble> {
+    let mut listing = Watched::new(rt, listing);
+    let drained = drain(&mut listing, taker);
+    listing.finish();
+    match drained {
+        Ok(()) => Ok(()),
+        Err(DrainFault::Taker(fault)) => Err(of_taker(fault)),
+        Err(DrainFault::Stream(fault)) => Err(trouble_of(rt, INPUT, &listing.stream, fault)),
+    }
+}
+
+/// Why a command was not taken.
+fn of_taker(fault: TakerFault) -> Trouble {
+    match fault {
+        TakerFault::NoMemory => Trouble::NoMemory,
+        TakerFault::Failed => Trouble::Said,
+    }
+}
